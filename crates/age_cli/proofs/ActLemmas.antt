@@ -1,27 +1,23 @@
 -- What a command did whose engine didn't run, from what its steps did.
-use Rattle.std.proofs.Common.{◌≡◌, ◌∙◌, ◌⊎◌, ◌++◌, ◌∷◌, [], ⊎_elim, ap, sym, subst, inl, inr, List, ℕ, Option, Some, None, Result, Ok, Err, refl, append_assoc, append-nil}
+use Rattle.std.proofs.Common.{◌≡◌, ◌∙◌, ◌⊎◌, ◌++◌, ◌∷◌, [], ap, sym, subst, inl, inr, List, ℕ, Option, Some, None, Result, append_assoc}
 use Rattle.std.specs.Prelude.{IsErr, IsErrAnd}
 use Rattle.clap.specs.Words.{Text}
 use Rattle.age_io.specs.declared.durability.Durability.{Durability}
-use Rattle.age_file.specs.Runs.{Ports}
-use Rattle.age_fileset.specs.FileSet.{Event, Closed, FilesView, Outcome, PutsOnly, CameSince, Does}
-use Rattle.age_fileset.proofs.OutcomeLemmas.{did_ended, did_events, grows_by, grows_then}
-use Rattle.age_cli_args.specs.Requests.{option_text}
+use Rattle.age_fault.specs.declared.fault.FileFault.TheVariants.{BadPosition}
+use Rattle.age_file.specs.{Ports}
+use Rattle.age_fileset.specs.{Event, Closed, FilesView, Outcome, CameSince}
+use Rattle.age_cli_args.specs.{option_text}
 use Rattle.age_cli_args.specs.declared.request.ClobberOption.{ClobberOption}
 use Rattle.age_cli_args.specs.declared.request.Request.{Request}
 use Rattle.age_cli_args.specs.declared.request.Request.TheVariants.{Inspect, Decrypt, Resume, Encrypt, Drill}
-use Rattle.age_command.specs.Endings.{EndsEarly}
-use Rattle.age_command.specs.Files.{HasReason}
-use Rattle.age_command.specs.Orders.{Begins, Follows, creating, making, replacing, NamesTwice, order_asked}
+use Rattle.age_command.specs.{EndsEarly, Follows, creating, making, replacing, NamesTwice, order_asked}
+use Rattle.age_command.specs.declared.ending.Ending.TheVariants.{Fault}
 use Rattle.age_command.specs.declared.ending.Ending.{Ending}
-use Rattle.age_command.specs.declared.ending.Ending.TheVariants.{Usage}
-use Rattle.age_command.specs.declared.ending.Usage.{Usage as Why}
-use Rattle.age_command.proofs.EventLemmas.{follows_by, longer, then_did, then_follows}
-use Rattle.age_command.proofs.ResultLemmas.{not_well, this_error, just_error}
-use Rattle.age_cli.specs.Acts.{Acts, EndsBefore, GivesNone, HasNotBegun, IsBlamed, IsUnusable, IsUsage, SparesOut, age_file_of}
-use Rattle.age_cli.specs.inner.Openings.{Judges, OpensFiles}
-use Rattle.age_cli.proofs.FileLemmas.{spared_then}
-use Rattle.age_cli.proofs.OpeningLemmas.{did_came, reason_as, taken_any, taken_as}
+use Rattle.age_command.proofs.{longer, then_did, then_follows, not_well, this_error, just_error}
+use Rattle.age_cli.specs.Acts.{Acts}
+use Rattle.age_cli.specs.{EndsBefore, HasNotBegun, IsBlamed, IsUnusable, IsUsage, age_file_of}
+use Rattle.age_cli.specs.inner.{EndsBy, FailsEarly}
+use Rattle.age_cli.proofs.OpeningLemmas.{ends_blame, ends_early, ends_reason}
 
 -- ---- The events of a command, in order.
 
@@ -55,13 +51,17 @@ then_closed xs ys clobber to d old mid new m n =
 
 -- ---- A command that ended before its engine ran.
 
+before_early : (Came : Outcome → Type 0) (asked : Request) (e : Ending) → EndsEarly e → EndsBefore Came asked e
+before_early Came (Resume r) e early = inl early
+before_early Came asked e early = early
+
 module _ (IsPorts : Ports → Type 0) (asked : Request) (before after : FilesView) (Unshown : Type 0)
     (Progress : Option (List ℕ) → Result (Unit {0}) Ending → Type 0) (r : Result (Unit {0}) Ending) where
   abbrev pub Acted : Type 0
   Acted = Acts IsPorts asked before after Unshown Progress r
 
   -- with this ending
-  pub acts_before : (e : Ending) → IsErr r × IsErrAnd r (λ x. x ≡ e) → HasNotBegun asked e before after
+  acts_before : (e : Ending) → IsErr r × IsErrAnd r (λ x. x ≡ e) → HasNotBegun asked e before after
       → (IsUsage e → Follows (order_asked asked).judged before.events after.events ⊎ IsUnusable (CameSince before after) (age_file_of asked) e)
       → (NamesTwice (order_asked asked).apart → (after.events ≡ before.events) × IsUsage e)
       → (IsUsage e → IsBlamed (CameSince before after) asked e) → Unshown → Acted
@@ -78,75 +78,31 @@ module _ (IsPorts : Ports → Type 0) (asked : Request) (before after : FilesVie
     shown = not_well r e is _;
   }
 
-  -- it ended where files are opened, once this was done
-  ends_opening : (done whole : List Event) (mid : FilesView) (e : Ending) → IsErr r × IsErrAnd r (λ x. x ≡ e) → (order_asked asked).done ≡ done ++ whole → Does done before mid
-      → EndsBefore (CameSince before after) asked e → HasReason (CameSince mid after) e → SparesOut mid.ended after.ended → PutsOnly [] mid after
-      → Follows whole mid.events after.events → (IsUsage e → IsUnusable (CameSince mid after) (age_file_of asked) e) → (NamesTwice (order_asked asked).apart → ⊥) → Unshown → Acted
-  ends_opening done whole mid e is done_is did early reason spared none follows fault apart silent =
-      let later : (o : Outcome) → CameSince mid after o → CameSince before after o = did_came done before mid after did in
-      let taken : IsUsage e → IsUnusable (CameSince before after) (age_file_of asked) e =
-      λ usage. taken_as (CameSince mid after) (CameSince before after) later (age_file_of asked) e (fault usage) in
+  -- a part of it failed
+  acts_failed : {order : List Event} {Bad : (Outcome → Type 0) → Type 0} {Blame : (Outcome → Type 0) → Ending → Type 0} (e : Ending) → IsErr r × IsErrAnd r (λ x. x ≡ e)
+      → (f : FailsEarly order (NamesTwice (order_asked asked).apart) (λ Came. EndsBy Came (Bad Came) (Blame Came)) before after e)
+      → Follows (order_asked asked).done before.events after.events → (e ≡ Fault BadPosition → Bad (CameSince before after) → EndsBefore (CameSince before after) asked e)
+      → (Blame (CameSince before after) e → (Follows (order_asked asked).judged before.events after.events ⊎ IsUnusable (CameSince before after) (age_file_of asked) e)
+      × IsBlamed (CameSince before after) asked e) → Unshown → Acted
+  acts_failed e is f order bad blame silent =
+      let blamed : IsUsage e → (Follows (order_asked asked).judged before.events after.events ⊎ IsUnusable (CameSince before after) (age_file_of asked) e)
+      × IsBlamed (CameSince before after) asked e = λ usage. blame (ends_blame e f.why usage) in
       acts_before e is (record {
-        early = early;
-        reason = reason_as (CameSince mid after) (CameSince before after) later e reason;
-        spared = spared_then before.ended mid.ended after.ended (did_ended done before mid did) spared;
-        none = grows_then [] [] before mid after (grows_by done before mid did) none;
-        order = subst (λ (o : List Event). Follows o before.events after.events) (sym done_is)
-            (then_follows before.events mid.events after.events done whole (did_events done before mid did) follows);
-      })
-      (λ usage. inr (taken usage)) (λ twice. absurd (apart twice)) (λ usage. inr (inr (taken usage))) silent
+        early = ends_early (EndsBefore (CameSince before after) asked e) e f.why (before_early (CameSince before after) asked e) bad;
+        reason = ends_reason e f.why;
+        spared = f.spared;
+        none = f.none;
+        order = order;
+      }) (λ usage. (blamed usage).0) f.apart (λ usage. (blamed usage).1) silent
 
-  module _ (early : (e : Ending) → EndsEarly e → EndsBefore (CameSince before after) asked e) where
-    -- it ended where it is judged
-    ends_judged : (e : Ending) → IsErr r × IsErrAnd r (λ x. x ≡ e) → EndsEarly e → HasReason (CameSince before after) e
-        → Begins (order_asked asked).judged before after → Follows (order_asked asked).done before.events after.events
-        → (NamesTwice (order_asked asked).apart → (after.events ≡ before.events) × IsUsage e) → (IsUsage e → IsBlamed (CameSince before after) asked e) → Unshown → Acted
-    ends_judged e is ends reason begins order apart blamed silent =
-        acts_before e is (record {
-          early = early e ends;
-          reason = reason;
-          spared = inl (did_ended begins.done before after begins.did);
-          none = grows_by begins.done before after begins.did;
-          order = order;
-        }) (λ usage. inl (follows_by (order_asked asked).judged before after begins)) apart blamed silent
+  -- where it is judged
+  pub acts_judged : (more : List Event) (e : Ending) → IsErr r × IsErrAnd r (λ x. x ≡ e) → (order_asked asked).done ≡ (order_asked asked).judged ++ more
+      → FailsEarly (order_asked asked).judged (NamesTwice (order_asked asked).apart) (λ Came. EndsBy Came ⊥ (IsBlamed Came asked)) before after e → Unshown → Acted
+  acts_judged more e is done_is f silent = acts_failed e is f (subst (λ (order : List Event). Follows order before.events after.events) (sym done_is)
+      (longer (order_asked asked).judged more before.events after.events f.order)) (λ is no. absurd no) (λ blame. (inl f.order, blame)) silent
 
-    module _ (more : List Event) (done_is : (order_asked asked).done ≡ (order_asked asked).judged ++ more) where
-      done_so : Begins (order_asked asked).judged before after → Follows (order_asked asked).done before.events after.events
-      done_so begins = subst (λ (order : List Event). Follows order before.events after.events) (sym done_is)
-          (longer (order_asked asked).judged more before.events after.events (follows_by (order_asked asked).judged before after begins))
-
-      -- the files by which it is judged can't be read, or it is refused for its names
-      pub acts_judged : {A : Type 0} (e : Ending) → IsErr r × IsErrAnd r (λ x. x ≡ e)
-          → Judges {A = A} (order_asked asked).judged before after (NamesTwice (order_asked asked).apart) (IsBlamed (CameSince before after) asked) (Err e)
-          → Unshown → Acted
-      acts_judged e is j silent = ends_judged e is j.early j.reason j.followed (done_so j.followed) j.apart
-          (λ usage. ⊎_elim (λ blamed. blamed) (λ taken. inr (inr (taken_any (CameSince before after) (age_file_of asked) e taken))) (j.blamed usage)) silent
-
-      -- or for what these hold
-      pub acts_refused : {A : Type 0} (x : A) (why : Why) → IsErr r × IsErrAnd r (λ y. y ≡ Usage why)
-          → Judges (order_asked asked).judged before after (NamesTwice (order_asked asked).apart) (IsBlamed (CameSince before after) asked) (Ok x)
-          → GivesNone (CameSince before after) asked (Usage why) → Unshown → Acted
-      acts_refused x why is j none silent = ends_judged (Usage why) is tt tt j.followed (done_so j.followed) (λ twice. absurd (j.apart twice).1) (λ usage. inr (inl none)) silent
-
-    -- it names nothing that opens its input
-    pub acts_unchosen : (why : Why) → IsErr r × IsErrAnd r (λ y. y ≡ Usage why) → Does [] before after → GivesNone (CameSince before after) asked (Usage why) → Unshown → Acted
-    acts_unchosen why is did none silent =
-        let begins : (order : List Event) → Begins order before after = λ order. record { done = []; rest = order; did = did; front = refl } in
-        ends_judged (Usage why) is tt tt (begins (order_asked asked).judged) (follows_by (order_asked asked).done before after (begins (order_asked asked).done))
-        (λ twice. (did_events [] before after did ∙ append-nil before.events, refl)) (λ usage. inr (inl none)) silent
-
-    -- its input or what it writes can't be opened
-    pub acts_unopened : {A : Type 0} (done order whole : List Event) (mid : FilesView) (IsNew : A → Type 0) (e : Ending) → IsErr r × IsErrAnd r (λ x. x ≡ e)
-        → (order_asked asked).done ≡ done ++ whole → Does done before mid → OpensFiles order whole (age_file_of asked) mid after IsNew (Err e)
-        → (NamesTwice (order_asked asked).apart → ⊥) → Unshown → Acted
-    acts_unopened done order whole mid IsNew e is done_is did opens apart silent =
-        ends_opening done whole mid e is done_is did (early e opens.early) opens.reason opens.spared opens.none opens.followed opens.fault apart silent
-
-  -- another file that it reads can't be opened, or doesn't hold what it has to
-  pub acts_unread : (done order more : List Event) (mid : FilesView) (e : Ending) → IsErr r × IsErrAnd r (λ x. x ≡ e)
-      → (order_asked asked).done ≡ done ++ (order ++ more) → Does done before mid → Begins order mid after → EndsBefore (CameSince before after) asked e
-      → HasReason (CameSince mid after) e → (IsUsage e → IsUnusable (CameSince mid after) None e)
-      → (NamesTwice (order_asked asked).apart → ⊥) → Unshown → Acted
-  acts_unread done order more mid e is done_is did begins early reason taken apart silent =
-      ends_opening done (order ++ more) mid e is done_is did early reason (inl (did_ended begins.done mid after begins.did)) (grows_by begins.done mid after begins.did)
-      (longer order more mid.events after.events (follows_by order mid after begins)) (λ usage. taken_any (CameSince mid after) (age_file_of asked) e (taken usage)) apart silent
+  -- or where files are opened
+  pub acts_unopened : {Bad : (Outcome → Type 0) → Type 0} (e : Ending) → IsErr r × IsErrAnd r (λ x. x ≡ e)
+      → FailsEarly (order_asked asked).done (NamesTwice (order_asked asked).apart) (λ Came. EndsBy Came (Bad Came) (IsUnusable Came (age_file_of asked))) before after e
+      → (e ≡ Fault BadPosition → Bad (CameSince before after) → EndsBefore (CameSince before after) asked e) → Unshown → Acted
+  acts_unopened e is f bad silent = acts_failed e is f f.order bad (λ used. (inr used, inr (inr used))) silent

@@ -1,49 +1,75 @@
--- What a command did whose engine ran.
-use Rattle.std.proofs.Common.{◌≡◌, ◌∙◌, ◌⊎◌, ◌++◌, ◌∷◌, [], ap, sym, subst, refl, inl, inr, true≢false, List, ℕ, Option, Some, None, Result, Ok, Err, OnOk, IfOk, IfErr}
-use Rattle.std.specs.Prelude.{IsOk}
+-- What a command did whose engine ran, and what progress shows.
+use Rattle.std.proofs.Common.{◌≡◌, ◌∙◌, ◌⊎◌, ◌++◌, ◌∷◌, [], ap, sym, subst, refl, inl, inr, true≢false, List, ℕ, Option, Some, None, Result, Ok, Err, OnOk}
+use Rattle.std.proofs.Common.{IfOk, IfErr, length}
+use Rattle.std.specs.Prelude.{IsOk, IfSome}
 use Rattle.std.proofs.lemmas.Result.{on_ok_weaker, IfErr-weaker}
-use Rattle.age_io.specs.Io.{Shown as ShownOne}
-use Rattle.age_io.specs.Supply.{Supply, IsAtEnd}
+use Rattle.age_io.specs.{Shown as ShownOne, IsAtEnd, Adds, Begins, Ends, Lending, CountsSince}
+use Rattle.age_io.specs.Supply.{Supply}
 use Rattle.age_fault.specs.declared.fault.FileFault.{FileFault}
-use Rattle.age_file.specs.Encrypts.{SecretView, Encrypts, EncryptFails}
-use Rattle.age_file.specs.Runs.{Ports}
+use Rattle.age_file.specs.{SecretView, EncryptFails, Ports}
 use Rattle.age_file.specs.declared.encryption.Written.{Written}
-use Rattle.age_fileset.specs.FileSet.{Event, Closed, FilesView, Outcome, Found, Absent, Gave, CameSince, Does, reading_of}
-use Rattle.age_fileset.proofs.OutcomeLemmas.{did_events, grows_by, then_came}
-use Rattle.age_command.proofs.EventLemmas.{followed}
+use Rattle.age_file.specs.Encrypts.{Encrypts}
+use Rattle.age_fileset.specs.{Event, Closed, FilesView, Outcome, Found, Absent, Gave, CameSince, Does, reading_of}
+use Rattle.age_fileset.proofs.{did_events, grows_by, then_came}
+use Rattle.age_command.proofs.{followed}
 use Rattle.age_cli_args.specs.declared.request.Encrypting.{Encrypting}
 use Rattle.age_cli_args.specs.declared.request.ProgressOption.{ProgressOption}
 use Rattle.age_cli_args.specs.declared.request.ProgressOption.TheVariants.{Shown, Silent}
 use Rattle.age_cli_args.specs.declared.request.ClobberOption.TheVariants.{Refused}
 use Rattle.age_cli_args.specs.declared.request.Request.{Request}
-use Rattle.age_command.specs.Orders.{Follows, creating, making, replacing, NamesTwice, order_asked}
+use Rattle.age_command.specs.{Follows, creating, making, replacing, NamesTwice, order_asked}
 use Rattle.age_command.specs.declared.ending.Ending.{Ending}
-use Rattle.age_cli.specs.Acts.{Acts, AreNew, CameFirst, Engine, Paths, OfEngine, HasEngineEnded, HasEngineStopped, durability_of, progress_of, input_of}
-use Rattle.age_cli.specs.Acts.{ShowsProgress, ShowsReadings, ShowsRun, encrypt_engine}
-use Rattle.age_cli.specs.inner.Endings.{Concludes, sealing_end}
-use Rattle.age_cli.specs.Commands.{WasRead}
-use Rattle.age_cli.specs.inner.Rereadings.{RunsEngine}
+use Rattle.age_cli.specs.Acts.{Acts}
+use Rattle.age_cli.specs.{AreNew, CameFirst, Engine, Paths, OfEngine, HasEngineEnded, HasEngineStopped, durability_of, progress_of, input_of, ShowsProgress}
+use Rattle.age_cli.specs.{ShowsReadings, ShowsRun, encrypt_engine, WasRead, Interruption}
+use Rattle.age_cli.specs.inner.{Concludes, sealing_end, RunsEngine}
 use Rattle.age_cli.proofs.ActLemmas.{then_closed, then_concluded}
 use Rattle.age_cli.proofs.EngineLemmas.{engine_ended, engine_stopped, sealing_ends, sealing_stops}
-use Rattle.age_cli.proofs.PutLemmas.{concludes_from}
+use Rattle.age_cli.proofs.PutLemmas.{concluded, concludes_from}
+use base.Fml.{GName}
+use Rattle.age_io.proofs.{begins_since, reading_of as shows_reading}
+
+-- one reading, and then perhaps another, of what stopped
+pub shown_with : (size : Option ℕ) (coming left : Supply) (old middle new : Option (List ShownOne)) (r : Result (Unit {0}) Ending) → ShowsRun size coming left old middle
+    → OnOk r (new ≡ middle) → (new ≡ middle) ⊎ ((n : Option ℕ) × (again : Supply) × (rest : Supply) × ShowsRun n again rest middle new)
+    → OnOk r (IsAtEnd left) → ShowsReadings size coming left old new r
+shown_with size coming left old middle new (Ok x) run same again ended = record { middle = middle; first = run; whole = (ended, same); again = again }
+shown_with size coming left old middle new (Err e) run same again ended = record { middle = middle; first = run; whole = tt; again = again }
+
+-- an engine that ended has read its source to the end, and so has its command
+pub ended_with : (P : Type 0) (end : Result (Unit {0}) Interruption) (r : Result (Unit {0}) Ending) (Q : Type 0) → OnOk end P → OnOk r (IsOk end × Q)
+    → OnOk r P
+ended_with P (Ok x) (Ok y) Q p q = p
+ended_with P (Ok x) (Err e) Q p q = tt
+ended_with P (Err s) (Ok y) Q p q = absurd (true≢false (sym q.0))
+ended_with P (Err s) (Err e) Q p q = tt
+
+-- a reading was begun, counted and ended
+pub shows_run : {P : Type 0} (shown_by : P → Option (List ShownOne)) (name : GName) (coming left : Supply) (before ended : Option (List ShownOne))
+    (began counted given : P) (lent : GName) (size : Option ℕ)
+    → IfSome coming.left (λ bytes. size ≡ Some (length bytes)) × Adds before (shown_by began) (Begins size)
+    → ((from : Lending) → (name ≡ from.meter) × CountsSince from coming (shown_by began) → (lent ≡ from.meter) × CountsSince from left (shown_by counted))
+    → (name ≡ lent → given ≡ counted) → Adds (shown_by given) ended Ends → ShowsRun size coming left before ended
+shows_run shown_by name coming left before ended began counted given lent size begun counts back ends =
+    let from : Lending = record { meter = name; coming = coming; shown = shown_by began } in
+    let kept = counts from (refl, begins_since name coming (shown_by began)) in
+    let ends_so = subst (λ p. Adds (shown_by p) ended Ends) (back (sym kept.0)) ends in (
+      begun.0,
+      shows_reading name size coming left before (shown_by began) (shown_by counted) ended begun.1 kept.1 ends_so,
+    )
 
 either_shown : {A B : Type 0} (p : ProgressOption) → (p ≡ Silent → A) → (p ≡ Shown → B) → A ⊎ B
 either_shown Silent a b = inl (a refl)
 either_shown Shown a b = inr (b refl)
 
-always_ok : {P : Type 0} (x : Result (Unit {0}) Ending) → P → OnOk x P
-always_ok (Ok done) p = p
-always_ok (Err e) p = tt
+pub always_ok : (x : Result (Unit {0}) Ending) (P : Type 0) → P → OnOk x P
+always_ok (Ok done) P p = p
+always_ok (Err e) P p = tt
 
 -- what was read of it was shown once
 shown_once : (size : Option ℕ) (coming left : Supply) (old new : Option (List ShownOne)) (r : Result (Unit {0}) Ending) → ShowsRun size coming left old new → OnOk r (IsAtEnd left)
     → ShowsReadings size coming left old new r
-shown_once size coming left old new r run whole = record {
-  middle = new;
-  first = run;
-  whole = on_ok_weaker r (λ ended. (ended, refl)) whole;
-  again = inl refl;
-}
+shown_once size coming left old new r run whole = shown_with size coming left old new new r run (always_ok r _ refl) (inl refl) whole
 
 -- an encryption that ended has read its source to the end, and so has its command
 sealed_to_end : (s : SecretView) (before after : Ports) (end : Result Written FileFault) (r : Result (Unit {0}) Ending) → IfOk end (Encrypts s before after)
@@ -71,10 +97,11 @@ runs_sealed IsPorts Came e secret before after opened mid new Unshown show_old s
   stops = sealing_stops secret settled before after sealed fails;
   named = named;
   certain = λ failed some. absurd (true≢false (sym some));
-  concludes = concludes_from None e.durability after.sink settled (sealing_end sealed) opened mid new did r concludes;
+  concludes = concludes_from None e.durability after.sink settled opened mid new did (sealing_end sealed) r concludes;
   silent = silent;
   shown = λ asked. shown_once size before.source.supply after.source.supply show_old show_new r (shown asked)
-      (sealed_to_end secret before after sealed r ends (on_ok_weaker r (λ done. done.0) concludes.done));
+      (sealed_to_end secret before after sealed r ends (on_ok_weaker r (λ done. done.0)
+      (concluded None e.durability after.sink settled (sealing_end sealed) mid new r concludes).done));
 }
 
 -- what was opened is `old` to `mid`, and the engine ran until then; OUT was ended, and a position saved, until `new`
@@ -99,6 +126,7 @@ module _ (IsPorts : Ports → Type 0) (asked : Request) (old mid new : FilesView
   acts_engine before_is begun found fresh named run did done_is whole_is of input_is apart =
       let durability = durability_of asked in
       let concludes = run.concludes in
+      let facts = concluded p.save durability run.after.sink run.settled run.end mid new r concludes in
       let grows = grows_by opened old mid did in
       let noted = did_events opened old mid did in
       let late : (o : Outcome) → CameSince mid new o → Came o = then_came [] old mid new grows in
@@ -114,14 +142,14 @@ module _ (IsPorts : Ports → Type 0) (asked : Request) (old mid new : FilesView
             run.end run.ends r concludes);
         stopped = IfErr-weaker r _ _ (λ e stop. inr (of (λ n q. HasEngineStopped IsPorts Came n q durability (order_asked asked).done e old new) stop))
             (engine_stopped IsPorts Came engine p durability before run.after before_is run.after_is begun read fresh (run.named ∙ named) old mid new grows late run.settled
-            run.end run.ends (order_asked asked).done (λ events. followed old.events new.events (order_asked asked).done (closed events)) run.stops run.certain r concludes);
-        blamed = IfErr-weaker r _ _ (λ e no usage. absurd (true≢false (sym usage ∙ no))) concludes.fault;
+            (order_asked asked).done (λ events. followed old.events new.events (order_asked asked).done (closed events)) run.end run.ends run.stops run.certain r concludes);
+        blamed = IfErr-weaker r _ _ (λ e no usage. absurd (true≢false (sym usage ∙ no))) facts.fault;
         order = subst (λ (order : List Event). Follows order old.events new.events) (sym whole_is)
-            (then_concluded xs ys p.clobber p.to durability (replacing p.save durability) old.events mid.events new.events noted concludes.order);
-        order_done = on_ok_weaker r closed concludes.order_done;
-        order_judged = IfErr-weaker r _ _ (λ e no usage. absurd (true≢false (sym usage ∙ no))) concludes.fault;
+            (then_concluded xs ys p.clobber p.to durability (replacing p.save durability) old.events mid.events new.events noted facts.order);
+        order_done = on_ok_weaker r (λ done. closed done.1) facts.done;
+        order_judged = IfErr-weaker r _ _ (λ e no usage. absurd (true≢false (sym usage ∙ no))) facts.fault;
         apart = λ twice. absurd (apart twice);
         silent = run.silent;
         progress = either_shown (progress_of asked) run.silent shown;
-        shown = always_ok r shown;
+        shown = always_ok r _ shown;
       }

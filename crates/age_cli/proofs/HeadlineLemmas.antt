@@ -1,55 +1,51 @@
 -- The headline for OUT, from what the commands did.
-use Rattle.std.proofs.Common.{◌≡◌, ◌≤◌, ◌*◌, ◌∙◌, ◌⊎◌, ◌++◌, ℕ, inl, inr, ap, sym, subst, refl, true, true≢false, List, [], ◌∷◌, length, take, Option}
-use Rattle.std.proofs.Common.{Some, None, append-nil, append_assoc, arith, rules, ⊎_elim, Bool, false, Result, Ok, Err}
+use Rattle.std.proofs.Common.{◌≡◌, ◌≤◌, ◌*◌, ◌∙◌, ◌⊎◌, ◌++◌, ℕ, inl, inr, ap, sym, subst, refl, true, true≢false, List, [], ◌∷◌, length, take, Option, Some}
+use Rattle.std.proofs.Common.{None, append-nil, append_assoc, arith, rules, ⊎_elim, Bool, false, Result, Ok, Err}
 use Rattle.std.proofs.lemmas.List.{length-take, take_at}
-use Rattle.std.specs.Prelude.{is_some, ◌==◌, if◌then◌else◌, bytes_eq, OnErr, IsErrAnd}
+use Rattle.std.specs.Prelude.{is_some, ◌==◌, bytes_eq, OnErr, IsErrAnd, if◌then◌else◌}
 use Rattle.std.specs.Option.{option_map_or}
 use Rattle.std.specs.Io.KnownBytes.{Consumes, IsAtEnd}
 use Rattle.age_io.specs.Supply.{Supply}
-use Rattle.age_io.specs.Io.{SourceView, SinkView}
-use Rattle.age_io.specs.Taken.{Appends}
+use Rattle.age_io.specs.{SourceView, SinkView}
 use Rattle.age_io.specs.declared.durability.Durability.{Durability}
-use Rattle.age_io.proofs.TakenLemmas.{Appends-nil}
+use Rattle.age_io.specs.Taken.{Appends}
+use Rattle.age_io.proofs.{Appends-nil}
 use Rattle.clap.specs.Words.{Row, Text}
 use Rattle.clap.specs.Kinds.{Kinds, IsAmong}
 use Rattle.clap.specs.declared.error.kind.ErrorKind.TheVariants.{DisplayHelp, DisplayVersion}
-use Rattle.age_chunk.specs.Payload.{chunk_limit, chunk_count, chunk_length}
-use Rattle.age_stream.specs.Headline.{IsPrefixOf}
-use Rattle.age_file.proofs.RunLemmas.{writes_all, writes_of}
-use Rattle.age_file.specs.Decrypts.{DecryptStops}
-use Rattle.age_file.specs.Resumes.{BeginsWith, resume_ports, IsFrom, position_text, ResumeStops}
-use Rattle.age_file.specs.Runs.{Ports, Run, IsFromStart, held, IsRun, IsTexts, IsAuthenticRun, WritesNone}
+use Rattle.age_chunk.specs.{chunk_limit, chunk_count, chunk_length}
+use Rattle.age_stream.specs.{IsPrefixOf}
+use Rattle.age_file.proofs.{writes_all, writes_of}
+use Rattle.age_file.specs.{DecryptStops, BeginsWith, resume_ports, IsFrom, position_text, ResumeStops, Ports, Run, IsFromStart, held, IsRun, IsTexts}
+use Rattle.age_file.specs.{IsAuthenticRun, WritesNone}
 use Rattle.age_file.specs.declared.decryption.Stopped.{Stopped}
 use Rattle.age_file.specs.declared.position.PositionPolicy.{PositionPolicy}
 use Rattle.age_file.specs.declared.position.PositionPolicy.TheVariants.{Dropped}
 use Rattle.age_file.specs.declared.position.Position.{Position}
 use Rattle.age_fault.specs.declared.fault.FileFault.{FileFault}
-use Rattle.age_machine.specs.Ends.{EndedFile}
+use Rattle.age_machine.specs.{EndedFile}
+use Rattle.age_fileset.specs.{Event, FilesView, Files, Entry, entry, entry_of, Outcome, Found, FoundOrEmpty, PutsOnly, CameSince, HasGivenAll, AreTrue}
+use Rattle.age_fileset.specs.{or_empty, puts_in}
 use Rattle.age_fileset.specs.declared.mem_entry.MemEntry.{MemEntry}
-use Rattle.age_fileset.specs.FileSet.{Event, FilesView, Files, Entry, entry, entry_of, Outcome, Found, FoundOrEmpty, PutsOnly, CameSince, HasGivenAll}
-use Rattle.age_fileset.specs.FileSet.{AreTrue, or_empty, puts_in}
-use Rattle.age_fileset.proofs.MemoryLemmas.{AreOthers, others_then, same_since, put_since, before_others, found_was, found_any_was, gave_all_was}
-use Rattle.age_fileset.proofs.OutcomeLemmas.{grows_by, grows_none, all_as}
-use Rattle.age_cli_args.specs.Requests.{Asks, IsForHelp, refusals, IsIdentityOptions, IsRequest, Requests, option_text}
+use Rattle.age_fileset.proofs.{AreOthers, others_then, same_since, put_since, before_others, found_was, found_any_was, gave_all_was, grows_by, grows_none}
+use Rattle.age_fileset.proofs.{all_as}
+use Rattle.age_cli_args.specs.{Asks, IsForHelp, refusals, IsIdentityOptions, IsRequest, option_text}
 use Rattle.age_cli_args.specs.declared.request.IdentityOptions.{IdentityOptions}
 use Rattle.age_cli_args.specs.declared.request.Decrypting.{Decrypting}
 use Rattle.age_cli_args.specs.declared.request.Resuming.{Resuming}
 use Rattle.age_cli_args.specs.declared.request.Request.{Request}
 use Rattle.age_cli_args.specs.declared.request.Request.TheVariants.{Inspect, Encrypt, Decrypt, Resume, Drill}
-use Rattle.age_cli_args.proofs.SimpleLemmas.{no_command}
-use Rattle.age_cli_args.proofs.NumberLemmas.{one_number}
+use Rattle.age_cli_args.specs.Requests.{Requests}
+use Rattle.age_cli_args.proofs.{no_command, one_number}
+use Rattle.age_command.specs.{IsIdentity, IsSecretGiven, allows_by, refuses_by, either_name, identity_file, Follows, NamesTwice, IsOneOf, apart_from}
 use Rattle.age_command.specs.declared.identity.Identity.{Identity}
 use Rattle.age_command.specs.declared.identity.Identity.TheVariants.{ByPassphrase, ByFileKey, ByShared}
-use Rattle.age_command.specs.Identities.{IsIdentity, IsSecretGiven, allows_by, refuses_by, either_name, identity_file}
-use Rattle.age_command.specs.Orders.{Follows, NamesTwice, IsOneOf, apart_from}
 use Rattle.age_command.specs.declared.ending.Ending.{Ending}
-use Rattle.age_command.specs.declared.ending.Ending.TheVariants.{Words, Usage, Fault, Unsaved}
-use Rattle.age_cli.specs.Acts.{Acts, CameFirst, Engine, HasEngineStopped, IsNotDue, IsStored, IsSavedAs, OfEngine, OpensOf, Paths, paths_of}
-use Rattle.age_cli.specs.Acts.{Returned, IsUsage, IsEndingOf, decrypt_engine, resume_engine, kept_for, status_by, StopsText}
-use Rattle.age_cli.specs.Commands.{old_found}
-use Rattle.age_cli.specs.Runs.{World, Obeys, DoesOther}
-use Rattle.age_cli.specs.Headline.{held_for, OpensBy, IsPositionIn, IsRead, IsWritersInput, KeepsOut, IsWritersOld, BeginsAt, IsWritersResumption}
-use Rattle.age_cli.specs.Headline.{out_of, save_of}
+use Rattle.age_command.specs.declared.ending.Ending.TheVariants.{Words, Fault, Unsaved, Usage}
+use Rattle.age_cli.specs.Acts.{Acts}
+use Rattle.age_cli.specs.{CameFirst, Engine, HasEngineStopped, IsNotDue, IsStored, IsSavedAs, OfEngine, OpensOf, Paths, paths_of, Returned, IsUsage, IsEndingOf}
+use Rattle.age_cli.specs.{decrypt_engine, resume_engine, kept_for, status_by, StopsText, old_found, World, Obeys, DoesOther, held_for, OpensBy, IsPositionIn}
+use Rattle.age_cli.specs.{IsRead, IsWritersInput, KeepsOut, IsWritersOld, BeginsAt, IsWritersResumption, out_of, save_of}
 
 -- ---- What a decryption wrote, and read.
 

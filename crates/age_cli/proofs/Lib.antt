@@ -1,17 +1,24 @@
 pub mod ActLemmas
-pub mod CommandLemmas
 pub mod EngineLemmas
-pub mod FileLemmas
 pub mod FinalLemmas
-pub mod FirstLemmas
 pub mod HeadlineLemmas
 pub mod NameLemmas
 pub mod ObeyLemmas
 pub mod OpeningLemmas
 pub mod PutLemmas
 pub mod ReadLemmas
-pub mod ReadingsLemmas
-pub mod ReportLemmas
 pub mod RereadLemmas
 pub mod RestLemmas
 pub mod TextLemmas
+unfoldable pub use ActLemmas.*
+unfoldable pub use EngineLemmas.*
+unfoldable pub use FinalLemmas.*
+unfoldable pub use HeadlineLemmas.*
+unfoldable pub use NameLemmas.*
+unfoldable pub use ObeyLemmas.*
+unfoldable pub use OpeningLemmas.*
+unfoldable pub use PutLemmas.*
+unfoldable pub use ReadLemmas.*
+unfoldable pub use RereadLemmas.*
+unfoldable pub use RestLemmas.*
+unfoldable pub use TextLemmas.*

@@ -1,7 +1,9 @@
 -- What each arm of the part that obeys the words promises, from what its callee does.
-use Rattle.std.proofs.Common.{◌≡◌, ◌∙◌, ◌⊎◌, sym, subst, refl, inl, inr, List, [], ◌∷◌, ℕ, Bool, true, false, true≢false, Option, Result, Ok, Err, length}
+use Rattle.age_cli.proofs.FinalLemmas.{always_ok}
+use Rattle.std.proofs.Common.{◌≡◌, ◌∙◌, ◌⊎◌, sym, subst, refl, inl, inr, List, [], ◌∷◌, ℕ, Bool, true, false, true≢false, Option, Result, Ok, Err, length, Some}
+use Rattle.std.proofs.Common.{None}
 use Rattle.std.specs.Borrow.{Bor}
-use Rattle.std.specs.Prelude.{OnOk, IfErr, IsOk, ◌==◌}
+use Rattle.std.specs.Prelude.{OnOk, IfErr, IsOk, ◌==◌, IfSome}
 use Rattle.std.proofs.lemmas.Result.{IfErr-weaker, on_ok_weaker}
 use Rattle.clap.specs.Words.{Text}
 use Rattle.clap.specs.Walk.{texts}
@@ -10,29 +12,31 @@ use Rattle.clap.specs.Values.{kind_of}
 use Rattle.clap.specs.declared.error.Error.{Error}
 use Rattle.clap.specs.declared.error.kind.ErrorKind.{ErrorKind}
 use Rattle.clap.specs.declared.error.kind.ErrorKind.TheVariants.{OutOfMemory}
-use Rattle.age_io.specs.Io.{SinkView}
-use Rattle.age_io.proofs.TakenLemmas.{Appends-trans}
-use Rattle.age_fault.specs.Faults.{HasRisen}
+use Rattle.age_io.specs.{SinkView}
+use Rattle.age_io.proofs.{Appends-trans}
+use Rattle.age_fault.specs.{HasRisen}
 use Rattle.age_fault.specs.declared.fault.FileFault.{FileFault}
-use Rattle.age_cli_args.specs.Requests.{IsForHelp, refusals, Requests}
-use Rattle.age_cli_args.specs.declared.request.Drilling.{Drilling}
+use Rattle.age_cli_args.specs.{IsForHelp, refusals}
 use Rattle.age_cli_args.specs.declared.request.ProgressOption.TheVariants.{Shown, Silent}
 use Rattle.age_cli_args.specs.declared.request.Request.{Request}
 use Rattle.age_cli_args.specs.declared.request.Request.TheVariants.{Inspect, Drill}
-use Rattle.age_file.specs.Runs.{Ports}
-use Rattle.age_fileset.specs.FileSet.{FilesView, Does}
-use Rattle.age_fileset.proofs.OutcomeLemmas.{did_events}
-use Rattle.age_command.specs.Endings.{Announces, ReportsEnding, ReportsRest, TakesLine, is_usage, fault_line}
-use Rattle.age_command.specs.Orders.{Begins, order_asked}
-use Rattle.age_command.specs.declared.ending.Announcement.{Announcement}
+use Rattle.age_cli_args.specs.Requests.{Requests}
+use Rattle.age_cli_args.specs.declared.request.Drilling.{Drilling}
+use Rattle.age_file.specs.{Ports, IsReport}
+use Rattle.age_fileset.specs.{FilesView, Does}
+use Rattle.age_fileset.proofs.{did_events}
+use Rattle.age_command.specs.{Announces, ReportsEnding, ReportsRest, TakesLine, fault_line, Begins, order_asked}
 use Rattle.age_command.specs.declared.ending.Announcement.TheVariants.{Unmade, Made, Failed}
 use Rattle.age_command.specs.declared.ending.Ending.{Ending}
-use Rattle.age_command.specs.declared.ending.Ending.TheVariants.{Words, Usage, Fault, Unsaved}
-use Rattle.age_command.proofs.EventLemmas.{begun, follows_by}
-use Rattle.age_cli.specs.Acts.{Acts, IsUsage}
-use Rattle.age_cli.specs.Commands.{FailsReport}
-use Rattle.age_cli.specs.Runs.{DoesOther, FailsWriting, IsRefusal, Obeys, World}
-use Rattle.age_cli.specs.inner.Endings.{IsForOutput}
+use Rattle.age_command.specs.declared.ending.Ending.TheVariants.{Words, Fault, Unsaved, Usage}
+use Rattle.age_command.specs.declared.ending.Announcement.{Announcement}
+use Rattle.age_command.proofs.{begun, follows_by}
+use Rattle.age_cli.specs.Acts.{Acts}
+use Rattle.age_cli.specs.{IsUsage, FailsReport, DoesOther, FailsWriting, IsRefusal, Obeys, World}
+use Rattle.age_cli.specs.inner.{IsForOutput, IsInspected}
+use Rattle.age_fault.specs.declared.fault.FileFault.TheVariants.{Write, Memory}
+use Rattle.age_file.specs.declared.report.Report.{Report}
+use Rattle.age_io.specs.Supply.{Supply}
 
 -- ---- The words.
 
@@ -71,19 +75,13 @@ asked_fails words e (inr among) asked (name, rows, asks, is) = absurd (subst (λ
 -- ---- What a report and a drill do with files.
 
 -- a report that failed doesn't blame the command line
-report_fault : (Fails : FileFault → Type 0) (was is : SinkView) (e : Ending) → FailsReport Fails was is e → is_usage e ≡ false
-report_fault Fails was is (Fault fault) fails = refl
-report_fault Fails was is (Words text) fails = absurd fails
-report_fault Fails was is (Usage usage) fails = absurd fails
-report_fault Fails was is (Unsaved fault second) fails = absurd fails
+pub fault_no_usage : (Fails : FileFault → Type 0) (was is : SinkView) (e : Ending) → FailsReport Fails was is e → IsUsage e → ⊥
+fault_no_usage Fails was is (Fault fault) fails usage = true≢false (sym usage)
+fault_no_usage Fails was is e fails usage = fails
 
 pub both_done : (P Q : Type 0) (r : Result (Unit {0}) Ending) → OnOk r P → OnOk r Q → OnOk r (P × Q)
 both_done P Q (Ok x) p q = (p, q)
 both_done P Q (Err e) p q = tt
-
-always : {A : Type 0} (r : Result A Ending) (P : Type 0) → P → OnOk r P
-always (Ok x) P p = p
-always (Err e) P p = tt
 
 every_fault : {A : Type 0} (r : Result A Ending) (P : Ending → Type 0) → ((e : Ending) → P e) → IfErr r P
 every_fault (Ok x) P h = tt
@@ -99,7 +97,7 @@ module _ (IsPorts : Ports → Type 0) (before after : FilesView) (Unshown : Type
   drill_acts d whole finished =
       let follows = follows_by (order_asked (Drill d)).whole before after whole in
       record {
-        done = always r _ tt;
+        done = always_ok r _ tt;
         stopped = every_fault r _ (λ e. inr tt);
         blamed = every_fault r _ (λ e usage. inr (inl tt));
         order = follows;
@@ -108,7 +106,7 @@ module _ (IsPorts : Ports → Type 0) (before after : FilesView) (Unshown : Type
         apart = λ twice. absurd twice.1;
         silent = λ asked. silent;
         progress = inl silent;
-        shown = always r _ (λ asked. absurd (shown_not_silent asked));
+        shown = always_ok r _ (λ asked. absurd (shown_not_silent asked));
       }
 
   -- a file is opened, or none, and no fault is one of the words
@@ -116,18 +114,18 @@ module _ (IsPorts : Ports → Type 0) (before after : FilesView) (Unshown : Type
       → Acts IsPorts (Inspect file) before after Unshown Progress r
   inspect_acts file Fails was is did fails =
       let impossible : (P : Ending → Type 0) → IfErr r (λ e. IsUsage e → P e) =
-      λ P. IfErr-weaker r _ _ (λ e f usage. absurd (true≢false (sym usage ∙ report_fault Fails was is e f))) fails in
+      λ P. IfErr-weaker r _ _ (λ e f usage. absurd (fault_no_usage Fails was is e f usage)) fails in
       record {
-        done = always r _ tt;
+        done = always_ok r _ tt;
         stopped = every_fault r _ (λ e. inr tt);
         blamed = impossible _;
         order = follows_by (order_asked (Inspect file)).whole before after (begun (order_asked (Inspect file)).whole before after did);
-        order_done = always r _ (did_events (order_asked (Inspect file)).done before after did);
+        order_done = always_ok r _ (did_events (order_asked (Inspect file)).done before after did);
         order_judged = impossible _;
         apart = λ twice. absurd twice.1;
         silent = λ asked. silent;
         progress = inl silent;
-        shown = always r _ (λ asked. absurd (shown_not_silent asked));
+        shown = always_ok r _ (λ asked. absurd (shown_not_silent asked));
       }
 
 pub obeyed : (words : List Text) (IsPorts : Ports → Type 0) (before after : World) (Unread Unprinted Unshown : Type 0)
@@ -164,3 +162,18 @@ reported_whole Made (Unsaved fault second) old mid new Quiet same first rest = s
 reported_whole Made (Words text) old mid new Quiet same first rest = tt
 reported_whole Made (Usage usage) old mid new Quiet same first rest = tt
 reported_whole Failed e old mid new Quiet same risen rest = subst (λ (s : SinkView). Leaves e old s) (sym rest) (failed_whole e old mid risen)
+
+-- the report of all that there is to read
+pub whole_report : (size : Option ℕ) (coming new : Supply) (r : Report) → IfSome coming.left (λ bytes. IfSome size (λ n. n ≡ length bytes))
+    → IsInspected size coming new r → IfSome coming.left (λ bytes. IsReport bytes r)
+whole_report size coming new r sized is = all coming.left refl sized where
+  all : (o : Option (List ℕ)) → coming.left ≡ o → IfSome o (λ bytes. IfSome size (λ n. n ≡ length bytes)) → IfSome o (λ bytes. IsReport bytes r)
+  all None there known = tt
+  all (Some bytes) there known = is.whole bytes there known
+
+-- a fault of what was read is one of what this file gave
+pub fails_as : (P Q : FileFault → Type 0) (was is : SinkView) → ((f : FileFault) → P f → Q f) → (e : Ending) → FailsReport P was is e → FailsReport Q was is e
+fails_as P Q was is so (Fault Write) fails = fails
+fails_as P Q was is so (Fault Memory) fails = tt
+fails_as P Q was is so (Fault other) fails = so other fails
+fails_as P Q was is so e fails = absurd fails

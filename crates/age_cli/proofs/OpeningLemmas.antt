@@ -1,158 +1,212 @@
--- What holds if a file can't be opened or made, before anything is written.
-use Rattle.std.proofs.Common.{◌≡◌, ◌∙◌, ◌⊎◌, ◌++◌, Option, Some, None, Result, Ok, inl, inr, refl, ap, sym, true, true≢false, List, ℕ, [], append-nil}
-use Rattle.std.specs.Prelude.{IsErr, IsErrAnd}
+-- How a part of a command ends before anything is written.
+use Rattle.std.proofs.Common.{◌≡◌, ◌∙◌, ◌++◌, ◌∷◌, Option, Some, None, Result, Err, inl, inr, refl, ap, sym, true, true≢false, List, ℕ, [], append-nil, subst}
+use Rattle.std.specs.Prelude.{IsErr, IsErrAnd, IsSomeAnd}
 use Rattle.clap.specs.Words.{Text}
+use Rattle.age_io.specs.{SinkView}
 use Rattle.age_fault.specs.declared.fault.FileFault.{FileFault}
-use Rattle.age_fault.specs.declared.fault.FileFault.TheVariants.{Read, Write, Memory}
-use Rattle.age_fileset.specs.FileSet.{OpenFails, Event, Outcome, FilesView, CameSince, Does, PutsOnly, InUse, Terminal, Unread, Unwritten, Gave}
-use Rattle.age_fileset.proofs.OutcomeLemmas.{all_as, came_then, did_ended, did_events, given_as, grows_by, grows_then, then_came}
+use Rattle.age_fault.specs.declared.fault.FileFault.TheVariants.{Read, Write, Memory, BadPosition}
+use Rattle.age_fileset.specs.{IsMemoryOr, OpenFails, Event, Outcome, FilesView, CameSince, Does, PutsOnly, InUse, Terminal, Unread, Unwritten, Gave, Opened}
+use Rattle.age_fileset.specs.{puts_in, refused_as, with_event, Entry}
 use Rattle.age_fileset.specs.declared.files.OpenFault.{OpenFault}
-use Rattle.age_fileset.specs.declared.files.OpenFault.TheVariants as refuse
-use Rattle.age_command.specs.Endings.{EndsEarly, is_usage}
-use Rattle.age_command.specs.Files.{HasReason, HoldsOnly, IsUnread}
+use Rattle.age_fileset.proofs.{all_as, came_one, came_then, did_ended, did_events, given_as, grows_by, grows_then, then_came, puts_then, unwritten_puts}
+use Rattle.age_fileset.proofs.OutcomeLemmas.{does_so, unread_puts}
+use Rattle.age_command.specs.{EndsEarly, is_usage, HasReason, HoldsOnly, IsUnread}
 use Rattle.age_command.specs.declared.ending.Ending.{Ending}
-use Rattle.age_command.specs.declared.ending.Ending.TheVariants.{Words, Usage, Fault, Unsaved}
+use Rattle.age_command.specs.declared.ending.Ending.TheVariants.{Fault, Usage}
 use Rattle.age_command.specs.declared.ending.Usage.TheVariants.{SameFile}
-use Rattle.age_command.specs.inner.Endings.{ending_of}
-use Rattle.age_command.specs.Orders.{Begins, Follows}
-use Rattle.age_command.proofs.EventLemmas.{followed, longer, then_follows}
-use Rattle.age_command.proofs.ResultLemmas.{an_error, no_value, not_well, this_error}
-use Rattle.age_cli.specs.Acts.{IsUnusable, SparesOut}
-use Rattle.age_cli.specs.inner.Openings.{Judges, OpensFiles}
-use Rattle.age_cli.proofs.FileLemmas.{spared_then}
+use Rattle.age_command.specs.inner.{ending_of}
+use Rattle.age_command.proofs.{followed, longer, then_follows, no_value, this_error}
+use Rattle.age_cli.specs.{IsUnusable, CameFirst, SparesOut}
+use Rattle.age_cli.specs.inner.{EndsBy, FailsEarly, IsUnopened, OpensFiles}
+use Rattle.std.proofs.lemmas.List.{append_cancel_left}
+use Rattle.age_machine.specs.{EndedFile, Discards, IsUntouched, OutFile}
+use Rattle.age_fileset.specs.declared.files.OpenFault.TheVariants as refuse
 
-opens_early : (kind : FileFault) (f : OpenFault) → OpenFails kind f → EndsEarly (Fault kind) → EndsEarly (ending_of f)
-opens_early kind refuse.SameFile fails early = tt
-opens_early kind (refuse.Fault f) (inl is) early = rw is early
-opens_early kind (refuse.Fault f) (inr memory) early = inr (inr memory)
+pub some_and : {X : Type 0} {P Q : X → Type 0} (o : Option X) → ((x : X) → P x → Q x) → IsSomeAnd o P → IsSomeAnd o Q
+some_and None so p = absurd p
+some_and (Some x) so p = so x p
 
-pub read_early : (f : OpenFault) → OpenFails Read f → EndsEarly (ending_of f)
-read_early f fails = opens_early Read f fails (inl refl)
+-- one into which nothing was put was discarded, or it wasn't even made
+pub spared_by : (file : Option OutFile) (sink : SinkView) (before after : Option EndedFile) → sink.taken.bytes ≡ [] → sink.failed ≡ 0
+    → IsSomeAnd after (Discards file sink) → SparesOut before after
+spared_by file sink before after none unfailed discarded = inr (some_and after (λ out d.
+    (d.within, d.took ∙ none, subst (λ (n : ℕ). IsUntouched n out) unfailed (d.untouched none))) discarded)
 
-pub write_early : (f : OpenFault) → OpenFails Write f → EndsEarly (ending_of f)
-write_early f fails = opens_early Write f fails (inr (inl refl))
+pub spared_then : (first middle last : Option EndedFile) → middle ≡ first → SparesOut middle last → SparesOut first last
+spared_then first middle last same (inl is) = inl (is ∙ same)
+spared_then first middle last same (inr spared) = inr spared
 
--- a refusal of names of one stream
-pub streams_early : (f : OpenFault) → OpenFails Memory f → EndsEarly (ending_of f)
-streams_early f fails = opens_early Memory f fails (inr (inr refl))
+-- ---- What came in a part of a command came in the whole.
 
-module _ (Came : Outcome → Type 0) where
-  opens_reason : (kind : FileFault) (f : OpenFault) → OpenFails kind f → (f ≡ refuse.Fault kind → HasReason Came (Fault kind)) → HasReason Came (ending_of f)
-  opens_reason kind refuse.SameFile fails why = tt
-  opens_reason kind (refuse.Fault f) (inl is) why = rw is (why (ap refuse.Fault is))
-  opens_reason kind (refuse.Fault f) (inr memory) why = rw memory tt
+module _ {a : List Event} {old mid new : FilesView} where
+  pub did_came : Does a old mid → (o : Outcome) → CameSince mid new o → CameSince old new o
+  did_came did o came = then_came [] old mid new (grows_by a old mid did) o came
 
-  pub read_reason : (f : OpenFault) → OpenFails Read f → (f ≡ refuse.Fault Read → IsUnread Came) → HasReason Came (ending_of f)
-  read_reason f fails why = opens_reason Read f fails why
+  pub came_did : Does a mid new → (o : Outcome) → CameSince old mid o → CameSince old new o
+  came_did did o came = came_then [] old mid new (grows_by a mid new did) o came
 
-  pub write_reason : (name : Text) (f : OpenFault) → OpenFails Write f → (f ≡ refuse.Fault Write → Came (Unwritten name)) → HasReason Came (ending_of f)
-  write_reason name f fails why = opens_reason Write f fails (λ is. (name, why is))
+pub same_events : {old new : FilesView} → Does [] old new → new.events ≡ old.events
+same_events {old = old} {new = new} did = did_events [] old new did ∙ append-nil old.events
 
-  pub streams_reason : (f : OpenFault) → OpenFails Memory f → HasReason Came (ending_of f)
-  streams_reason f fails = opens_reason Memory f fails (λ is. tt)
-
--- the command line is to blame only for what a name leads to
-pub open_blame : (Came : Outcome → Type 0) (f : OpenFault) → (f ≡ refuse.SameFile → (name : Text) × Came (InUse name)) → is_usage (ending_of f) ≡ true
-    → IsUnusable Came None (ending_of f)
-open_blame Came refuse.SameFile found usage = inl (refl, found refl)
-open_blame Came (refuse.Fault f) found usage = absurd (true≢false (sym usage))
-
--- of names of one stream
-pub streams_same : (f : OpenFault) → is_usage (ending_of f) ≡ true → f ≡ refuse.SameFile
-streams_same refuse.SameFile usage = refl
-streams_same (refuse.Fault f) usage = absurd (true≢false (sym usage))
-
-pub streams_blame : (f : OpenFault) → is_usage (ending_of f) ≡ true → ending_of f ≡ Usage SameFile
-streams_blame f usage = ap ending_of (streams_same f usage)
-
--- and so if it was found in a part, whatever output may be no terminal
-pub taken_as : (Came Later : Outcome → Type 0) → ((o : Outcome) → Came o → Later o) → (to : Option Text) (e : Ending) → IsUnusable Came to e → IsUnusable Later to e
-taken_as Came Later so to e (inl (is, (name, came))) = inl (is, (name, so (InUse name) came))
-taken_as Came Later so (Some to) e (inr (is, came)) = inr (is, so (Terminal to) came)
-taken_as Came Later so None e (inr (is, never)) = absurd never
-
-pub taken_any : (Came : Outcome → Type 0) (to : Option Text) (e : Ending) → IsUnusable Came None e → IsUnusable Came to e
-taken_any Came to e (inl used) = inl used
-taken_any Came to e (inr (is, never)) = absurd never
-
--- what is a reason by then is one later
-module _ (Came Later : Outcome → Type 0) (so : (o : Outcome) → Came o → Later o) where
+module _ {Came Later : Outcome → Type 0} (so : (o : Outcome) → Came o → Later o) where
   pub unread_as : IsUnread Came → IsUnread Later
   unread_as (inl (name, came)) = inl (name, so (Unread name) came)
   unread_as (inr (r, gave, failing)) = inr (r, so (Gave r) gave, failing)
 
-  pub reason_as : (e : Ending) → HasReason Came e → HasReason Later e
-  reason_as (Fault Read) reason = unread_as reason
-  reason_as (Fault Write) (name, came) = (name, so (Unwritten name) came)
-  reason_as (Fault other) reason = tt
-  reason_as (Words text) reason = tt
-  reason_as (Usage usage) reason = tt
-  reason_as (Unsaved fault second) reason = tt
+  -- what a file holds, also in other words
+  pub holds_as : {name : Text} {P Q : List ℕ → Type 0} → ((bytes : List ℕ) → P bytes → Q bytes) → HoldsOnly Came name P → HoldsOnly Later name Q
+  holds_as {name = name} then (bytes, inl (all, p)) = (bytes, inl (all_as Came Later so name bytes all, then bytes p))
+  holds_as {name = name} then (bytes, inr (given, p)) = (bytes, inr (given_as Came Later so name bytes given, (λ rest. then _ (p rest))))
 
-  -- and so of what a file holds, also in other words
-  pub holds_as : (name : Text) (P Q : List ℕ → Type 0) → ((bytes : List ℕ) → P bytes → Q bytes) → HoldsOnly Came name P → HoldsOnly Later name Q
-  holds_as name P Q then (bytes, inl (all, p)) = (bytes, inl (all_as Came Later so name bytes all, then bytes p))
-  holds_as name P Q then (bytes, inr (given, p)) = (bytes, inr (given_as Came Later so name bytes given, (λ rest. then _ (p rest))))
+  -- whatever output may be no terminal
+  pub taken_as : (to : Option Text) (e : Ending) → IsUnusable Came None e → IsUnusable Later to e
+  taken_as to e (inl (is, (name, came))) = inl (is, (name, so (InUse name) came))
+  taken_as to e (inr (is, never)) = absurd never
 
--- ---- What came in a part of a command.
+  pub taken_so : (to : Option Text) (e : Ending) → IsUnusable Came to e → IsUnusable Later to e
+  taken_so (Some to) e (inr (is, came)) = inr (is, so (Terminal to) came)
+  taken_so (Some to) e (inl (is, (name, came))) = inl (is, (name, so (InUse name) came))
+  taken_so None e taken = taken_as None e taken
 
-pub did_came : (a : List Event) (old mid new : FilesView) → Does a old mid → (o : Outcome) → CameSince mid new o → CameSince old new o
-did_came a old mid new did o came = then_came [] old mid new (grows_by a old mid did) o came
+  pub ends_as : {Bad Bad' : Type 0} {Blame Blame' : Ending → Type 0} → (Bad → Bad') → ((e : Ending) → Blame e → Blame' e) → (e : Ending)
+      → EndsBy Came Bad Blame e → EndsBy Later Bad' Blame' e
+  ends_as bad blame (Fault Read) by = record { cause = unread_as by.cause }
+  ends_as bad blame (Fault Write) by = record { cause = (by.cause.0, so (Unwritten by.cause.0) by.cause.1) }
+  ends_as bad blame (Fault Memory) by = record { cause = tt }
+  ends_as bad blame (Fault BadPosition) by = record { cause = bad by.cause }
+  ends_as bad blame (Usage usage) by = record { cause = blame (Usage usage) by.cause }
+  ends_as bad blame e by = absurd by.cause
 
-pub came_did : (a : List Event) (old mid new : FilesView) → Does a mid new → (o : Outcome) → CameSince old mid o → CameSince old new o
-came_did a old mid new did o came = came_then [] old mid new (grows_by a mid new did) o came
+  pub unopened_as : (to : Option Text) (e : Ending) → IsUnopened to Came e → IsUnopened to Later e
+  unopened_as to e by = ends_as (λ no. no) (taken_so to) e by
 
-pub same_events : (old new : FilesView) → Does [] old new → new.events ≡ old.events
-same_events old new did = did_events [] old new did ∙ append-nil old.events
+  pub unopened_any : (to : Option Text) (e : Ending) → IsUnopened None Came e → IsUnopened to Later e
+  unopened_any to e by = ends_as (λ no. no) (taken_as to) e by
 
--- ---- How an opening ends, and a judgement.
+-- ---- What a cause says.
 
-module _ {A : Type 0} (order done : List Event) (to : Option Text) (old mid new : FilesView) (IsNew : A → Type 0) (r : Result A Ending) (e : Ending)
-    (is : IsErr r × IsErrAnd r (λ x. x ≡ e)) (did : Does done old mid) (early : EndsEarly e) (reason : HasReason (CameSince mid new) e)
-    (fault : is_usage e ≡ true → IsUnusable (CameSince mid new) to e) where
-  -- it failed after some of it was done
-  pub opens_not : (rest : List Event) → PutsOnly [] mid new → SparesOut mid.ended new.ended → Follows rest mid.events new.events
-      → OpensFiles order (done ++ rest) to old new IsNew r
-  opens_not rest none spared follows = record {
-    begun = no_value r e is _;
-    noted = not_well r e is _;
-    none = grows_then [] [] old mid new (grows_by done old mid did) none;
-    spared = spared_then _ _ _ (did_ended done old mid did) spared;
-    followed = an_error r _ (then_follows old.events mid.events new.events done rest (did_events done old mid did) follows);
-    early = this_error r e is EndsEarly early;
-    reason = this_error r e is _ (reason_as (CameSince mid new) (CameSince old new) (did_came done old mid new did) e reason);
-    fault = this_error r e is _ (λ usage. taken_as (CameSince mid new) (CameSince old new) (did_came done old mid new did) to e (fault usage));
+module _ {Came : Outcome → Type 0} {Bad : Type 0} {Blame : Ending → Type 0} where
+  pub ends_early : (P : Type 0) (e : Ending) → EndsBy Came Bad Blame e → (EndsEarly e → P) → (e ≡ Fault BadPosition → Bad → P) → P
+  ends_early P (Fault Read) by early bad = early (inl refl)
+  ends_early P (Fault Write) by early bad = early (inr (inl refl))
+  ends_early P (Fault Memory) by early bad = early (inr (inr refl))
+  ends_early P (Fault BadPosition) by early bad = bad refl by.cause
+  ends_early P (Usage usage) by early bad = early tt
+  ends_early P e by early bad = absurd by.cause
+
+  pub ends_reason : (e : Ending) → EndsBy Came Bad Blame e → HasReason Came e
+  ends_reason (Fault Read) by = by.cause
+  ends_reason (Fault Write) by = by.cause
+  ends_reason (Fault other) by = tt
+  ends_reason e by = tt
+
+  pub ends_blame : (e : Ending) → EndsBy Came Bad Blame e → is_usage e ≡ true → Blame e
+  ends_blame (Usage usage) by blamed = by.cause
+  ends_blame (Fault fault) by blamed = absurd (true≢false (sym blamed))
+  ends_blame e by blamed = absurd by.cause
+
+  -- a set of files failed so
+  pub fault_why : (kind : FileFault) (f : OpenFault) → OpenFails kind f → (f ≡ refuse.SameFile → Blame (Usage SameFile))
+      → (f ≡ refuse.Fault kind → EndsBy Came Bad Blame (Fault kind)) → EndsBy Came Bad Blame (ending_of f)
+  fault_why kind refuse.SameFile fails same other = record { cause = same refl }
+  fault_why kind (refuse.Fault f) (inl is) same other = rw is (other (ap refuse.Fault is))
+  fault_why kind (refuse.Fault f) (inr memory) same other = rw memory (record { cause = tt })
+
+  -- a source can't be read
+  pub read_why : (f : FileFault) → IsMemoryOr Read f → (f ≡ Read → IsUnread Came) → EndsBy Came Bad Blame (Fault f)
+  read_why f (inl is) unread = rw is (record { cause = unread is })
+  read_why f (inr memory) unread = rw memory (record { cause = tt })
+
+-- ---- How a part fails.
+
+module _ {IsTwice : Type 0} {Why : (Outcome → Type 0) → Ending → Type 0} {old new : FilesView} {e : Ending} where
+  -- once all of it was done, or a beginning
+  pub fails_all : {done : List Event} → Does done old new → (IsTwice → (new.events ≡ old.events) × (is_usage e ≡ true)) → Why (CameSince old new) e
+      → FailsEarly done IsTwice Why old new e
+  fails_all {done = done} did apart why = record {
+    none = grows_by done old new did;
+    spared = inl (did_ended done old new did);
+    order = followed old.events new.events done (did_events done old new did);
+    apart = apart;
+    why = why;
   }
 
-  -- in the part that did this
-  pub opens_none : (made more : List Event) → Does made mid new → OpensFiles order (done ++ (made ++ more)) to old new IsNew r
-  opens_none made more does = opens_not (made ++ more) (grows_by made mid new does) (inl (did_ended made mid new does))
-      (longer made more mid.events new.events (followed mid.events new.events made (did_events made mid new does)))
+  pub fails_did : (done more : List Event) → Does done old new → (IsTwice → (new.events ≡ old.events) × (is_usage e ≡ true)) → Why (CameSince old new) e
+      → FailsEarly (done ++ more) IsTwice Why old new e
+  fails_did done more did apart why = record {
+    none = grows_by done old new did;
+    spared = inl (did_ended done old new did);
+    order = record { done = done; rest = more; did = did_events done old new did; front = refl };
+    apart = apart;
+    why = why;
+  }
 
--- all was opened
-pub opens_all : {A : Type 0} (order whole : List Event) (to : Option Text) (old new : FilesView) (IsNew : A → Type 0) (x : A) → IsNew x → Does order old new
-    → OpensFiles order whole to old new IsNew (Ok x)
-opens_all order whole to old new IsNew x begun did = record {
-  begun = begun;
-  noted = did;
-  none = grows_by order old new did;
-  spared = inl (did_ended order old new did);
-  followed = tt;
-  early = tt;
-  reason = tt;
-  fault = tt;
-}
+  -- before more is done
+  pub fails_longer : {whole : List Event} (more : List Event) → FailsEarly whole IsTwice Why old new e → FailsEarly (whole ++ more) IsTwice Why old new e
+  fails_longer {whole = whole} more f = record {
+    none = f.none;
+    spared = f.spared;
+    order = longer whole more old.events new.events f.order;
+    apart = f.apart;
+    why = f.why;
+  }
 
--- no names are equal, and it can't be judged
-pub judges_not : {A : Type 0} (order : List Event) (old mid new : FilesView) (IsTwice : Type 0) (Blame : Ending → Type 0) (r : Result A Ending)
-    (e : Ending) → IsErr r × IsErrAnd r (λ x. x ≡ e) → Begins order old new → (IsTwice → ⊥)
-    → (is_usage e ≡ true → Blame e ⊎ IsUnusable (CameSince old new) None e) → EndsEarly e → HasReason (CameSince mid new) e
-    → ((o : Outcome) → CameSince mid new o → CameSince old new o) → Judges order old new IsTwice Blame r
-judges_not order old mid new IsTwice Blame r e is begins apart blamed early reason later = record {
-  noted = not_well r e is _;
-  followed = begins;
-  apart = λ twice. absurd (apart twice);
-  blamed = this_error r e is _ blamed;
-  early = this_error r e is EndsEarly early;
-  reason = this_error r e is _ (reason_as (CameSince mid new) (CameSince old new) later e reason);
+  -- in other words
+  pub fails_for : {Why' : (Outcome → Type 0) → Ending → Type 0} {whole : List Event} → (Why' (CameSince old new) e → Why (CameSince old new) e)
+      → FailsEarly whole IsTwice Why' old new e → FailsEarly whole IsTwice Why old new e
+  fails_for so f = record { none = f.none; spared = f.spared; order = f.order; apart = f.apart; why = so f.why }
+
+  -- once the part before was done
+  pub fails_then : {IsTwice' : Type 0} {Why' : (Outcome → Type 0) → Ending → Type 0} {last : FilesView} {first whole : List Event} → Does first old new → (IsTwice → ⊥)
+      → (((o : Outcome) → CameSince new last o → CameSince old last o) → Why' (CameSince new last) e → Why (CameSince old last) e)
+      → FailsEarly whole IsTwice' Why' new last e → FailsEarly (first ++ whole) IsTwice Why old last e
+  fails_then {last = last} {first = first} {whole = whole} did apart so f = record {
+    none = grows_then [] [] old new last (grows_by first old new did) f.none;
+    spared = spared_then old.ended new.ended last.ended (did_ended first old new did) f.spared;
+    order = then_follows old.events new.events last.events first whole (did_events first old new did) f.order;
+    apart = λ twice. absurd (apart twice);
+    why = so (did_came did) f.why;
+  }
+
+  pub opens_not : {A : Type 0} {order whole : List Event} {IsNew : A → Type 0} (r : Result A Ending) → IsErr r × IsErrAnd r (λ x. x ≡ e) → FailsEarly whole IsTwice Why old new e
+      → OpensFiles order whole IsTwice Why old new IsNew r
+  opens_not r is f = record { done = no_value r e is _; fails = this_error r e is _ f }
+
+-- a file was to be opened, or prepared, created or made
+module _ (name : Text) {old new : FilesView} (f : OpenFault) where
+  refused_came : (o : Outcome) (g : OpenFault) → refused_as name g ≡ o ∷ [] → new.outcomes ≡ old.outcomes ++ refused_as name f → f ≡ g → CameSince old new o
+  refused_came o g one noted same =
+      came_one old new o (noted ∙ ap (λ x. old.outcomes ++ refused_as name x) same ∙ ap (λ l. old.outcomes ++ l) one)
+
+  pub opened_fails : new ≡ with_event (Opened name) (refused_as name f) old → OpenFails Read f → FailsEarly (Opened name ∷ []) ⊥ (IsUnopened None) old new (ending_of f)
+  opened_fails noted fails =
+      fails_all (does_so old new (Opened name) (refused_as name f) noted (unread_puts name f fails)) (λ no. absurd no)
+      (fault_why Read f fails (λ same. inl (refl, (name, refused_came (InUse name) refuse.SameFile refl (ap (λ v. v.outcomes) noted) same)))
+      (λ is. record { cause = inl (name, refused_came (Unread name) (refuse.Fault Read) refl (ap (λ v. v.outcomes) noted) is) }))
+
+  pub made_fails : (e : Event) → new ≡ with_event e (refused_as name f) old → OpenFails Write f → FailsEarly (e ∷ []) ⊥ (IsUnopened None) old new (ending_of f)
+  made_fails e noted fails =
+      fails_all (does_so old new e (refused_as name f) noted (unwritten_puts name f fails)) (λ no. absurd no)
+      (fault_why Write f fails (λ same. inl (refl, (name, refused_came (InUse name) refuse.SameFile refl (ap (λ v. v.outcomes) noted) same)))
+      (λ is. record { cause = (name, refused_came (Unwritten name) (refuse.Fault Write) refl (ap (λ v. v.outcomes) noted) is) }))
+
+front_none : (a b : List Entry) → a ++ b ≡ [] → a ≡ []
+front_none [] b none = refl
+front_none (e ∷ a) b none = cc
+
+-- what came in a first part that put nothing came before anything was put
+pub first_came : (puts : List Entry) (old mid new : FilesView) → PutsOnly [] old mid → PutsOnly puts mid new
+    → (o : Outcome) → CameSince old mid o → CameFirst old new o
+first_came puts old mid new none more o c =
+    let same : none.more ≡ c.before ++ o ∷ c.later = append_cancel_left old.outcomes _ _ (sym none.is ∙ c.is) in
+    record {
+      came = came_then puts old mid new more o c;
+      first = front_none (puts_in c.before) (puts_in (o ∷ c.later)) (sym (puts_then c.before (o ∷ c.later)) ∙ ap puts_in (sym same) ∙ none.puts_are);
+    }
+
+-- and what came later, of the whole
+pub then_first : (old mid new : FilesView) → PutsOnly [] old mid → (o : Outcome) → CameFirst mid new o → CameFirst old new o
+then_first old mid new none o c = record {
+  came = then_came [] old mid new none o c.came;
+  first = puts_then none.more c.came.before ∙ ap (λ x. x ++ puts_in c.came.before) none.puts_are ∙ c.first;
 }

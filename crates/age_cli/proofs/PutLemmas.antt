@@ -1,27 +1,27 @@
 -- What was put of an output, and of the file of a position.
-use Rattle.std.proofs.Common.{◌≡◌, ◌∙◌, ◌⊎◌, ◌++◌, ◌∷◌, [], ℕ, List, inl, inr, refl, ap, sym, subst, true, false, true≢false, Option, Some, None, Result, Ok, Err, OnOk, OnErr, IfErr}
-use Rattle.std.proofs.Common.{append-nil}
-use Rattle.std.specs.Prelude.{IsOkUnless, IsSomeAnd, is_some, ◌≤◌, ◌*◌}
+use Rattle.std.proofs.Common.{◌≡◌, ◌∙◌, ◌⊎◌, ⊎_elim, ◌++◌, ◌∷◌, [], ℕ, List, inl, inr, refl, ap, sym, subst, true, false, true≢false, Option, Some, None}
+use Rattle.std.proofs.Common.{Result, Ok, Err, OnOk, IfErr, append-nil}
+use Rattle.std.specs.Prelude.{IsOk, IsOkUnless, IsSomeAnd, is_some, ◌≤◌, ◌*◌}
 use Rattle.clap.specs.Words.{Text}
-use Rattle.age_chunk.specs.Payload.{chunk_length}
-use Rattle.age_io.specs.Io.{SinkView}
+use Rattle.age_chunk.specs.{chunk_length}
+use Rattle.age_io.specs.{SinkView}
 use Rattle.age_io.specs.declared.durability.Durability.{Durability}
 use Rattle.age_fault.specs.declared.fault.FileFault.{FileFault}
 use Rattle.age_fault.specs.declared.fault.FileFault.TheVariants.{Memory, Write}
-use Rattle.age_file.specs.Resumes.{position_text}
+use Rattle.age_file.specs.{position_text}
 use Rattle.age_file.specs.declared.position.Position.{Position}
-use Rattle.age_machine.specs.Saved.{SavedFile, Saves}
-use Rattle.std.proofs.lemmas.Result.{on_ok_weaker, IfErr-weaker}
-use Rattle.age_fileset.specs.FileSet.{Unwritten, Entry, entry, FilesView, Closed, Does, PutsOnly, CameSince, IsMemoryOr, Outcome, Put, refused_as, written_as, puts_in}
-use Rattle.age_fileset.specs.declared.files.OpenFault.TheVariants as refusal
-use Rattle.age_fileset.proofs.OutcomeLemmas.{came_one, none_plain, grows_then, grows_by, came_then, then_came, did_events, unwritten_puts}
-use Rattle.age_cli.proofs.OpeningLemmas.{same_events}
-use Rattle.age_command.proofs.EventLemmas.{then_follows}
+use Rattle.age_machine.specs.{Closes, Discards, EndedFile, OutFile, SavedFile}
+use Rattle.age_machine.specs.Saved.{Saves}
+use Rattle.age_fileset.specs.{Unwritten, Entry, entry, FilesView, Closed, Does, PutsOnly, CameSince, IsMemoryOr, Outcome, Put, refused_as, written_as, puts_in}
+use Rattle.age_fileset.proofs.{came_one, none_plain, grows_then, grows_by, then_came, did_events, unwritten_puts}
+use Rattle.age_command.proofs.{followed, longer, then_follows}
+use Rattle.age_command.specs.{Follows, is_usage, replacing}
 use Rattle.age_command.specs.declared.ending.Ending.{Ending}
 use Rattle.age_command.specs.declared.ending.Ending.TheVariants.{Fault, Unsaved}
-use Rattle.age_cli.specs.Acts.{IsLost, IsNotDue, IsStored, IsUnsavable, LacksOne}
-use Rattle.age_cli.specs.inner.Endings.{Concludes, IsPut, position_of}
-use Rattle.age_cli.specs.declared.interruption.Interruption.{Interruption}
+use Rattle.age_cli.specs.{IsEndingOf, IsLost, IsNotDue, IsStored, IsUnsavable, LacksOne, Interruption}
+use Rattle.age_cli.specs.inner.{ClosesOut, Concludes, IsLeft, IsPut, LeavesOut, SavesStop}
+use Rattle.age_cli.proofs.OpeningLemmas.{did_came, same_events}
+use Rattle.age_fileset.specs.declared.files.OpenFault.TheVariants as refusal
 
 -- nothing was put
 pub grows_same : (old new : FilesView) → new.outcomes ≡ old.outcomes ++ [] → PutsOnly [] old new
@@ -43,11 +43,19 @@ pub grows_put : (name bytes : List ℕ) (old new : FilesView) → new.outcomes �
 unfolding puts_in
 grows_put name bytes old new is = record { more = Put name bytes ∷ []; is = is; puts_are = refl }
 
--- an output was closed, if it took bytes
+-- an output was closed, which took bytes
 pub left_puts : (sink : SinkView) (r : Result (Unit {0}) FileFault) (old new : FilesView) → new.outcomes ≡ old.outcomes ++ written_as sink.label sink.taken.bytes r
     → IsOkUnless r Write → (sink.taken.bytes ≡ [] → ⊥) → (puts : List Entry) × PutsOnly puts old new × IsPut sink puts
 left_puts sink (Ok done) old new is fails some = (entry sink.label sink.taken.bytes ∷ [], grows_put sink.label sink.taken.bytes old new is, inr (refl, some))
 left_puts sink (Err fault) old new is fails some = ([], grows_lost sink.label fault old new is (inl fails), inl refl)
+
+-- how its file was left
+pub left_empty : {file : Option OutFile} (sink : SinkView) (out : EndedFile) → sink.taken.bytes ≡ [] → Discards file sink out → IsLeft sink out
+left_empty sink out none d = record { took = d.took; within = d.within; untouched = d.untouched; kept = λ some. absurd (some none) }
+
+pub left_whole : {durability : Durability} {file : Option OutFile} {r : Result (Unit {0}) FileFault} (sink : SinkView) (out : EndedFile) → (sink.taken.bytes ≡ [] → ⊥)
+    → Closes durability file sink r out → IsLeft sink out
+left_whole sink out some c = record { took = c.took; within = c.within; untouched = λ none. absurd (some none); kept = λ more. c.closed }
 
 -- ---- What was put to the file of the position.
 
@@ -105,72 +113,83 @@ saved_badly durability (Some to) settled (Some p) old new fault second (inr save
 
 -- ---- How an output was ended.
 
-pub no_stop : (engine : Result (Unit {0}) Interruption) (done : Unit {0}) (P : Interruption → Type 0) → engine ≡ Ok done → IfErr engine P
-no_stop engine done P is = subst (λ (x : Result (Unit {0}) Interruption). IfErr x P) (sym is) tt
-
-pub same_stop : (engine : Result (Unit {0}) Interruption) (stop : Interruption) → engine ≡ Err stop → IfErr engine (λ cause. stop ≡ cause)
-same_stop engine stop is = subst (λ (x : Result (Unit {0}) Interruption). IfErr x (λ cause. stop ≡ cause)) (sym is) refl
-
--- and then the position of the stop was saved, or not
-abbrev Rest : Durability → Option Text → SinkView → ℕ → Option Position → (old new : FilesView) → Ending → Type 0
-Rest durability save sink settled position old new e = (puts : List Entry) × (rest : List Entry) × PutsOnly (puts ++ rest) old new × IsPut sink puts
-    × (((new.events ≡ old.events ++ Closed durability ∷ []) × (rest ≡ []) × IsNotDue settled e save position)
-    ⊎ IsStored (CameSince old new) durability save settled position e rest new.saved)
-
-pub rest_of : (durability : Durability) (save : Option Text) (sink : SinkView) (settled : ℕ) (position at : Option Position) (old mid new : FilesView) (e : Ending) (puts : List Entry)
-    → position ≡ at → PutsOnly puts old mid → IsPut sink puts → mid.events ≡ old.events ++ Closed durability ∷ [] → PutsRest durability save settled position mid new e
-    → Rest durability save sink settled at old new e
-rest_of durability save sink settled position at old mid new e puts same grows put closed (rest, more, inl (none, events, due)) =
-    (puts, rest, grows_then puts rest old mid new grows more, put, inl (events ∙ closed, none, subst (λ (o : Option Position). IsNotDue settled e save o) same due))
-rest_of durability save sink settled position at old mid new e puts same grows put closed (rest, more, inr done) = (
-  puts,
-  rest,
-  grows_then puts rest old mid new grows more,
-  put,
-  inr (subst (λ (o : Option Position). IsStored (CameSince old new) durability save settled o e rest new.saved) same
-      (stored_as (CameSince mid new) (CameSince old new) (then_came puts old mid new grows) durability save settled position e rest new.saved done)),
-)
-
--- the same from before the output was asked how much of it is certain
-module _ (save : Option Text) (durability : Durability) (sink : SinkView) (settled : ℕ) (engine : Result (Unit {0}) Interruption) (old mid new : FilesView) (did : Does [] old mid) where
-  rest_from : (e : Ending) → Rest durability save sink settled (position_of engine) mid new e → Rest durability save sink settled (position_of engine) old new e
-  rest_from e (puts, rest, grows, put, inl (events, none, due)) = (
-    puts,
-    rest,
-    grows_then [] (puts ++ rest) old mid new (grows_by [] old mid did) grows,
-    put,
-    inl (events ∙ ap (λ es. es ++ Closed durability ∷ []) (same_events old mid did), none, due),
-  )
-  rest_from e (puts, rest, grows, put, inr done) = (
-    puts,
-    rest,
-    grows_then [] (puts ++ rest) old mid new (grows_by [] old mid did) grows,
-    put,
-    inr (stored_as (CameSince mid new) (CameSince old new) (then_came [] old mid new (grows_by [] old mid did)) durability save settled (position_of engine) e rest new.saved done),
-  )
-
-  an_err_as : (r : Result (Unit {0}) Ending) → OnErr r (CameSince mid new (Unwritten sink.label)) → OnErr r (CameSince old new (Unwritten sink.label))
-  an_err_as (Ok done) lost = tt
-  an_err_as (Err e) lost = then_came [] old mid new (grows_by [] old mid did) (Unwritten sink.label) lost
-
-  pub concludes_from : (r : Result (Unit {0}) Ending) → Concludes save durability sink settled engine mid new r → Concludes save durability sink settled engine old new r
-  concludes_from r c = record {
-    done = on_ok_weaker r (λ both. (both.0, grows_then [] _ old mid new (grows_by [] old mid did) both.1)) c.done;
-    fault = c.fault;
-    order = then_follows _ _ _ [] _ (did_events [] old mid did) c.order;
-    order_done = on_ok_weaker r (λ events. events ∙ ap (λ es. es ++ Closed durability ∷ []) (same_events old mid did)) c.order_done;
-    ended = c.ended;
-    reported = c.reported;
-    refused = on_ok_weaker engine (λ lost. an_err_as r lost) c.refused;
-    saved = IfErr-weaker r _ _ (λ e rest. rest_from e rest) c.saved;
+module _ {save : Option Text} {durability : Durability} {sink : SinkView} {settled : ℕ} {stop : Interruption} {old mid new : FilesView} {e : Ending} where
+  -- it was left, and then the position of the stop was saved, or not
+  pub saves_stop : LeavesOut durability sink old mid → new.ended ≡ mid.ended → IsEndingOf stop.fault e → Follows (replacing save durability) mid.events new.events
+      → PutsRest durability save settled stop.position mid new e → SavesStop save durability sink settled stop old new e
+  saves_stop left same reported order (rest, more, by) = record {
+    reported = reported;
+    ended = subst (λ (o : Option EndedFile). IsSomeAnd o (IsLeft sink)) (sym same) left.ended;
+    order = then_follows old.events mid.events new.events (Closed durability ∷ []) (replacing save durability) left.noted order;
+    outs = left.outs;
+    rest = rest;
+    puts_only = grows_then left.outs rest old mid new left.puts_only more;
+    out = left.out;
+    saved = ⊎_elim (λ due. inl (due.1 ∙ left.noted, due.0, due.2))
+        (λ stored. inr (stored_as (CameSince mid new) (CameSince old new) (then_came left.outs old mid new left.puts_only) durability save settled stop.position e rest new.saved stored)) by;
   }
 
-  -- what came before came by then
-  pub certain_from : (r : Result (Unit {0}) Ending) → Concludes save durability sink settled engine mid new r → (o : Outcome) → CameSince old mid o → CameSince old new o
-  certain_from (Ok done) c o came = came_then _ old mid new c.done.1 o came
-  certain_from (Err e) c o came = came_then _ old mid new c.saved.2 o came
+  -- the same from before something else was done
+  pub saves_from : Does [] old mid → SavesStop save durability sink settled stop mid new e → SavesStop save durability sink settled stop old new e
+  saves_from did s = record {
+    reported = s.reported;
+    ended = s.ended;
+    order = then_follows old.events mid.events new.events [] (Closed durability ∷ replacing save durability) (did_events [] old mid did) s.order;
+    outs = s.outs;
+    rest = s.rest;
+    puts_only = grows_then [] (s.outs ++ s.rest) old mid new (grows_by [] old mid did) s.puts_only;
+    out = s.out;
+    saved = ⊎_elim (λ due. inl (due.0 ∙ ap (λ es. es ++ Closed durability ∷ []) (same_events did), due.1, due.2))
+        (λ stored. inr (stored_as (CameSince mid new) (CameSince old new) (did_came did) durability save settled stop.position e s.rest new.saved stored)) s.saved;
+  }
 
--- a stop that was asked about
-pub certain_if : (Came Later : Type 0) (saves : Type 0) (engine : Result (Unit {0}) Interruption) → (Came → Later) → (saves → OnErr engine Came) → saves → OnErr engine Later
-certain_if Came Later saves (Ok done) so certain there = tt
-certain_if Came Later saves (Err stop) so certain there = so (certain there)
+module _ (save : Option Text) (durability : Durability) (sink : SinkView) (settled : ℕ) (old mid new : FilesView) (did : Does [] old mid) where
+  closes_from : (puts : List Entry) (r : Result (Unit {0}) FileFault) → ClosesOut durability sink puts mid new r → ClosesOut durability sink puts old new r
+  closes_from puts r c = record {
+    file = c.file;
+    ended = c.ended;
+    noted = c.noted ∙ ap (λ es. es ++ Closed durability ∷ []) (same_events did);
+    puts_only = grows_then [] puts old mid new (grows_by [] old mid did) c.puts_only;
+  }
+
+  pub concludes_from : (engine : Result (Unit {0}) Interruption) (r : Result (Unit {0}) Ending) → Concludes save durability sink settled engine mid new r
+      → Concludes save durability sink settled engine old new r
+  concludes_from (Ok x) (Ok y) c = closes_from _ _ c
+  concludes_from (Ok x) (Err (Fault f)) c = (closes_from [] (Err f) c.0, c.1, did_came did (Unwritten sink.label) c.2)
+  concludes_from (Err s) (Err e) c = saves_from did c
+  concludes_from (Ok x) (Err e) c = absurd c
+  concludes_from (Err s) (Ok y) c = absurd c
+
+-- what was done while an output was ended
+pub record Concluded (save : Option Text) (durability : Durability) (engine : Result (Unit {0}) Interruption) (old new : FilesView) (r : Result (Unit {0}) Ending)
+    : Type 0 where
+  pub puts : List Entry
+  pub grows : PutsOnly puts old new
+  pub fault : IfErr r (λ e. is_usage e ≡ false)
+  pub order : Follows (Closed durability ∷ replacing save durability) old.events new.events
+  pub done : OnOk r (IsOk engine × (new.events ≡ old.events ++ Closed durability ∷ []))
+
+no_usage : (f : FileFault) (e : Ending) → IsEndingOf f e → is_usage e ≡ false
+no_usage f (Fault x) is = refl
+no_usage f (Unsaved x second) is = refl
+no_usage f e is = absurd is
+
+pub concluded : (save : Option Text) (durability : Durability) (sink : SinkView) (settled : ℕ) (engine : Result (Unit {0}) Interruption) (old new : FilesView)
+    (r : Result (Unit {0}) Ending) → Concludes save durability sink settled engine old new r → Concluded save durability engine old new r
+concluded save durability sink settled (Ok x) old new (Ok y) c = record {
+  puts = _;
+  grows = c.puts_only;
+  fault = tt;
+  order = longer (Closed durability ∷ []) (replacing save durability) old.events new.events (followed old.events new.events (Closed durability ∷ []) c.noted);
+  done = (refl, c.noted);
+}
+concluded save durability sink settled (Ok x) old new (Err (Fault f)) c = record {
+  puts = [];
+  grows = c.0.puts_only;
+  fault = refl;
+  order = longer (Closed durability ∷ []) (replacing save durability) old.events new.events (followed old.events new.events (Closed durability ∷ []) c.0.noted);
+  done = tt;
+}
+concluded save durability sink settled (Err s) old new (Err e) c = record { puts = c.outs ++ c.rest; grows = c.puts_only; fault = no_usage s.fault e c.reported; order = c.order; done = tt }
+concluded save durability sink settled (Ok x) old new (Err e) c = absurd c
+concluded save durability sink settled (Err s) old new (Ok y) c = absurd c

@@ -1,31 +1,28 @@
--- What was read of the files of a command, and why one of them can't be.
-use Rattle.std.proofs.Common.{◌≡◌, ◌∷◌, [], inl, inr, ap, refl, subst, List, ℕ, Option, ◌++◌, ◌<◌, ◌⊎◌, length, arith, false, Some, None, Result, Ok, Err, IfOk}
-use Rattle.std.specs.Prelude.{◌==◌}
-use Rattle.std.proofs.lemmas.Bool.{eqb-true, false_from_ne_true}
+-- What was read of the files of a command, and what it makes.
+use Rattle.std.proofs.Common.{◌≡◌, ◌∷◌, [], inl, inr, ap, refl, List, ℕ, Option, ◌++◌, ◌<◌, ◌⊎◌, ⊎_elim, length, arith, Some, None, subst}
+use Rattle.std.specs.Prelude.{IsSomeAnd}
 use Rattle.clap.specs.Words.{Text}
-use Rattle.age_io.specs.Io.{SourceView}
-use Rattle.age_fileset.specs.FileSet.{Event, FilesView, Outcome, Found, FoundOrEmpty, Gave, CameSince, Does, reading_of, with_outcomes}
-use Rattle.age_fileset.specs.declared.files.OpenFault.{OpenFault}
-use Rattle.age_fileset.proofs.OutcomeLemmas.{does_only, does_then, came_one, came_then, then_came, grows_by, gave_puts}
-use Rattle.age_command.specs.Files.{HoldsOnly}
-use Rattle.age_file.specs.declared.position.Position.{Position}
-use Rattle.std.proofs.lemmas.List.{length-append}
-use Rattle.std.specs.Borrow.{Bor}
-use Rattle.age_keys.specs.Scrypt.{IsAllowed}
-use Rattle.age_command.specs.Identities.{IsEnough, IsPassphraseIn, Makes}
-use Rattle.age_command.specs.declared.choice.Choice.TheVariants.{PassphraseFile}
+use Rattle.age_fault.specs.declared.fault.FileFault.{FileFault}
+use Rattle.age_fault.specs.declared.fault.FileFault.TheVariants.{BadPosition}
+use Rattle.age_command.specs.declared.ending.Ending.TheVariants.{Fault}
+use Rattle.age_io.specs.{SourceView}
+use Rattle.age_fileset.specs.{Event, FilesView, Outcome, Gave, CameSince, Does, reading_of, with_outcomes}
+use Rattle.age_fileset.proofs.{does_only, does_then, came_one, came_then, then_came, grows_by, gave_puts, all_as}
+use Rattle.age_command.specs.{HoldsOnly, IsEnough, IsPassphraseIn, Makes, Chooses, IsSecretGiven, MakesBy, MakesNone, file_of, identity_file}
+use Rattle.age_command.specs.declared.choice.Choice.TheVariants.{PassphraseFile, FileKey, SharedFile}
 use Rattle.age_command.specs.declared.identity.Identity.{Identity}
 use Rattle.age_command.specs.declared.identity.Identity.TheVariants.{ByPassphrase, ByFileKey, ByShared}
 use Rattle.age_command.specs.declared.ending.Ending.{Ending}
-use Rattle.age_command.specs.declared.ending.Ending.TheVariants.{Usage}
-use Rattle.age_cli_args.specs.Requests.{option_text}
-use Rattle.age_cli_args.specs.declared.request.Encrypting.{Encrypting}
-use Rattle.age_cli_args.specs.declared.request.Request.TheVariants.{Encrypt}
-use Rattle.age_command.specs.Orders.{random_name}
-use Rattle.age_command.specs.declared.ending.Usage.TheVariants.{BadPassphraseFile, BadRandomFile}
-use Rattle.age_cli.specs.Acts.{IsBlamed, IsUnusable}
-use Rattle.age_cli.specs.Commands.{WasRead, old_found, HoldsNoPassphrase, HoldsNoRandom}
-use Rattle.age_cli.proofs.OpeningLemmas.{holds_as, taken_as}
+use Rattle.std.proofs.lemmas.List.{length-append}
+use Rattle.std.specs.Borrow.{Bor}
+use Rattle.age_keys.specs.{IsAllowed}
+use Rattle.age_cli.specs.{IsUnusable, WasRead, HoldsNoPassphrase, HoldsNoRandom, HoldsNoPosition, OpensOf}
+use Rattle.age_cli.specs.inner.{EndsBy, IsBlamedBy, IsUnplaced, age_file_in}
+use Rattle.age_cli.specs.declared.output.Writing.{Writing}
+use Rattle.age_cli.proofs.OpeningLemmas.{ends_as, holds_as, taken_as}
+use Rattle.age_cli_args.specs.declared.request.Decrypting.{Decrypting}
+use Rattle.age_cli_args.specs.declared.request.IdentityOptions.{IdentityOptions}
+use Rattle.age_command.specs.declared.choice.Choice.{Choice}
 
 -- a file was opened, and then its reading was over
 module _ (How : Option (List ℕ) → Option ℕ → Outcome) (name : Text) (e : Event) (old mid new : FilesView) (did : Does (e ∷ []) old mid) (last : SourceView)
@@ -44,22 +41,6 @@ module _ (How : Option (List ℕ) → Option ℕ → Outcome) (name : Text) (e :
     over = then_came [] old mid new (grows_by (e ∷ []) old mid did) (Gave (reading_of name last)) (came_one mid new (Gave (reading_of name last)) (ap (λ v. v.outcomes) over));
   }
 
--- ---- The old text is found.
-
-not_first : (n : ℕ) → (n ≡ 0 → ⊥) → (n == 0) ≡ false
-not_first n other = false_from_ne_true (n == 0) (λ is. other (eqb-true n 0 is))
-
-module _ {In : Type 0} (read : In → SourceView) (size : In → Option ℕ) (p : Position) (name : Text) (before after : FilesView) where
-  pub old_first : (r : Result In OpenFault) → p.index ≡ 0 → IfOk r (λ s. CameSince before after (FoundOrEmpty name (read s).supply.left (size s)))
-      → IfOk r (λ s. CameSince before after (old_found p name (read s).supply.left (size s)))
-  old_first (Ok s) is came = rw is came
-  old_first (Err f) is came = tt
-
-  pub old_later : (r : Result In OpenFault) → (p.index ≡ 0 → ⊥) → IfOk r (λ s. CameSince before after (Found name (read s).supply.left (size s)))
-      → IfOk r (λ s. CameSince before after (old_found p name (read s).supply.left (size s)))
-  old_later (Ok s) other came = rw (not_first p.index other) came
-  old_later (Err f) other came = tt
-
 -- the property of a passphrase's file
 module _ (name : Bor Text) (log : ℕ) where
   no_words : (held : Option (List ℕ)) → ((pass : List ℕ) → IsPassphraseIn held pass → IsAllowed pass log → ⊥) → (i : Identity)
@@ -73,7 +54,7 @@ module _ (name : Bor Text) (log : ℕ) where
 
   pub pass_only : (Came : Outcome → Type 0) (held : Option (List ℕ)) → IsEnough Came (PassphraseFile name log) held
       → ((pass : List ℕ) → IsPassphraseIn held pass → IsAllowed pass log → ⊥) → HoldsOnly Came name.now (HoldsNoPassphrase log)
-  pass_only Came held enough none = holds_as Came Came (λ o came. came) name.now _ _ so_words (enough (no_words held none))
+  pass_only Came held enough none = holds_as (λ o came. came) so_words (enough (no_words held none))
 
 -- a file with random bytes has 48 of them
 pub too_few : (bytes : List ℕ) → length bytes < 48 → HoldsNoRandom bytes
@@ -92,16 +73,56 @@ too_few bytes few s is = absurd (omega (
   got (Some held) = held
   got None = []
 
--- an encryption has no passphrase, or no random bytes, or a name is in use
-module _ (Came Later : Outcome → Type 0) (so : (o : Outcome) → Came o → Later o) (a : Encrypting) (e : Ending) where
-  pub pass_blamed : ((e ≡ Usage BadPassphraseFile) × HoldsOnly Came a.pass.now (HoldsNoPassphrase a.log)) ⊎ IsUnusable Came None e
-      → IsBlamed Later (Encrypt a) e ⊎ IsUnusable Later None e
-  pass_blamed (inl (is, holds)) = inl (inr (inl (inl (is, holds_as Came Later so a.pass.now (HoldsNoPassphrase a.log) (HoldsNoPassphrase a.log) (λ bytes none. none) holds))))
-  pass_blamed (inr taken) = inr (taken_as Came Later so None e taken)
+-- a file doesn't hold what it has to, or a name is in use
+pub blamed_for : {Came Later : Outcome → Type 0} {Own GivesNone : Ending → Type 0} (w : Writing) → ((o : Outcome) → Came o → Later o)
+    → ((e : Ending) → Own e → GivesNone e) → (e : Ending) → EndsBy Came ⊥ (λ x. Own x ⊎ IsUnusable Came None x) e → EndsBy Later ⊥ (IsBlamedBy Later w GivesNone) e
+blamed_for w so own e by = ends_as so (λ no. no) (λ x. ⊎_elim (λ mine. inr (inl (own x mine))) (λ used. inr (inr (taken_as so (age_file_in w.content w.to.now) x used)))) e by
 
-  pub random_blamed : (name : Text) → name ≡ random_name (option_text a.random)
-      → ((e ≡ Usage BadRandomFile) × HoldsOnly Came name HoldsNoRandom) ⊎ IsUnusable Came None e
-      → IsBlamed Later (Encrypt a) e ⊎ IsUnusable Later None e
-  random_blamed name named (inl (is, holds)) =
-      inl (inr (inl (inr (is, subst (λ (n : Text). HoldsOnly Later n HoldsNoRandom) named (holds_as Came Later so name HoldsNoRandom HoldsNoRandom (λ bytes none. none) holds)))))
-  random_blamed name named (inr taken) = inr (taken_as Came Later so None e taken)
+-- what a part found, and what the whole found of it
+pub some_name : {Came Later : Outcome → Type 0} {How : Text → Outcome} → ((o : Outcome) → Came o → Later o) → (file : Option Text) → IsSomeAnd file (λ name. Came (How name))
+    → (name : Text) × Later (How name)
+some_name so (Some name) came = (name, so _ came)
+some_name so None never = absurd never
+
+module _ {Came Later : Outcome → Type 0} (so : (o : Outcome) → Came o → Later o) where
+  -- what the file gave that a choice names
+  secret_as : (name : Option Text) (held : Option (List ℕ)) → IsSecretGiven Came name held → IsSecretGiven Later name held
+  secret_as (Some name) (Some bytes) given = all_as Came Later so name bytes given
+  secret_as (Some name) None given = tt
+  secret_as None held given = tt
+
+  -- what a choice made of it is what the options make
+  pub opens_by : {d : Decrypting} {choice : Choice} (held : Option (List ℕ)) {identity : Identity} → Chooses d.identity choice → Makes choice held identity
+      → IsSecretGiven Came (file_of choice) held → OpensOf Later d identity
+  opens_by {choice = choice} held {identity = identity} chooses makes given = record {
+    given = held;
+    read = subst (λ (n : Option Text). IsSecretGiven Later n held) chooses.file (secret_as (file_of choice) held given);
+    makes = chooses.makes held identity makes;
+  }
+
+  pub opens_as : {d : Decrypting} {identity : Identity} → OpensOf Came d identity → OpensOf Later d identity
+  opens_as {d = d} opens = record { given = opens.given; read = secret_as (identity_file d.identity) opens.given opens.read; makes = opens.makes }
+
+  any_held : (known : List ℕ) (held other : Option (List ℕ)) (identity : Identity) → Makes (FileKey known) held identity → Makes (FileKey known) other identity
+  any_held known held other (ByFileKey key) makes = makes
+  any_held known held other (ByPassphrase words) makes = absurd makes
+  any_held known held other (ByShared shared) makes = absurd makes
+
+  file_none : (u : IdentityOptions) (choice : Choice) (name : Text) (file : Option Text) → Some name ≡ file
+      → ((held : Option (List ℕ)) (identity : Identity) → MakesBy held u identity → Makes choice held identity)
+      → HoldsOnly Came name (λ bytes. (identity : Identity) → Makes choice (Some bytes) identity → ⊥)
+      → IsSomeAnd file (λ name. HoldsOnly Later name (λ bytes. (identity : Identity) → MakesBy (Some bytes) u identity → ⊥))
+  file_none u choice name file is only holds =
+      subst (λ (o : Option Text). IsSomeAnd o (λ name. HoldsOnly Later name (λ bytes. (identity : Identity) → MakesBy (Some bytes) u identity → ⊥))) is
+      (holds_as so (λ bytes none identity makes. none identity (only (Some bytes) identity makes)) holds)
+
+  -- and if it makes nothing of it, the options make nothing
+  pub makes_none : (u : IdentityOptions) (choice : Choice) (held : Option (List ℕ)) → Chooses u choice → IsEnough Came choice held
+      → ((identity : Identity) → Makes choice held identity → ⊥) → MakesNone Later u
+  makes_none u (FileKey known) held chooses enough none = inl (λ other identity makes. none identity (any_held known other held identity (chooses.only other identity makes)))
+  makes_none u (PassphraseFile name most) held chooses enough none = inr (file_none u (PassphraseFile name most) name.now (identity_file u) chooses.file chooses.only (enough none))
+  makes_none u (SharedFile name) held chooses enough none = inr (file_none u (SharedFile name) name.now (identity_file u) chooses.file chooses.only (enough none))
+
+-- a file holds no position
+pub bad_position : {Came : Outcome → Type 0} {name : Text} (f : FileFault) → f ≡ BadPosition → HoldsOnly Came name HoldsNoPosition → IsUnplaced name Came (Fault f)
+bad_position f is holds = rw is (record { cause = holds })

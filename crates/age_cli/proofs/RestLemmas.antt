@@ -1,17 +1,16 @@
 -- What a decryption, or a resumed one, did whose position was found by reading the input once more.
-use Rattle.std.proofs.Common.{◌≡◌, ℕ, List, Option, Some, None, Bool, true, false, true≢false, sym, Result, Ok, Err, OnOk, IfOk, IfErr, IsErr}
-use Rattle.std.proofs.Common.{subst, refl, inl, inr, ⊎_elim}
+use Rattle.std.proofs.Common.{◌≡◌, ℕ, List, Option, Some, None, Bool, true, false, true≢false, sym, Result, Ok, Err, OnOk, IfOk, IfErr, IsErr, subst, refl, inl}
+use Rattle.std.proofs.Common.{inr, ⊎_elim}
 use Rattle.std.specs.Prelude.{is_some, IfSome, IsSomeAnd, min}
 use Rattle.std.proofs.lemmas.Option.{none-some}
 use Rattle.std.proofs.lemmas.Result.{IfErr-weaker}
 use Rattle.clap.specs.Words.{Text}
-use Rattle.age_io.specs.Io.{SinkView, SourceView}
-use Rattle.age_io.specs.Supply.{Supply, IsAtEnd}
+use Rattle.age_io.specs.{SinkView, SourceView, IsAtEnd}
+use Rattle.age_io.specs.Supply.{Supply}
 use Rattle.age_fault.specs.declared.fault.FileFault.{FileFault}
-use Rattle.age_file.proofs.AgainLawLemmas.{rest_kept, stops_kept}
-use Rattle.age_file.specs.Decrypts.{DecryptEnds, DecryptStops, DecryptsKeyed, FindsKey}
-use Rattle.age_file.specs.Resumes.{ResumePorts, resume_ports, ResumesKeyed, ResumeStops, StandsAt, StopsInSkipped, ResumeEnds}
-use Rattle.age_file.specs.Runs.{Ports, ports, Run, IsPositionOf}
+use Rattle.age_file.proofs.RunLemmas.{rest_kept, stops_kept}
+use Rattle.age_file.specs.{DecryptEnds, DecryptStops, DecryptsKeyed, FindsKey, ResumePorts, resume_ports, ResumesKeyed, ResumeStops, StandsAt, StopsInSkipped}
+use Rattle.age_file.specs.{ResumeEnds, Ports, ports, Run, IsPositionOf}
 use Rattle.age_file.specs.declared.decryption.Done.{Done}
 use Rattle.age_file.specs.declared.decryption.Stopped.{Stopped}
 use Rattle.age_file.specs.declared.position.Position.{Position}
@@ -19,19 +18,18 @@ use Rattle.age_file.specs.declared.position.PositionPolicy.{PositionPolicy}
 use Rattle.age_file.specs.declared.position.PositionPolicy.TheVariants.{Kept, Dropped}
 use Rattle.age_file.specs.declared.standing.Standing.{Standing}
 use Rattle.age_file.specs.declared.standing.Standing.TheVariants.{Before, Skipping, InPayload}
-use Rattle.age_fileset.specs.FileSet.{FilesView, CameSince, Outcome, Found, Gave, Settled, reading_of}
-use Rattle.age_cli_args.specs.Requests.{option_text}
+use Rattle.age_fileset.specs.{FilesView, CameSince, Outcome, Found, Gave, Settled, reading_of}
+use Rattle.age_cli_args.specs.{option_text}
 use Rattle.age_cli_args.specs.declared.request.Decrypting.{Decrypting}
 use Rattle.age_cli_args.specs.declared.request.ProgressOption.TheVariants.{Silent, Shown}
-use Rattle.age_command.specs.Identities.{allows_by, refuses_by}
+use Rattle.age_command.specs.{allows_by, refuses_by}
 use Rattle.age_command.specs.declared.ending.Ending.{Ending}
 use Rattle.age_command.specs.declared.identity.Identity.{Identity}
-use Rattle.age_cli.specs.Acts.{Engine, decrypt_engine, resume_engine, paths_of, kept_for, start_of, Finds, FindsAgain, StopsText}
-use Rattle.age_cli.specs.Commands.{WasRead, old_found}
-use Rattle.age_cli.specs.inner.Endings.{Concludes, opening_end}
-use Rattle.age_cli.specs.inner.Rereadings.{again_of, key_of, placed, ConcludesDecryption, ConcludesFound, IsFoundIn, RunsEngine, stopped_at}
+use Rattle.age_cli.specs.{Engine, decrypt_engine, resume_engine, paths_of, kept_for, start_of, Finds, FindsAgain, StopsText, WasRead, old_found}
+use Rattle.age_cli.specs.inner.{Concludes, opening_end, again_of, key_of, placed, ConcludesDecryption, ConcludesFound, IsFoundIn, RunsEngine, stopped_at}
 use Rattle.age_cli.proofs.EngineLemmas.{opening_ends, opening_stops, read_as, stopped_so}
-use Rattle.age_cli.proofs.ReadingsLemmas.{ended_with}
+use Rattle.age_cli.proofs.PutLemmas.{concluded}
+use Rattle.age_cli.proofs.FinalLemmas.{ended_with}
 
 kept_some : (save : Option Text) → is_some save ≡ true → Kept ≡ kept_for save
 kept_some None there = absurd (true≢false (sym there))
@@ -154,7 +152,8 @@ module _ {IsPorts : Ports → Type 0} {Later : Outcome → Type 0} {d : Decrypti
     certain = λ failed there. so.certain (stopped_so end failed) there;
     concludes = so.concludes;
     silent = x.silent;
-    shown = λ asked. shown asked (ended_with _ (opening_end end) r _ (opening_ends Ends (IsAtEnd after.source.supply) (λ d r did. (x.ends d r did).1) x.run end done) so.concludes.done);
+    shown = λ asked. shown asked (ended_with _ (opening_end end) r _ (opening_ends Ends (IsAtEnd after.source.supply) (λ d r did. (x.ends d r did).1) x.run end done)
+        (concluded (option_text d.save) d.durability after.sink so.settled (opening_end end) old new r so.concludes).done);
   }
 
   once : (end : Result Done Stopped) (r : Result (Unit {0}) Ending) → IfOk end (λ done. IsSomeAnd x.run (Ends done))

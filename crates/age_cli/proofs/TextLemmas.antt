@@ -1,35 +1,31 @@
 -- What a decryption leaves at OUT, over any set of files.
+use Rattle.std.proofs.lemmas.Result.{IfErr-weaker}
+use Rattle.age_cli.proofs.ObeyLemmas.{fault_no_usage}
 use Rattle.std.proofs.Common.{◌≡◌, ◌∙◌, ◌++◌, [], List, ℕ, ap, sym, subst, inl, inr, ⊎_elim, ◌⊎◌, true≢false, Option, Some, None, Result, Ok, Err}
 use Rattle.std.specs.Prelude.{IsSomeAnd, OnOk, IfErr, IsErrAnd}
 use Rattle.age_fault.specs.declared.fault.FileFault.{FileFault}
 use Rattle.age_fault.specs.declared.fault.FileFault.TheVariants.{Head, Key, NonceCut, OtherFile, PositionForged}
 use Rattle.age_file.proofs.GivenLemmas.{done_gave_file, done_gave_rest}
-use Rattle.age_file.specs.Decrypts.{DecryptStops}
-use Rattle.age_file.specs.Resumes.{resume_ports, InOldFails, InSkippedFails, ResumeStops}
+use Rattle.age_file.specs.{DecryptStops, resume_ports, InOldFails, InSkippedFails, ResumeStops, Ports, Run, PayloadFails}
 use Rattle.age_file.specs.declared.decryption.Stopped.{Stopped}
 use Rattle.age_file.specs.declared.position.Position.{Position}
-use Rattle.age_io.specs.Io.{SourceView, SinkView}
+use Rattle.age_file.specs.declared.position.PositionPolicy.{PositionPolicy}
+use Rattle.age_file.specs.declared.position.PositionPolicy.TheVariants.{Dropped}
+use Rattle.age_io.specs.{SourceView, SinkView}
+use Rattle.age_io.specs.declared.durability.Durability.{Durability}
 use Rattle.age_io.specs.Taken.{Appends}
-use Rattle.age_fileset.specs.FileSet.{Event, FilesView, Outcome, CameSince}
+use Rattle.age_fileset.specs.{Event, FilesView, Outcome, CameSince}
 use Rattle.clap.specs.Words.{Text}
 use Rattle.age_stanza.specs.declared.fault.HeadFault.{HeadFault}
 use Rattle.age_keys.specs.declared.fault.KeyFault.{KeyFault}
-use Rattle.age_file.specs.Runs.{Ports, Run, PayloadFails}
-use Rattle.age_file.specs.declared.position.PositionPolicy.{PositionPolicy}
-use Rattle.age_file.specs.declared.position.PositionPolicy.TheVariants.{Dropped}
-use Rattle.age_io.specs.declared.durability.Durability.{Durability}
-use Rattle.age_machine.specs.Ends.{EndedFile, TouchesItself, IsUntouched}
-use Rattle.age_command.specs.Identities.{allows_by, refuses_by}
-use Rattle.age_command.specs.Orders.{order_asked}
+use Rattle.age_machine.specs.{EndedFile, TouchesItself, IsUntouched}
+use Rattle.age_command.specs.{allows_by, refuses_by, order_asked, is_usage}
 use Rattle.age_command.specs.declared.ending.Ending.{Ending}
 use Rattle.age_command.specs.declared.ending.Ending.TheVariants.{Fault, Unsaved}
 use Rattle.age_command.specs.declared.identity.Identity.{Identity}
-use Rattle.age_cli.specs.Acts.{CameFirst, Engine, decrypt_engine, resume_engine, durability_of, HasEngineEnded, HasEngineStopped, HasNotBegun, OfEngine}
-use Rattle.age_cli.specs.Acts.{IsEndingOf, Paths, Returned, SparesOut, StopsText, IsUsage}
-use Rattle.age_cli.specs.Commands.{FailsFile, FailsInput, FailsReport}
-use Rattle.age_cli.specs.Runs.{World, Obeys, DoesOther, FailsWriting, IsRefusal}
-use Rattle.age_command.specs.Endings.{is_usage}
-use Rattle.age_cli.specs.Headline.{GivesFile, GivesRest, IsBeforeText, IsForText, LeavesText}
+use Rattle.age_cli.specs.{CameFirst, Engine, decrypt_engine, resume_engine, durability_of, HasEngineEnded, HasEngineStopped, HasNotBegun, OfEngine, IsEndingOf}
+use Rattle.age_cli.specs.{Paths, Returned, SparesOut, StopsText, IsUsage, FailsFile, FailsInput, FailsReport, World, Obeys, DoesOther, FailsWriting, IsRefusal}
+use Rattle.age_cli.specs.{GivesFile, GivesRest, IsBeforeText, IsForText, LeavesText}
 use Rattle.age_cli_args.specs.declared.request.Request.{Request}
 use Rattle.age_cli_args.specs.declared.request.Request.TheVariants.{Decrypt, Resume, Inspect, Drill}
 
@@ -151,18 +147,10 @@ module _ (IsPorts : Ports → Type 0) (before after : FilesView) (ending : Endin
 
 -- ---- What is refused writes nothing.
 
-fault_no_usage : (Fails : FileFault → Type 0) (was is : SinkView) (e : Ending) → FailsReport Fails was is e → IsUsage e → ⊥
-fault_no_usage Fails was is (Fault fault) fails usage = true≢false (sym usage)
-fault_no_usage Fails was is e fails usage = fails
-
-if_err : (r : Result (Unit {0}) Ending) (P Q : Ending → Type 0) → ((e : Ending) → P e → Q e) → IfErr r P → IfErr r Q
-if_err (Ok x) P Q so is = tt
-if_err (Err e) P Q so is = so e is
-
 -- a report that failed doesn't blame the command line
 pub reported_accepts : (r : Result (Unit {0}) Ending) (Fails : FileFault → Type 0) (was is : SinkView) → IfErr r (FailsReport Fails was is)
     → IfErr r (λ e. IsUsage e → ⊥)
-reported_accepts r Fails was is fails = if_err r (FailsReport Fails was is) (λ e. IsUsage e → ⊥) (fault_no_usage Fails was is) fails
+reported_accepts r Fails was is fails = IfErr-weaker r _ _ (fault_no_usage Fails was is) fails
 
 -- without a call for help all is refused
 pub no_help : (r : Result (Unit {0}) Ending) (Help Printed Unprinted : Type 0) (old new : SinkView) → OnOk r (Help × Printed)
@@ -178,7 +166,7 @@ module _ (words : List Text) (IsPorts : Ports → Type 0) (before after : World)
 
   unblamed : (r : Result (Unit {0}) Ending) (Fails : FileFault → Type 0) (was is : SinkView) → IfErr r (FailsReport Fails was is) → IsSilent r
   unblamed r Fails was is fails =
-      if_err r (FailsReport Fails was is) (λ e. IsUsage e → Unprinted) (λ e it usage. absurd (fault_no_usage Fails was is e it usage)) fails
+      IfErr-weaker r _ _ (λ e it usage. absurd (fault_no_usage Fails was is e it usage)) fails
 
   unprinted : (r : Result (Unit {0}) Ending) → Unprinted → IsSilent r
   unprinted (Ok x) none = tt
@@ -195,5 +183,5 @@ module _ (words : List Text) (IsPorts : Ports → Type 0) (before after : World)
   pub refused_silently : (r : Result (Unit {0}) Ending) → Obeys words IsPorts before after Unread Unprinted Unshown Progress r → IsSilent r
   refused_silently r (inl report) = unblamed r (FailsInput before.input after.input) before.output after.output report.report.stops
   refused_silently r (inr (inl did)) = answered r did.asked did.answers
-  refused_silently r (inr (inr declined)) = if_err r _ (λ e. IsUsage e → Unprinted) (λ e. ⊎_elim (λ refused usage. refused.1)
+  refused_silently r (inr (inr declined)) = IfErr-weaker r _ _ (λ e. ⊎_elim (λ refused usage. refused.1)
       (λ help usage. absurd (true≢false (sym usage ∙ ap is_usage help.1.0)))) declined.stops

@@ -1,32 +1,30 @@
 -- What a command does with files, done or stopped.
-use Rattle.std.specs.Prelude.{◌≡◌, ℕ, true, Result, Ok, Err, if◌then◌else◌, List, [], ◌∷◌, Option, Some}
-use Rattle.std.specs.Prelude.{None, is_some, ◌++◌, OnOk, IfErr, IsErrAnd, ◌≢◌, ◌⊎◌}
-use Rattle.std.specs.Prelude.{length, IfSome, IsSomeAnd, ◌<◌, ◌≤◌, ◌*◌, min, nat_lt}
+use Rattle.std.specs.Prelude.{◌≡◌, ℕ, true, Result, Ok, Err, if◌then◌else◌, List, [], ◌∷◌, Option, Some, None}
+use Rattle.std.specs.Prelude.{is_some, ◌++◌, OnOk, IfErr, IsErrAnd, ◌≢◌, ◌⊎◌, length, IfSome, IsSomeAnd, ◌<◌}
+use Rattle.std.specs.Prelude.{◌≤◌, ◌*◌, min, nat_lt}
 use Rattle.clap.specs.Words.{Text}
-use Rattle.age_io.specs.Io.{SourceView, SinkView, Shown as ShownOne, ShowsReading}
-use Rattle.age_io.specs.Supply.{Supply, IsAtEnd}
+use Rattle.age_io.specs.{SourceView, SinkView, Shown as ShownOne, ShowsReading, IsAtEnd}
+use Rattle.age_io.specs.declared.durability.Durability.{Durability}
+use Rattle.age_io.specs.declared.durability.Durability.TheVariants.{Buffered, Synced}
+use Rattle.age_io.specs.Supply.{Supply}
 use Rattle.age_fault.specs.declared.fault.FileFault.{FileFault}
 use Rattle.age_fault.specs.declared.fault.FileFault.TheVariants.{Read, Write, Memory, BadPosition}
-use Rattle.age_chunk.specs.Payload.{chunk_length}
-use Rattle.age_file.specs.Again.{IsTextBefore, IsFoundAgain}
-use Rattle.age_file.specs.Runs.{Ports, ports, Run}
-use Rattle.age_file.specs.Encrypts.{SecretView, Encrypts, EncryptFails}
-use Rattle.age_file.specs.Decrypts.{DecryptEnds, DecryptStops}
-use Rattle.age_file.specs.Resumes.{ResumePorts, resume_ports, ResumeEnds, ResumeStops, position_text}
+use Rattle.age_chunk.specs.{chunk_length}
+use Rattle.age_file.specs.{IsTextBefore, IsFoundAgain, Ports, ports, Run, SecretView, EncryptFails}
+use Rattle.age_file.specs.{DecryptEnds, DecryptStops, ResumePorts, resume_ports, ResumeEnds, ResumeStops}
+use Rattle.age_file.specs.{position_text}
 use Rattle.age_file.specs.declared.decryption.Done.{Done}
 use Rattle.age_file.specs.declared.encryption.Written.{Written}
 use Rattle.age_file.specs.declared.position.Position.{Position}
 use Rattle.age_file.specs.declared.position.PositionPolicy.{PositionPolicy}
 use Rattle.age_file.specs.declared.position.PositionPolicy.TheVariants.{Kept, Dropped}
-use Rattle.age_io.specs.declared.durability.Durability.{Durability}
-use Rattle.age_io.specs.declared.durability.Durability.TheVariants.{Buffered, Synced}
-use Rattle.age_machine.specs.Ends.{EndedFile, TouchesItself, IsThere, IsOnDisk, IsUntouched}
-use Rattle.age_machine.specs.Saved.{SavedFile, Saves}
 use Rattle.age_file.specs.declared.decryption.Stopped.{Stopped}
-use Rattle.age_fileset.specs.FileSet.{Event, FilesView, Outcome, Found, Absent, Unwritten, Settled}
-use Rattle.age_fileset.specs.FileSet.{Alike, OneStream, InUse, Terminal, CameSince, HasGivenAll}
-use Rattle.age_fileset.specs.FileSet.{Entry, entry, PutsOnly, puts_in}
-use Rattle.age_cli_args.specs.Requests.{option_text}
+use Rattle.age_file.specs.Encrypts.{Encrypts}
+use Rattle.age_machine.specs.{EndedFile, TouchesItself, IsThere, IsOnDisk, IsUntouched, SavedFile}
+use Rattle.age_machine.specs.Saved.{Saves}
+use Rattle.age_fileset.specs.{Event, FilesView, Outcome, Found, Absent, Unwritten, Settled, Alike, OneStream}
+use Rattle.age_fileset.specs.{InUse, Terminal, CameSince, HasGivenAll, Entry, entry, PutsOnly, puts_in}
+use Rattle.age_cli_args.specs.{option_text}
 use Rattle.age_cli_args.specs.declared.request.ClobberOption.{ClobberOption}
 use Rattle.age_cli_args.specs.declared.request.ClobberOption.TheVariants.{Refused}
 use Rattle.age_cli_args.specs.declared.request.Decrypting.{Decrypting}
@@ -35,18 +33,16 @@ use Rattle.age_cli_args.specs.declared.request.ProgressOption.{ProgressOption}
 use Rattle.age_cli_args.specs.declared.request.ProgressOption.TheVariants.{Silent, Shown}
 use Rattle.age_cli_args.specs.declared.request.Request.{Request}
 use Rattle.age_cli_args.specs.declared.request.Request.TheVariants.{Encrypt, Decrypt, Resume, Inspect, Drill}
-use Rattle.age_command.specs.Endings.{is_usage, EndsEarly}
+use Rattle.age_command.specs.{is_usage, EndsEarly, HasReason, HoldsOnly, allows_by, refuses_by, blame_by}
+use Rattle.age_command.specs.{identity_file, IsSecretGiven, MakesBy, MakesNone, Follows, Order, AreApart}
+use Rattle.age_command.specs.{NamesTwice, order_asked, random_name}
 use Rattle.age_command.specs.declared.ending.Ending.{Ending}
-use Rattle.age_command.specs.declared.ending.Ending.TheVariants.{Usage, Fault, Unsaved}
-use Rattle.age_command.specs.declared.ending.Usage.TheVariants.{SameFile, OutIsTerminal}
-use Rattle.age_command.specs.declared.ending.Usage.TheVariants.{BadPassphraseFile, BadRandomFile}
-use Rattle.age_command.specs.Files.{HasReason, HoldsOnly}
+use Rattle.age_command.specs.declared.ending.Ending.TheVariants.{Fault, Unsaved, Usage}
+use Rattle.age_command.specs.declared.ending.Usage.TheVariants.{SameFile, OutIsTerminal, BadPassphraseFile}
+use Rattle.age_command.specs.declared.ending.Usage.TheVariants.{BadRandomFile}
 use Rattle.age_command.specs.declared.identity.Identity.{Identity}
-use Rattle.age_command.specs.Identities.{allows_by, refuses_by, blame_by, identity_file}
-use Rattle.age_command.specs.Identities.{IsSecretGiven, MakesBy, MakesNone}
-use Rattle.age_command.specs.Orders.{Follows, Order, AreApart, NamesTwice, order_asked, random_name}
-use Rattle.age_cli.specs.Commands.{HoldsNoPassphrase, HoldsNoPosition, HoldsNoRandom}
-use Rattle.age_cli.specs.Commands.{HasSecret, WasRead, old_found}
+use Rattle.age_cli.specs.Commands.{HoldsNoPassphrase, HoldsNoPosition, HoldsNoRandom, HasSecret, WasRead}
+use Rattle.age_cli.specs.Commands.{old_found}
 
 -- ---- How a command or a run ended: with all done, or with an ending.
 
@@ -234,7 +230,7 @@ abbrev pub AreSame : (Came : Outcome → Type 0) → (IsPair : Text → Text →
 AreSame Came IsPair = (one : Text) × (other : Text) × IsPair one other
     × ((one ≡ other) ⊎ (Came (Alike one other) ⊎ Came (Alike other one)))
 
--- names that have to differ are the same so, or two of what is read lead to one stream
+-- two names that have to differ are equal or lead to one file, or two of what is read lead to one stream
 abbrev pub NamesOne : (Came : Outcome → Type 0) → Order → Type 0
 NamesOne Came order = AreSame Came (AreApart order.apart) ⊎ Came (OneStream order.read)
 

@@ -3,29 +3,25 @@ use Rattle.std.specs.Prelude.{◌≡◌, ℕ, List, [], ◌∷◌, ◌++◌, len
 use Rattle.std.specs.Prelude.{if◌then◌else◌, codes, None}
 use Rattle.std.specs.List.{flat_map}
 use Rattle.std.specs.Fmt.{decimal}
-use Rattle.age_io.specs.Io.{SourceView, SinkView}
+use Rattle.age_io.specs.{SourceView, SinkView}
 use Rattle.age_io.specs.Supply.{Supply}
 use Rattle.age_io.specs.Taken.{Taken, Appends}
-use Rattle.age_keys.specs.Scrypt.{IsAllowed}
-use Rattle.age_fault.specs.Faults.{HasRisen}
+use Rattle.age_keys.specs.{IsAllowed}
+use Rattle.age_fault.specs.{HasRisen}
 use Rattle.age_fault.specs.declared.fault.FileFault.{FileFault}
 use Rattle.age_fault.specs.declared.fault.FileFault.TheVariants.{Read, Write, Memory}
-use Rattle.age_file.specs.Encrypts.{SecretView}
-use Rattle.age_file.specs.Resumes.{NoPosition}
-use Rattle.age_file.specs.Runs.{HeadFails, NoHeadFault}
-use Rattle.age_file.specs.Reports.{IsReport}
+use Rattle.age_file.specs.{SecretView, NoPosition, HeadFails, NoHeadFault, IsReport}
 use Rattle.age_file.specs.Reports as file
 use Rattle.age_file.specs.declared.position.Position.{Position}
 use Rattle.age_file.specs.declared.report.Report.{Report}
 use Rattle.age_file.specs.declared.report.StanzaReport.{StanzaReport}
-use Rattle.age_fileset.specs.FileSet.{FilesView, CameSince, Outcome, Found, FoundOrEmpty, Unread, InUse}
-use Rattle.age_fileset.specs.FileSet.{Gave, reading_of, HasGiven, HasGivenAll}
-use Rattle.age_cli_args.specs.Requests.{option_text}
+use Rattle.age_fileset.specs.{FilesView, CameSince, Outcome, Found, FoundOrEmpty, Unread, InUse, Gave}
+use Rattle.age_fileset.specs.{reading_of, HasGiven, HasGivenAll}
+use Rattle.age_cli_args.specs.{option_text}
 use Rattle.age_cli_args.specs.declared.request.Encrypting.{Encrypting}
+use Rattle.age_command.specs.{random_name, IsPassphraseIn}
 use Rattle.age_command.specs.declared.ending.Ending.{Ending}
 use Rattle.age_command.specs.declared.ending.Ending.TheVariants.{Fault}
-use Rattle.age_command.specs.Orders.{random_name}
-use Rattle.age_command.specs.Identities.{IsPassphraseIn}
 use Rattle.clap.specs.Words.{Text}
 
 -- ---- What was read of a file.

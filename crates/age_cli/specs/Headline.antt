@@ -1,38 +1,36 @@
 -- When OUT holds nothing but what the file's writer wrote: the headline at the command line.
-use Rattle.std.specs.Prelude.{◌≡◌, ◌⊎◌, ℕ, ◌*◌, ◌≤◌, true, List, [], ◌++◌, length, take, Option}
-use Rattle.std.specs.Prelude.{Some, None, Result, Ok, Err, IfErr, IsErrAnd}
+use Rattle.std.specs.Prelude.{◌≡◌, ◌⊎◌, ℕ, ◌*◌, ◌≤◌, true, List, [], ◌++◌, length, take, Option, Some, None}
+use Rattle.std.specs.Prelude.{Result, Ok, Err, IfErr, IsErrAnd}
 use Rattle.clap.specs.Words.{Text}
-use Rattle.age_stanza.specs.Grammar.{HeadText}
-use Rattle.age_chunk.specs.Payload.{chunk_count, chunk_length, block_length, chunk_limit}
-use Rattle.age_io.specs.Io.{Shown, SourceView, SinkView}
-use Rattle.age_stream.specs.Headline.{IsPrefixOf}
-use Rattle.age_keys.specs.Keys.{Opens}
-use Rattle.age_file.specs.Runs.{Ports, ports, Run, IsFromStart, IsTexts, IsAuthenticRun, HasId, HasTag}
+use Rattle.age_stanza.specs.{HeadText}
+use Rattle.age_chunk.specs.{chunk_count, chunk_length, block_length, chunk_limit}
+use Rattle.age_io.specs.{Shown, SourceView, SinkView}
+use Rattle.age_io.specs.declared.durability.Durability.{Durability}
+use Rattle.age_io.specs.declared.durability.Durability.TheVariants.{Synced}
+use Rattle.age_stream.specs.{IsPrefixOf}
+use Rattle.age_keys.specs.{Opens}
+use Rattle.age_file.specs.{Ports, ports, Run, IsFromStart, IsTexts, IsAuthenticRun, HasId, HasTag}
 use Rattle.age_file.specs.declared.position.Position.{Position}
-use Rattle.age_cli_args.specs.Requests.{Requests, IsForHelp, option_text}
+use Rattle.age_file.specs.{GaveFile, GaveOld, GaveRest, position_text}
+use Rattle.age_cli_args.specs.Requests.{Requests}
+use Rattle.age_cli_args.specs.{IsForHelp, option_text}
 use Rattle.age_cli_args.specs.declared.request.Decrypting.{Decrypting}
 use Rattle.age_cli_args.specs.declared.request.Request.TheVariants.{Encrypt, Decrypt, Resume}
 use Rattle.age_cli_args.specs.declared.request.Resuming.{Resuming}
-use Rattle.age_command.specs.Identities.{allows_by, identity_file, MakesBy}
 use Rattle.age_cli_args.specs.declared.request.IdentityOptions.{IdentityOptions}
+use Rattle.age_cli_args.specs.declared.request.Request.{Request}
+use Rattle.age_command.specs.{allows_by, identity_file, MakesBy}
 use Rattle.age_command.specs.declared.identity.Identity.{Identity}
+use Rattle.age_command.specs.declared.ending.Ending.{Ending}
 use Rattle.age_fault.specs.declared.fault.FileFault.{FileFault}
 use Rattle.age_fault.specs.declared.fault.FileFault.TheVariants.{Head, Key, NonceCut, OtherFile}
 use Rattle.age_fault.specs.declared.fault.FileFault.TheVariants.{PositionForged}
-use Rattle.age_cli_args.specs.declared.request.Request.{Request}
-use Rattle.age_file.specs.InARow.{GaveFile, GaveOld, GaveRest}
-use Rattle.age_fileset.specs.FileSet.{Files, FilesView, Outcome, CameSince, HasGivenAll, Shelf}
-use Rattle.age_fileset.specs.FileSet.{seen_in, entry_of}
-use Rattle.age_file.specs.Resumes.{position_text}
-use Rattle.age_cli.specs.Commands.{WasRead, old_found}
-use Rattle.age_io.specs.declared.durability.Durability.{Durability}
-use Rattle.age_io.specs.declared.durability.Durability.TheVariants.{Synced}
-use Rattle.age_machine.specs.Ends.{EndedFile, IsThere, IsOnDisk}
-use Rattle.age_cli.specs.Acts.{Acts, IsEndingOf, OpensOf, Paths, paths_of, Returned, ShowsProgress}
-use Rattle.age_cli.specs.Acts.{SparesOut, IsUsage}
+use Rattle.age_fileset.specs.{Files, FilesView, Outcome, CameSince, HasGivenAll, Shelf, seen_in, entry_of}
+use Rattle.age_cli.specs.Commands.{WasRead, old_found, FailsReport}
+use Rattle.age_machine.specs.{EndedFile, IsThere, IsOnDisk}
+use Rattle.age_cli.specs.Acts.{Acts, IsEndingOf, OpensOf, Paths, paths_of, Returned, ShowsProgress, SparesOut}
+use Rattle.age_cli.specs.Acts.{IsUsage}
 use Rattle.age_cli.specs.Runs.{World, Runs, Declines, Obeys, IsRefusal}
-use Rattle.age_cli.specs.Commands.{FailsReport}
-use Rattle.age_command.specs.declared.ending.Ending.{Ending}
 
 -- ---- What the options and the files make, in memory.
 

@@ -1,22 +1,23 @@
 -- What a run does with its words, its files and its streams, and what its status says.
-use Rattle.std.specs.Prelude.{◌≡◌, ◌⊎◌, ◌∷◌, ℕ, true, List, [], Option, Some, None, is_some}
-use Rattle.std.specs.Prelude.{Result, OnOk, IfErr, IsErrAnd}
+use Rattle.std.specs.Prelude.{◌≡◌, ◌⊎◌, ◌∷◌, ℕ, true, List, [], Option, Some, None, is_some, Result, OnOk}
+use Rattle.std.specs.Prelude.{IfErr, IsErrAnd}
 use Rattle.age_io.specs.Taken.{Appends}
 use Rattle.clap.specs.Words.{Text}
-use Rattle.age_io.specs.Io.{SourceView, SinkView}
+use Rattle.age_io.specs.{SourceView, SinkView}
+use Rattle.age_fault.specs.{HasRisen}
 use Rattle.age_fault.specs.declared.fault.FileFault.{FileFault}
-use Rattle.age_fault.specs.Faults.{HasRisen}
 use Rattle.age_fault.specs.declared.fault.FileFault.TheVariants.{Write, Memory}
-use Rattle.age_file.specs.Runs.{Ports}
-use Rattle.age_fileset.specs.FileSet.{FilesView, CameSince, Does, Opened}
-use Rattle.age_cli_args.specs.Requests.{IsForHelp, Requests, option_text}
+use Rattle.age_file.specs.{Ports}
+use Rattle.age_fileset.specs.{FilesView, CameSince, Does, Opened}
+use Rattle.age_cli_args.specs.{IsForHelp, option_text}
 use Rattle.age_cli_args.specs.declared.request.Request.{Request}
 use Rattle.age_cli_args.specs.declared.request.Request.TheVariants.{Inspect, Drill}
-use Rattle.age_command.specs.Endings.{ReportsEnding}
+use Rattle.age_cli_args.specs.Requests.{Requests}
+use Rattle.age_command.specs.{ReportsEnding}
 use Rattle.age_command.specs.declared.ending.Ending.{Ending}
-use Rattle.age_command.specs.declared.ending.Ending.TheVariants.{Words, Usage, Fault, Unsaved}
+use Rattle.age_command.specs.declared.ending.Ending.TheVariants.{Words, Fault, Unsaved, Usage}
 use Rattle.age_command.specs.declared.ending.Usage.TheVariants as why
-use Rattle.age_command.specs.Orders.{Begins, order_asked}
+use Rattle.age_command.specs.{Begins, order_asked}
 use Rattle.age_cli.specs.Acts.{Acts, IsUsage, status_by}
 use Rattle.age_cli.specs.Commands.{Reports, ReportsFile, FailsReport, FailsInput, FailsFile}
 

@@ -1,4 +1,6 @@
 pub mod Endings
 pub mod Rereadings
 pub mod Openings
-pub mod Reported
+unfoldable pub use Endings.*
+unfoldable pub use Rereadings.*
+unfoldable pub use Openings.*

@@ -1,94 +1,48 @@
 //! The command that decrypts a file.
 
-ghost use Rattle.std.specs.Prelude.{◌≡◌, true, ℕ, List, Some, IfOk};
-ghost use Rattle.age_file.specs.Decrypts.{DecryptsKeyed};
-ghost use Rattle.age_file.specs.Runs.{ports};
-ghost use Rattle.age_cli_args.specs.Requests.{option_text};
+ghost use Rattle.std.specs.Prelude.{◌≡◌, ℕ, List};
+ghost use Rattle.age_file.specs.{DecryptsKeyed, ports};
+ghost use Rattle.age_cli_args.specs.{option_text};
 ghost use Rattle.age_cli_args.specs.declared.request.ProgressOption.TheVariants.{Silent, Shown};
 ghost use Rattle.age_cli_args.specs.declared.request.Request.TheVariants.{Decrypt};
-ghost use Rattle.age_command.specs.Identities.{IsEnough, IsSecretGiven, file_bytes, file_of, allows_by};
-ghost use Rattle.age_command.specs.Identities.{refuses_by};
-ghost use Rattle.age_io.specs.Io.{Named};
-ghost use Rattle.age_fileset.specs.FileSet.{CameSince, FilesView, Outcome, passed_names};
-ghost use Rattle.age_command.specs.Orders.{opening_event, AreApart, order_asked};
-ghost use Rattle.age_command.specs.Endings.{Tells};
-ghost use Rattle.age_cli.specs.Acts.{Acts, PortsOf, ShowsProgress, ShowsReadings, ShowsRun};
-ghost use Rattle.age_cli.specs.Acts.{decrypt_engine, kept_for, paths_of};
-ghost use Rattle.age_cli.specs.inner.Openings.{BlamesNames, Compares, IsReadAs, Judges};
-ghost use Rattle.age_cli.specs.inner.Rereadings.{RunsEngine};
+ghost use Rattle.age_command.specs.{NamesTwice, Tells, allows_by, identity_order, refuses_by};
+ghost use Rattle.age_io.specs.{Named};
+ghost use Rattle.age_fileset.specs.{CameSince, FilesView, Outcome};
+ghost use Rattle.age_cli.specs.Acts.{Acts};
+ghost use Rattle.age_cli.specs.{PortsOf, ShowsProgress, ShowsReadings, ShowsRun, decrypt_engine, kept_for};
+ghost use Rattle.age_cli.specs.{OpensNone, OpensOf, paths_of};
+ghost use Rattle.age_cli.specs.inner.{EndsBy, IsBlamedBy, OpensFiles, RunsEngine, order_in};
 
-use crate::output::{Content, Output, begin_meter, end_meter, open_both};
+use crate::output::{Content, Writing, begin_meter, check_names, end_meter, open_both};
 use crate::reread::{Decrypted, can_reread, conclude_decryption, positions_at_first};
 use age_cli_args::{Decrypting, ProgressOption};
-use age_command::{Announcement, Choice, Ending, Identity, Usage};
+use age_command::{Announcement, Choice, Ending, Identity};
 use age_file::{Done, PositionPolicy, Source, Stopped, decrypt_keyed, read_again};
 use age_fileset::FileSet;
 use age_io::{Meter, Metered, Sink};
 use age_keys::KnownKey;
 use std::alloc::Global;
 
-/// Whether a name is given, and stands for the same file as another.
-pub(crate) fn is_given_as<F: FileSet>(files: &mut F, given: Option<&str>, name: &str) -> bool
-    ensures { Compares (F.view files.old) (F.view files.new) result
-        (λ one other. (option_text given.entry ≡ Some one) × (name.now ≡ other)) }
-{
-    match given {
-        Some(given) => files.is_same(given, name),
-        None => false,
-    }
-}
-
-/// Whether a name stands for a file that a decryption reads: its input, or the file of what opens
-/// that.
-fn is_read<F: FileSet>(files: &mut F, asked: &Decrypting<'_>, name: &str) -> bool
-    ensures { Compares (F.view files.old) (F.view files.new) result
-        (λ one other. IsReadAs asked.now one × (name.now ≡ other)) }
-{
-    files.is_same(asked.from, name)
-        || is_given_as(files, asked.identity.pass, name)
-        || is_given_as(files, asked.identity.shared, name)
-}
-
-/// Whether two files that have to differ are one: OUT must differ from each file that is read, and
-/// the file of `--save` from all of these and from OUT.
-pub(crate) fn names_a_file_twice<F: FileSet>(files: &mut F, asked: &Decrypting<'_>) -> bool
-    ensures { Compares (F.view files.old) (F.view files.new) result
-        (AreApart (order_asked (Decrypt asked.now)).apart) }
-{
-    if is_read(files, asked, asked.to) {
-        return true;
-    }
-    let Some(save) = asked.save else {
-        return false;
-    };
-    if files.is_same(save, asked.to) {
-        return true;
-    }
-    is_read(files, asked, save)
-}
-
-/// Reads the passphrase or shared-secret file, if the options name one. Refuses first if two names
+/// What opens the input, by the options and the file that they name. Refuses first if two names
 /// that must differ are one file, or two names of what is read stand for one stream.
-pub(crate) fn read_secret<F: FileSet>(
+pub(crate) fn identify<F: FileSet>(
     alloc: Global,
     files: &mut F,
-    choice: &Choice<'_>,
-    is_file_named_twice: bool,
-    read: &[Option<&str>],
-) -> Result<Option<Vec<u8>>, Ending>
-    ensures given { IfOk result (λ secret. IsSecretGiven (CameSince (F.view files.old)
-        (F.view files.new)) (file_of choice.now) (file_bytes secret)) }
-    ensures enough { IfOk result (λ secret. IsEnough (CameSince (F.view files.old)
-        (F.view files.new)) choice.now (file_bytes secret)) }
-    ensures judges { Judges (opening_event (file_of choice.now)) (F.view files.old) (F.view files.new)
-        (is_file_named_twice ≡ true) (BlamesNames (CameSince (F.view files.old) (F.view files.new))
-        is_file_named_twice (passed_names read.now)) result }
+    asked: &Decrypting<'_>,
+    writing: &Writing<'_>,
+) -> Result<Identity, Ending>
+    ensures { OpensFiles (identity_order (option_text asked.now.identity.pass)
+        (option_text asked.now.identity.shared))
+        (identity_order (option_text asked.now.identity.pass) (option_text asked.now.identity.shared))
+        (NamesTwice (order_in writing.now).apart) (λ Came. EndsBy Came ⊥ (IsBlamedBy Came
+        writing.now (OpensNone Came asked.now.identity)))
+        (F.view files.old) (F.view files.new)
+        (OpensOf (CameSince (F.view files.old) (F.view files.new)) asked.now) result }
 {
-    if is_file_named_twice {
-        return Err(Ending::Usage(Usage::SameFile));
-    }
-    files.check_streams(alloc, read)?;
-    Ok(choice.read(alloc, files)?)
+    let choice = Choice::of(&asked.identity)?;
+    check_names(alloc, files, writing)?;
+    let secret = choice.read(alloc, files)?;
+    Ok(choice.identity(secret)?)
 }
 
 /// How a decryption ended, with the key that opened the input and with the input.
@@ -211,20 +165,20 @@ pub fn decrypt_file<F: FileSet, E: Sink, P: Meter>(
         (P.shown progress.new)) result }
 {
     *announced = Announcement::Unmade;
-    let is_file_named_twice = names_a_file_twice(files, asked);
-    let choice = Choice::of(&asked.identity)?;
-    let read = [asked.identity.pass, asked.identity.shared, Some(asked.from)];
-    let secret = read_secret(alloc, files, &choice, is_file_named_twice, &read)?;
-    let identity = choice.identity(secret)?;
-    let output = Output {
-        to: asked.to,
-        save: asked.save,
+    let writing = Writing {
+        first: asked.identity.pass,
+        second: asked.identity.shared,
         position: None,
-        durability: asked.durability,
+        old: None,
+        from: asked.from,
+        to: asked.to,
         clobber: asked.clobber,
+        save: asked.save,
+        durability: asked.durability,
         content: Content::Plaintext,
     };
-    let (source, out) = open_both(alloc, files, asked.from, &output)?;
+    let identity = identify(alloc, files, asked, &writing)?;
+    let (source, out) = open_both(alloc, files, &writing)?;
     decrypt_opened(
         alloc, files, asked, identity, source, out, faults, announced, progress,
     )

@@ -1,30 +1,28 @@
 //! The command that encrypts a file.
 
-ghost use Rattle.std.specs.Prelude.{◌≡◌, ◌⊎◌, ◌<◌, [], ◌∷◌, ℕ, List, length};
-ghost use Rattle.std.specs.Prelude.{Some, None, true, IfOk, IfErr, IfSome, IfNone};
-ghost use Rattle.age_io.specs.Io.{Named, Origin};
-ghost use Rattle.age_io.specs.Supply.{Consumes, IsAtEnd};
-ghost use Rattle.age_fileset.specs.FileSet.{Opened, Does, CameSince, HasGiven, HasGivenAll};
-ghost use Rattle.age_cli_args.specs.Requests.{option_text};
+ghost use Rattle.std.specs.Prelude.{◌≡◌, ◌⊎◌, ◌<◌, [], ◌∷◌, ℕ, List, length, Some, None, IfOk, IfErr};
+ghost use Rattle.std.specs.Prelude.{IfSome, IfNone};
+ghost use Rattle.age_io.specs.{Named};
+ghost use Rattle.age_fileset.specs.{Opened, CameSince, HasGiven, HasGivenAll};
+ghost use Rattle.age_cli_args.specs.{option_text};
 ghost use Rattle.age_cli_args.specs.declared.request.Request.TheVariants.{Encrypt};
-ghost use Rattle.age_command.specs.Endings.{EndsEarly, is_usage, Tells};
-ghost use Rattle.age_command.specs.Files.{HasReason, HoldsOnly};
-ghost use Rattle.age_file.specs.Encrypts.{Encrypts, EncryptFails};
-ghost use Rattle.age_file.specs.Runs.{ports};
 ghost use Rattle.age_cli_args.specs.declared.request.ProgressOption.TheVariants.{Silent, Shown};
-ghost use Rattle.age_command.specs.Identities.{IsPassphraseIn, file_bytes};
-ghost use Rattle.age_command.specs.Files.{without_line_feed};
-ghost use Rattle.age_keys.specs.Scrypt.{IsAllowed};
-ghost use Rattle.age_command.specs.Orders.{AreApart, NamesTwice, order_asked, random_name};
-ghost use Rattle.age_command.specs.declared.ending.Ending.TheVariants.{Fault, Usage as UsageEnding};
-ghost use Rattle.age_fault.specs.declared.fault.FileFault.TheVariants.{Read, Write};
+ghost use Rattle.age_command.specs.{Tells, HoldsOnly, IsPassphraseIn, file_bytes, without_line_feed};
+ghost use Rattle.age_command.specs.{NamesTwice, random_name};
 ghost use Rattle.age_command.specs.declared.ending.Usage.TheVariants.{BadPassphraseFile, BadRandomFile};
-ghost use Rattle.age_cli.specs.Acts.{Acts, IsBlamed, IsUnusable, PortsOf, ShowsProgress, ShowsRun};
+ghost use Rattle.age_file.specs.Encrypts.{Encrypts};
+ghost use Rattle.age_file.specs.{EncryptFails, ports};
+ghost use Rattle.age_keys.specs.{IsAllowed};
+ghost use Rattle.age_command.specs.declared.ending.Ending.TheVariants.{Usage as UsageEnding};
+ghost use Rattle.age_cli.specs.Acts.{Acts, IsUnusable, PortsOf, ShowsProgress, ShowsRun};
 ghost use Rattle.age_cli.specs.Commands.{HoldsNoPassphrase, HoldsNoRandom, MakesSecret};
-ghost use Rattle.age_cli.specs.inner.Openings.{Compares, Judges, IsRandom, IsMaterialGiven};
+ghost use Rattle.age_cli.specs.inner.Openings.{EndsBy, IsBlamedBy, IsMaterialGiven, IsRandom};
+ghost use Rattle.age_cli.specs.inner.Openings.{LacksMaterial, OpensFiles, order_in};
 
 use crate::interruption::sealing_end;
-use crate::output::{Content, Output, begin_meter, conclude, end_meter, open_both};
+use crate::output::{
+    Content, Writing, begin_meter, check_names, conclude, end_meter, open_both, open_in,
+};
 use age_cli_args::{Encrypting, ProgressOption};
 use age_command::{Announcement, Choice, Ending, Usage, read_first, trimmed};
 use age_file::{FileFault, Secret, Source, Written, encrypt};
@@ -45,41 +43,22 @@ fn random_of(bytes: &[u8]) -> Option<FileRandom>
     Some(FileRandom::of(front))
 }
 
-/// The random parts, from the first 48 bytes of a source.
-fn random_in<S: Source>(alloc: Global, source: &mut S) -> Result<FileRandom, Ending>
-    ensures read { IfOk result (λ r. (bytes : List ℕ) × Consumes (S.view source.old).supply
-        (S.view source.new).supply bytes × IsRandom bytes r) }
-    ensures short { IfErr result (λ e. is_usage e ≡ true → (e ≡ UsageEnding BadRandomFile)
-        × ((bytes : List ℕ) × Consumes (S.view source.old).supply (S.view source.new).supply bytes
-        × IsAtEnd (S.view source.new).supply × (length bytes < 48))) }
-    ensures began { (from : Origin) → S.began source.old from → S.began source.new from }
-    ensures early { IfErr result EndsEarly }
-    ensures failed { IfErr result (λ e. e ≡ Fault Read → (S.view source.new).failing ≡ true) }
-    ensures only { IfErr result (λ e. e ≡ Fault Write → ⊥) }
+/// The random parts, from the first 48 bytes of a file.
+fn read_random<F: FileSet>(alloc: Global, files: &mut F, name: &str) -> Result<FileRandom, Ending>
+    ensures { OpensFiles (Opened name.now ∷ []) (Opened name.now ∷ []) ⊥ (λ Came. EndsBy Came ⊥
+        (λ e. ((e ≡ UsageEnding BadRandomFile) × HoldsOnly Came name.now HoldsNoRandom)
+        ⊎ IsUnusable Came None e)) (F.view files.old) (F.view files.new)
+        (λ r. (bytes : List ℕ) × HasGiven (CameSince (F.view files.old) (F.view files.new))
+        name.now bytes × IsRandom bytes r) result }
 {
-    let bytes = read_first(alloc, source, RANDOM_LEN)?;
+    let mut source = open_in(alloc, files, name, false)?;
+    let read = read_first(alloc, &mut source, RANDOM_LEN);
+    files.finish(source);
+    let bytes = read?;
     match random_of(bytes.as_slice()) {
         Some(random) => Ok(random),
         None => Err(Ending::Usage(Usage::BadRandomFile)),
     }
-}
-
-/// The random parts, from the first 48 bytes of a file.
-fn read_random<F: FileSet>(alloc: Global, files: &mut F, name: &str) -> Result<FileRandom, Ending>
-    ensures does { Does (Opened name.now ∷ []) (F.view files.old) (F.view files.new) }
-    ensures given { IfOk result (λ r. (bytes : List ℕ)
-        × HasGiven (CameSince (F.view files.old) (F.view files.new)) name.now bytes
-        × IsRandom bytes r) }
-    ensures short { IfErr result (λ e. is_usage e ≡ true → ((e ≡ UsageEnding BadRandomFile)
-        × HoldsOnly (CameSince (F.view files.old) (F.view files.new)) name.now HoldsNoRandom)
-        ⊎ IsUnusable (CameSince (F.view files.old) (F.view files.new)) None e) }
-    ensures early { IfErr result EndsEarly }
-    ensures reason { IfErr result (HasReason (CameSince (F.view files.old) (F.view files.new))) }
-{
-    let mut source = files.open(alloc, name)?;
-    let random = random_in(alloc, &mut source);
-    files.finish(source);
-    random
 }
 
 /// The bytes of a file, if they hold a passphrase for this work factor.
@@ -106,15 +85,12 @@ fn read_pass<F: FileSet>(
     files: &mut F,
     asked: &Encrypting<'_>,
 ) -> Result<Vec<u8>, Ending>
-    ensures does { Does (Opened asked.now.pass.now ∷ []) (F.view files.old) (F.view files.new) }
-    ensures early { IfErr result EndsEarly }
-    ensures reason { IfErr result (HasReason (CameSince (F.view files.old) (F.view files.new))) }
-    ensures given { IfOk result (λ v. HasGivenAll (CameSince (F.view files.old) (F.view files.new))
-        asked.now.pass.now v.items) }
-    ensures refused { IfErr result (λ e. is_usage e ≡ true → ((e ≡ UsageEnding BadPassphraseFile)
-        × HoldsOnly (CameSince (F.view files.old) (F.view files.new)) asked.now.pass.now
-        (HoldsNoPassphrase asked.now.log))
-        ⊎ IsUnusable (CameSince (F.view files.old) (F.view files.new)) None e) }
+    ensures { OpensFiles (Opened asked.now.pass.now ∷ []) (Opened asked.now.pass.now ∷ []) ⊥
+        (λ Came. EndsBy Came ⊥ (λ e. ((e ≡ UsageEnding BadPassphraseFile)
+        × HoldsOnly Came asked.now.pass.now (HoldsNoPassphrase asked.now.log))
+        ⊎ IsUnusable Came None e)) (F.view files.old) (F.view files.new)
+        (λ v. HasGivenAll (CameSince (F.view files.old) (F.view files.new)) asked.now.pass.now
+        v.items) result }
 {
     let choice = Choice::PassphraseFile(asked.pass, asked.log);
     let held = choice.read(alloc, files)?;
@@ -141,38 +117,24 @@ fn random_name<'a>(asked: &Encrypting<'a>) -> &'a str
     }
 }
 
-/// Whether the output is one of the files that are read.
-fn names_out_twice<F: FileSet>(files: &mut F, asked: &Encrypting<'_>) -> bool
-    ensures { Compares (F.view files.old) (F.view files.new) result
-        (AreApart (order_asked (Encrypt asked.now)).apart) }
-{
-    files.is_same(asked.from, asked.to)
-        || files.is_same(asked.pass, asked.to)
-        || files.is_same(random_name(asked), asked.to)
-}
-
 /// What the secret is made of, from the files of the passphrase and of random bytes. These aren't
 /// read if the output is one of the files that are, or a stream would be read twice.
 fn read_material<F: FileSet>(
     alloc: Global,
     files: &mut F,
     asked: &Encrypting<'_>,
+    random_name: &str,
+    writing: &Writing<'_>,
 ) -> Result<Material, Ending>
-    ensures given { IfOk result
-        (IsMaterialGiven (CameSince (F.view files.old) (F.view files.new)) asked.now) }
-    ensures judges { Judges
-        (Opened asked.now.pass.now ∷ Opened (random_name (option_text asked.now.random)) ∷ [])
-        (F.view files.old) (F.view files.new) (NamesTwice (order_asked (Encrypt asked.now)).apart)
-        (IsBlamed (CameSince (F.view files.old) (F.view files.new)) (Encrypt asked.now)) result }
+    ensures { OpensFiles (Opened asked.now.pass.now ∷ Opened random_name.now ∷ [])
+        (Opened asked.now.pass.now ∷ Opened random_name.now ∷ [])
+        (NamesTwice (order_in writing.now).apart) (λ Came. EndsBy Came ⊥ (IsBlamedBy Came
+        writing.now (LacksMaterial Came asked.now random_name.now)))
+        (F.view files.old) (F.view files.new)
+        (IsMaterialGiven (CameSince (F.view files.old) (F.view files.new)) asked.now
+        random_name.now) result }
 {
-    if names_out_twice(files, asked) {
-        return Err(Ending::Usage(Usage::SameFile));
-    }
-    let random_name = random_name(asked);
-    files.check_streams(
-        alloc,
-        &[Some(asked.pass), Some(random_name), Some(asked.from)],
-    )?;
+    check_names(alloc, files, writing)?;
     let pass = read_pass(alloc, files, asked)?;
     let random = read_random(alloc, files, random_name)?;
     Ok(Material { pass, random })
@@ -267,17 +229,22 @@ pub fn encrypt_file<F: FileSet, E: Sink, P: Meter>(
         (P.shown progress.new)) result }
 {
     *announced = Announcement::Unmade;
-    let material = read_material(alloc, files, asked)?;
-    let secret = secret_of(asked, &material)?;
-    let output = Output {
-        to: asked.to,
-        save: None,
+    let random_name = random_name(asked);
+    let writing = Writing {
+        first: Some(asked.pass),
+        second: Some(random_name),
         position: None,
-        durability: asked.durability,
+        old: None,
+        from: asked.from,
+        to: asked.to,
         clobber: asked.clobber,
+        save: None,
+        durability: asked.durability,
         content: Content::AgeFile,
     };
-    let (source, mut out) = open_both(alloc, files, asked.from, &output)?;
+    let material = read_material(alloc, files, asked, random_name, &writing)?;
+    let secret = secret_of(asked, &material)?;
+    let (source, mut out) = open_both(alloc, files, &writing)?;
     let Sealed { end, source } = seal_text(
         alloc, files, asked, &secret, source, &mut out, progress,
     );
@@ -286,8 +253,8 @@ pub fn encrypt_file<F: FileSet, E: Sink, P: Meter>(
         alloc,
         files,
         out,
-        output.save,
-        output.durability,
+        None,
+        asked.durability,
         faults,
         announced,
         sealing_end(end),

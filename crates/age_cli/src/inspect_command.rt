@@ -4,13 +4,11 @@ ghost use Rattle.std.specs.Prelude.{◌≡◌, ◌⊎◌, [], ◌∷◌, IfOk, O
 ghost use Rattle.age_io.specs.Taken.{Appends};
 ghost use Rattle.age_file.specs.declared.report.Report.{Report};
 ghost use Rattle.age_command.specs.declared.ending.Ending.TheVariants.{Fault};
-ghost use Rattle.age_io.specs.Io.{Origin};
-ghost use Rattle.age_fileset.specs.FileSet.{Opened, Does, CameSince};
-ghost use Rattle.age_cli.specs.Commands.{Reports, ReportsFile, FailsReport, FailsInput};
-ghost use Rattle.age_cli.specs.Commands.{FailsFile, report_text};
-ghost use Rattle.age_cli.specs.Commands.{believed};
-ghost use Rattle.age_cli.specs.inner.Reported.{IsInspected};
-ghost use Rattle.age_cli.specs.Runs.{FailsWriting};
+ghost use Rattle.age_io.specs.{Origin};
+ghost use Rattle.age_fileset.specs.{Opened, Does, CameSince};
+ghost use Rattle.age_cli.specs.{Reports, ReportsFile, FailsReport, FailsInput, FailsFile, report_text};
+ghost use Rattle.age_cli.specs.{believed, FailsWriting};
+ghost use Rattle.age_cli.specs.inner.{IsInspected};
 
 use crate::print::text_of;
 use age_command::{Ending, put_bytes};

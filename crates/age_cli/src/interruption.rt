@@ -2,16 +2,15 @@
 
 ghost use Rattle.std.specs.Prelude.{◌≡◌, ◌⊎◌, ◌++◌, [], ◌≤◌, ◌*◌, List, true, false, None, OnOk, IfErr};
 ghost use Rattle.std.specs.Prelude.{IsSomeAnd, is_some};
-ghost use Rattle.age_chunk.specs.Payload.{chunk_length};
+ghost use Rattle.age_chunk.specs.{chunk_length};
 ghost use Rattle.age_fault.specs.declared.fault.FileFault.TheVariants.{Write};
-ghost use Rattle.age_fileset.specs.FileSet.{Entry, PutsOnly, CameSince, IsMemoryOr, written_as};
-ghost use Rattle.age_cli_args.specs.Requests.{option_text};
-ghost use Rattle.age_command.specs.Endings.{is_usage, Announces};
+ghost use Rattle.age_fileset.specs.{Entry, PutsOnly, CameSince, IsMemoryOr, written_as};
+ghost use Rattle.age_cli_args.specs.{option_text};
+ghost use Rattle.age_command.specs.{is_usage, Announces, Follows, replacing};
 ghost use Rattle.age_cli.specs.Acts.{IsEndingOf, IsNotDue, IsStored, IsUnsavable, LacksOne};
-ghost use Rattle.age_command.specs.Orders.{Follows, replacing};
 ghost use Rattle.age_cli.specs.inner.Endings.{sealing_end, opening_end};
 ghost use Rattle.age_machine.specs.Saved.{Saves};
-ghost use Rattle.age_file.specs.Resumes.{position_text};
+ghost use Rattle.age_file.specs.{position_text};
 
 use age_command::{Announcement, Ending, announce};
 use age_file::{Done, FileFault, Position, Stopped, Written};

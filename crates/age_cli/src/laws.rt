@@ -1,9 +1,8 @@
 //! Laws over the definitions: each call does nothing.
 
-ghost use Rattle.age_cli.specs.Acts.{PortsOf};
-ghost use Rattle.age_cli.specs.Headline.{RunsKeepOut, RefusesInSilence, ReportsAccept};
-ghost use Rattle.age_cli.specs.Headline.{DoneLeavesText, ResumedLeavesText, EarlyFaultsSpareOut};
-ghost use Rattle.age_fileset.specs.FileSet.{shown_in, shown_out};
+ghost use Rattle.age_cli.specs.{PortsOf, RunsKeepOut, RefusesInSilence, ReportsAccept, DoneLeavesText};
+ghost use Rattle.age_cli.specs.{ResumedLeavesText, EarlyFaultsSpareOut};
+ghost use Rattle.age_fileset.specs.{shown_in, shown_out};
 
 use age_file::{Sink, Source};
 use age_fileset::{FileSet, MemFiles};

@@ -1,29 +1,25 @@
 //! How the input and the output of a command are opened, and how the output is ended.
 
-ghost use Rattle.std.specs.Prelude.{◌≡◌, [], ◌∷◌, ◌++◌, Some, None, true, is_some, IfErr, ℕ, List};
-ghost use Rattle.std.specs.Prelude.{length, OnOk, OnErr, IfOk, IfSome, IsSomeAnd};
-ghost use Rattle.age_io.specs.Io.{Adds, Begins, Ends, Named};
-ghost use Rattle.age_fault.specs.declared.fault.FileFault.TheVariants.{Write};
-ghost use Rattle.age_fileset.specs.FileSet.{Opened, Closed, Found, Absent, Unwritten, Settled, InUse};
-ghost use Rattle.age_fileset.specs.FileSet.{Terminal};
-ghost use Rattle.age_fileset.specs.FileSet.{Entry, Does, PutsOnly, CameSince, OpenFails};
-ghost use Rattle.age_fileset.specs.declared.files.OpenFault.TheVariants.{SameFile, Fault};
-ghost use Rattle.age_cli_args.specs.Requests.{option_text};
+ghost use Rattle.std.specs.Prelude.{◌≡◌, [], ◌∷◌, ◌++◌, map, Some, None, true, is_some, ℕ, length, OnErr};
+ghost use Rattle.std.specs.Prelude.{IfSome};
+ghost use Rattle.age_io.specs.{Adds, Begins, Ends, Named};
+ghost use Rattle.age_fileset.specs.{Opened, Found, Absent, Settled, Terminal, Does, CameSince};
+ghost use Rattle.age_cli_args.specs.{option_text};
 ghost use Rattle.age_cli_args.specs.declared.request.ClobberOption.TheVariants.{Refused};
-ghost use Rattle.age_command.specs.Endings.{EndsEarly, is_usage, Tells};
-ghost use Rattle.age_command.specs.Files.{HasReason};
+ghost use Rattle.age_command.specs.{Tells, AreApart, NamesTwice, apart_from, creating, preparing, making};
+ghost use Rattle.age_command.specs.declared.ending.Usage.TheVariants.{SameFile};
 ghost use Rattle.age_command.specs.declared.ending.Ending.TheVariants.{Usage as UsageEnding};
-ghost use Rattle.age_command.specs.Orders.{creating, preparing, making};
-ghost use Rattle.age_file.specs.Runs.{ports};
-ghost use Rattle.age_cli.specs.Acts.{AreNew, IsUnusable};
-ghost use Rattle.age_cli.specs.inner.Endings.{Concludes, EndsOut, IsPut, EndsFile};
-ghost use Rattle.age_cli.specs.inner.Openings.{OpensFiles, age_file_in};
+ghost use Rattle.age_file.specs.{ports};
+ghost use Rattle.age_cli.specs.Acts.{AreNew, IsUnusable, NamesOne};
+ghost use Rattle.age_cli.specs.inner.Endings.{ClosesAll, Concludes, LeavesOut};
+ghost use Rattle.age_cli.specs.inner.Openings.{Compares, EndsBy, IsUnopened, OpensFiles, age_file_in};
+ghost use Rattle.age_cli.specs.inner.Openings.{found_by, order_in};
 ghost use Rattle.age_cli.specs.declared.output.Content.TheVariants.{AgeFile};
 
 use crate::interruption::{Interruption, end_of};
 use age_cli_args::ClobberOption;
-use age_command::{Announcement, Ending, Usage};
-use age_fileset::{FileSet, OpenFault};
+use age_command::{Announcement, Ending, Usage, announce};
+use age_fileset::FileSet;
 use age_io::{Durability, Meter, Metered, Sink};
 use std::alloc::Global;
 
@@ -36,21 +32,82 @@ pub(crate) enum Content {
     AgeFile,
 }
 
-/// What a command is to write.
+/// What a command that writes is to read and to write. Which of its names have to differ is said by
+/// the order of it.
 #[derive(Clone, Copy)]
-pub(crate) struct Output<'a> {
-    /// The output.
-    pub(crate) to: &'a str,
-    /// Where its position goes if it stops.
-    pub(crate) save: Option<&'a str>,
+pub(crate) struct Writing<'a> {
+    /// The first file by which the arguments are judged: of the passphrase.
+    pub(crate) first: Option<&'a str>,
+    /// The second: of the shared secret, or of the random bytes.
+    pub(crate) second: Option<&'a str>,
     /// The file of the position at which it begins, which may be the file of `save`.
     pub(crate) position: Option<&'a str>,
+    /// The earlier output.
+    pub(crate) old: Option<&'a str>,
+    /// The input.
+    pub(crate) from: &'a str,
+    /// The output.
+    pub(crate) to: &'a str,
+    /// What becomes of the output if it is there.
+    pub(crate) clobber: ClobberOption,
+    /// Where the position goes if the command stops.
+    pub(crate) save: Option<&'a str>,
     /// When what was written reaches the disk.
     pub(crate) durability: Durability,
-    /// What becomes of it if it is there.
-    pub(crate) clobber: ClobberOption,
     /// What the output is to hold.
     pub(crate) content: Content,
+}
+
+/// Whether two names are given, and stand for one file.
+fn are_one<F: FileSet>(files: &mut F, one: Option<&str>, other: Option<&str>) -> bool
+    ensures { Compares (F.view files.old) (F.view files.new) result
+        (λ a b. (option_text one.entry ≡ Some a) × (option_text other.entry ≡ Some b)) }
+{
+    match one {
+        Some(one) => match other {
+            Some(other) => files.is_same(one, other),
+            None => false,
+        },
+        None => false,
+    }
+}
+
+/// Whether a name is given, and stands for the same file as one of others that are given.
+fn is_one_of<F: FileSet>(files: &mut F, name: Option<&str>, others: &[Option<&str>]) -> bool
+    ensures { Compares (F.view files.old) (F.view files.new) result
+        (AreApart (apart_from (option_text name.entry) (map option_text others.now) ∷ [])) }
+{
+    for other in others {
+        if are_one(files, name, *other) {
+            return true;
+        }
+    }
+    false
+}
+
+/// Whether two names that have to differ stand for one file: the output's and one of what is read;
+/// that of `save`, and the output's or one of what is read but the position; or the earlier output's
+/// and the input's.
+pub(crate) fn names_twice<F: FileSet>(files: &mut F, asked: &Writing<'_>) -> bool
+    ensures { Compares (F.view files.old) (F.view files.new) result
+        (AreApart (order_in asked.now).apart) }
+{
+    let Writing {
+        first,
+        second,
+        position,
+        old,
+        ..
+    } = *asked;
+    let from = Some(asked.from);
+    let to = Some(asked.to);
+    if is_one_of(files, to, &[position, from, first, second, old]) {
+        return true;
+    }
+    if is_one_of(files, asked.save, &[to, from, first, second, old]) {
+        return true;
+    }
+    is_one_of(files, old, &[from])
 }
 
 /// Whether an output is a terminal, which can't show what it is to hold.
@@ -81,27 +138,61 @@ fn refusal_of<F: FileSet>(files: &mut F, out: &F::Out, content: Content) -> Opti
     None
 }
 
-/// Opens the output, or makes it if one that is there is refused.
-fn make_out<F: FileSet>(
+/// Refuses names that have to differ and stand for one file, and two names of what is read that
+/// stand for one stream.
+pub(crate) fn check_names<F: FileSet>(
     alloc: Global,
     files: &mut F,
-    asked: &Output<'_>,
-) -> Result<F::Out, OpenFault>
-    ensures does { Does (creating asked.now.clobber asked.now.to.now ∷ []) (F.view files.old)
-        (F.view files.new) }
-    ensures begun { IfOk result (λ o. ((F.Out.view o).taken.bytes ≡ [])
-        × ((F.Out.view o).failed ≡ 0) × ((F.Out.view o).label ≡ asked.now.to.now)) }
-    ensures fresh { OnOk result (asked.now.clobber ≡ Refused
-        → CameSince (F.view files.old) (F.view files.new) (Absent asked.now.to.now)) }
-    ensures faults { IfErr result (OpenFails Write) }
-    ensures reason { IfErr result (λ f. f ≡ Fault Write
-        → CameSince (F.view files.old) (F.view files.new) (Unwritten asked.now.to.now)) }
-    ensures in_use { IfErr result (λ f. f ≡ SameFile
-        → CameSince (F.view files.old) (F.view files.new) (InUse asked.now.to.now)) }
+    asked: &Writing<'_>,
+) -> Result<(), Ending>
+    ensures { OpensFiles [] [] (NamesTwice (order_in asked.now).apart) (λ Came. EndsBy Came ⊥
+        (λ e. (e ≡ UsageEnding SameFile) × NamesOne Came (order_in asked.now)))
+        (F.view files.old) (F.view files.new) (λ _. Unit {0}) result }
+{
+    if names_twice(files, asked) {
+        return Err(Ending::Usage(Usage::SameFile));
+    }
+    let Writing {
+        first,
+        second,
+        position,
+        old,
+        ..
+    } = *asked;
+    Ok(files.check_streams(alloc, &[position, old, first, second, Some(asked.from)])?)
+}
+
+/// Opens a file to be read. One that isn't there may count as empty.
+pub(crate) fn open_in<F: FileSet>(
+    alloc: Global,
+    files: &mut F,
+    name: &str,
+    or_empty: bool,
+) -> Result<F::In, Ending>
+    ensures { OpensFiles (Opened name.now ∷ []) (Opened name.now ∷ []) ⊥ (IsUnopened None)
+        (F.view files.old) (F.view files.new) (λ s. ((F.In.view s).supply.given ≡ [])
+        × F.In.began s (Named name.now) × CameSince (F.view files.old) (F.view files.new)
+        (found_by or_empty name.now (F.In.view s).supply.left (F.size s))) result }
+{
+    if or_empty {
+        Ok(files.open_or_empty(alloc, name)?)
+    } else {
+        Ok(files.open(alloc, name)?)
+    }
+}
+
+/// Opens the output, or makes it if one that is there is refused.
+fn make_out<F: FileSet>(alloc: Global, files: &mut F, asked: &Writing<'_>) -> Result<F::Out, Ending>
+    ensures { OpensFiles (creating asked.now.clobber asked.now.to.now ∷ [])
+        (creating asked.now.clobber asked.now.to.now ∷ []) ⊥ (IsUnopened None)
+        (F.view files.old) (F.view files.new) (λ o. ((F.Out.view o).taken.bytes ≡ [])
+        × ((F.Out.view o).failed ≡ 0) × ((F.Out.view o).label ≡ asked.now.to.now)
+        × (asked.now.clobber ≡ Refused
+        → CameSince (F.view files.old) (F.view files.new) (Absent asked.now.to.now))) result }
 {
     match asked.clobber {
-        ClobberOption::Allowed => files.create(alloc, asked.to),
-        ClobberOption::Refused => files.create_new(alloc, asked.to),
+        ClobberOption::Allowed => Ok(files.create(alloc, asked.to)?),
+        ClobberOption::Refused => Ok(files.create_new(alloc, asked.to)?),
     }
 }
 
@@ -110,15 +201,15 @@ fn make_out<F: FileSet>(
 fn create_out<F: FileSet>(
     alloc: Global,
     files: &mut F,
-    asked: &Output<'_>,
+    asked: &Writing<'_>,
 ) -> Result<F::Out, Ending>
     ensures { OpensFiles (creating asked.now.clobber asked.now.to.now ∷ [])
-        (making asked.now.clobber (Some asked.now.to.now) asked.now.durability)
-        (age_file_in asked.now.content asked.now.to.now) (F.view files.old) (F.view files.new)
-        (λ o. ((F.Out.view o).taken.bytes ≡ []) × ((F.Out.view o).failed ≡ 0)
-        × ((F.Out.view o).label ≡ asked.now.to.now) × (asked.now.clobber ≡ Refused
-        → CameSince (F.view files.old) (F.view files.new) (Absent asked.now.to.now)))
-        result }
+        (making asked.now.clobber (Some asked.now.to.now) asked.now.durability) ⊥
+        (IsUnopened (age_file_in asked.now.content asked.now.to.now))
+        (F.view files.old) (F.view files.new) (λ o. ((F.Out.view o).taken.bytes ≡ [])
+        × ((F.Out.view o).failed ≡ 0) × ((F.Out.view o).label ≡ asked.now.to.now)
+        × (asked.now.clobber ≡ Refused
+        → CameSince (F.view files.old) (F.view files.new) (Absent asked.now.to.now))) result }
 {
     let out = make_out(alloc, files, asked)?;
     match refusal_of(files, &out, asked.content) {
@@ -132,13 +223,10 @@ fn create_out<F: FileSet>(
 
 /// Prepares the file of `save`, if there is one, unless it turns out to be a file that is read,
 /// other than the file of the position.
-fn prepare_save<F: FileSet>(alloc: Global, files: &mut F, asked: &Output<'_>) -> Result<(), Ending>
-    ensures does { Does (preparing (option_text asked.now.save) (option_text asked.now.position))
-        (F.view files.old) (F.view files.new) }
-    ensures early { IfErr result EndsEarly }
-    ensures reason { IfErr result (HasReason (CameSince (F.view files.old) (F.view files.new))) }
-    ensures fault { IfErr result (λ e. is_usage e ≡ true
-        → IsUnusable (CameSince (F.view files.old) (F.view files.new)) None e) }
+fn prepare_save<F: FileSet>(alloc: Global, files: &mut F, asked: &Writing<'_>) -> Result<(), Ending>
+    ensures { OpensFiles (preparing (option_text asked.now.save) (option_text asked.now.position))
+        (preparing (option_text asked.now.save) (option_text asked.now.position)) ⊥ (IsUnopened None)
+        (F.view files.old) (F.view files.new) (λ _. Unit {0}) result }
 {
     match asked.save {
         Some(save) => Ok(files.prepare(alloc, save, asked.position)?),
@@ -151,24 +239,26 @@ fn prepare_save<F: FileSet>(alloc: Global, files: &mut F, asked: &Output<'_>) ->
 pub(crate) fn open_both<F: FileSet>(
     alloc: Global,
     files: &mut F,
-    from: &str,
-    asked: &Output<'_>,
+    asked: &Writing<'_>,
 ) -> Result<(F::In, F::Out), Ending>
-    ensures { OpensFiles
-        (Opened from.now ∷ (preparing (option_text asked.now.save) (option_text asked.now.position)
+    ensures { OpensFiles (Opened asked.now.from.now
+        ∷ (preparing (option_text asked.now.save) (option_text asked.now.position)
         ++ creating asked.now.clobber asked.now.to.now ∷ []))
-        (Opened from.now ∷ (preparing (option_text asked.now.save) (option_text asked.now.position)
-        ++ making asked.now.clobber (Some asked.now.to.now) asked.now.durability))
-        (age_file_in asked.now.content asked.now.to.now) (F.view files.old) (F.view files.new)
+        (Opened asked.now.from.now
+        ∷ (preparing (option_text asked.now.save) (option_text asked.now.position)
+        ++ making asked.now.clobber (Some asked.now.to.now) asked.now.durability)) ⊥
+        (IsUnopened (age_file_in asked.now.content asked.now.to.now))
+        (F.view files.old) (F.view files.new)
         (λ both. AreNew (ports (F.In.view both.0) (F.Out.view both.1))
-        × F.In.began both.0 (Named from.now) × ((F.Out.view both.1).label ≡ asked.now.to.now)
+        × F.In.began both.0 (Named asked.now.from.now)
+        × ((F.Out.view both.1).label ≡ asked.now.to.now)
         × CameSince (F.view files.old) (F.view files.new)
-        (Found from.now (F.In.view both.0).supply.left (F.size both.0))
+        (Found asked.now.from.now (F.In.view both.0).supply.left (F.size both.0))
         × (asked.now.clobber ≡ Refused
         → CameSince (F.view files.old) (F.view files.new) (Absent asked.now.to.now)))
         result }
 {
-    let source = files.open(alloc, from)?;
+    let source = open_in(alloc, files, asked.from, false)?;
     prepare_save(alloc, files, asked)?;
     let out = create_out(alloc, files, asked)?;
     Ok((source, out))
@@ -191,12 +281,7 @@ pub(crate) fn end_meter<M: Meter>(meter: &mut M)
 
 /// Ends the output of an engine that stopped: with what was written, or as it was, if nothing was.
 pub(crate) fn leave<F: FileSet>(files: &mut F, out: F::Out, durability: Durability)
-    ensures puts { (puts : List Entry) × PutsOnly puts (F.view files.old) (F.view files.new)
-        × IsPut (F.Out.view out) puts }
-    ensures noted { (F.view files.new).events
-        ≡ (F.view files.old).events ++ Closed durability ∷ [] }
-    ensures ended { IsSomeAnd (F.view files.new).ended
-        (EndsFile durability (F.Out.view out) true true) }
+    ensures { LeavesOut durability (F.Out.view out) (F.view files.old) (F.view files.new) }
 {
     let is_empty = files.is_empty(&out);
     if is_empty {
@@ -207,73 +292,49 @@ pub(crate) fn leave<F: FileSet>(files: &mut F, out: F::Out, durability: Durabili
     }
 }
 
-/// Ends the output once the engine returned: whole, or as its stop leaves it.
-fn end_out<F: FileSet>(
+/// Ends the output of an engine that ended.
+fn close_out<F: FileSet, E: Sink>(
     files: &mut F,
     out: F::Out,
     durability: Durability,
-    engine: Result<(), Interruption>,
-) -> Result<(), Interruption>
-    ensures { EndsOut durability (F.Out.view out) engine (F.view files.old) (F.view files.new)
-        result }
+    faults: &mut E,
+    announced: &mut Announcement,
+) -> Result<(), Ending>
+    ensures announced { Tells announced.new result (E.view faults.old) (E.view faults.new)
+        (faults.new ≡ faults.old) }
+    ensures closes { ClosesAll durability (F.Out.view out) (F.view files.old) (F.view files.new) result }
 {
-    match engine {
-        Ok(()) => Ok(files.close(out, durability)?),
-        Err(stop) => {
-            leave(files, out, durability);
-            Err(stop)
+    match files.close(out, durability) {
+        Ok(()) => Ok(()),
+        Err(fault) => {
+            *announced = announce(faults, fault);
+            Err(Ending::Fault(fault))
         }
     }
 }
 
-/// How many bytes an output holds for certain, if the position of a stop is to be saved.
+/// How many bytes an output holds for certain, if a position is to be saved.
 fn settle_stop<F: FileSet>(
     files: &mut F,
     out: &mut F::Out,
     save: Option<&str>,
     durability: Durability,
-    engine: &Result<(), Interruption>,
 ) -> u64
     ensures does { Does [] (F.view files.old) (F.view files.new) }
     ensures same { F.Out.view out.new ≡ F.Out.view out.old }
-    ensures certain { is_some (option_text save.entry) ≡ true → OnErr engine.now
-        (CameSince (F.view files.old) (F.view files.new)
-        (Settled durability (F.Out.view out.old).taken.bytes result)) }
+    ensures certain { is_some (option_text save.entry) ≡ true
+        → CameSince (F.view files.old) (F.view files.new)
+        (Settled durability (F.Out.view out.old).taken.bytes result) }
 {
-    if save.is_some() && engine.is_err() {
+    if save.is_some() {
         files.settle(out, durability)
     } else {
         0
     }
 }
 
-/// Ends the output once the engine returned, announces the fault of a stop, and saves its position.
-/// One that is beyond what the output holds for certain isn't saved.
-fn conclude_settled<F: FileSet, E: Sink>(
-    alloc: Global,
-    files: &mut F,
-    out: F::Out,
-    save: Option<&str>,
-    settled: u64,
-    durability: Durability,
-    faults: &mut E,
-    announced: &mut Announcement,
-    engine: Result<(), Interruption>,
-) -> Result<(), Ending>
-    ensures announced { Tells announced.new result (E.view faults.old) (E.view faults.new)
-        (faults.new ≡ faults.old) }
-    ensures concludes { Concludes (option_text save.entry) durability (F.Out.view out) settled
-        engine (F.view files.old) (F.view files.new) result }
-{
-    match end_out(files, out, durability, engine) {
-        Ok(()) => Ok(()),
-        Err(stop) => Err(end_of(
-            alloc, files, save, stop, settled, durability, faults, announced,
-        )),
-    }
-}
-
-/// Asks the output of a stop how much of it is certain, and ends it.
+/// Ends the output once the engine returned: whole, or as its stop leaves it. Announces the fault,
+/// and saves the position of a stop, unless it is beyond what the output holds for certain.
 pub(crate) fn conclude<F: FileSet, E: Sink>(
     alloc: Global,
     files: &mut F,
@@ -292,8 +353,13 @@ pub(crate) fn conclude<F: FileSet, E: Sink>(
         (CameSince (F.view files.old) (F.view files.new)
         (Settled durability (F.Out.view out).taken.bytes settled))) }
 {
-    let settled = settle_stop(files, &mut out, save, durability, &engine);
-    conclude_settled(
-        alloc, files, out, save, settled, durability, faults, announced, engine,
-    )
+    let stop = match engine {
+        Ok(()) => return close_out(files, out, durability, faults, announced),
+        Err(stop) => stop,
+    };
+    let settled = settle_stop(files, &mut out, save, durability);
+    leave(files, out, durability);
+    Err(end_of(
+        alloc, files, save, stop, settled, durability, faults, announced,
+    ))
 }

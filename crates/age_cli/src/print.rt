@@ -3,7 +3,7 @@
 ghost use Rattle.std.specs.Prelude.{◌≡◌, ◌++◌, IfOk, OnOk};
 ghost use Rattle.std.specs.String.{string_bytes};
 ghost use Rattle.std.specs.List.{flat_map};
-ghost use Rattle.age_cli.specs.Commands.{stanza_line, plain_line, report_text};
+ghost use Rattle.age_cli.specs.{stanza_line, plain_line, report_text};
 
 use age_file::{Report, StanzaReport};
 use std::alloc::{AllocError, Global};

@@ -3,14 +3,15 @@
 ghost use Rattle.std.specs.Prelude.{◌≡◌, ◌⊎◌, IfErr, IsErrAnd, IsOk, OnOk};
 ghost use Rattle.clap.specs.declared.error.kind.ErrorKind.TheVariants.{OutOfMemory};
 ghost use Rattle.age_fault.specs.declared.fault.FileFault.TheVariants.{Memory};
+ghost use Rattle.age_command.specs.{Tells};
 ghost use Rattle.age_command.specs.declared.ending.Ending.TheVariants.{Fault};
 ghost use Rattle.clap.specs.Words.{kind_of};
 ghost use Rattle.clap.specs.Walk.{texts};
-ghost use Rattle.age_cli.specs.Acts.{PortsOf, ending_status, ShowsProgress};
-ghost use Rattle.age_cli.specs.Runs.{world, IsRefusal, Obeys, Prints, FailsWriting, Runs};
-ghost use Rattle.age_command.specs.Endings.{Tells};
-ghost use Rattle.age_fileset.specs.FileSet.{CameSince};
-ghost use Rattle.age_cli.specs.inner.Endings.{IsForOutput};
+ghost use Rattle.age_cli.specs.{PortsOf, ending_status, ShowsProgress, world, IsRefusal, Obeys, Prints};
+ghost use Rattle.age_cli.specs.{FailsWriting};
+ghost use Rattle.age_cli.specs.Runs.{Runs};
+ghost use Rattle.age_fileset.specs.{CameSince};
+ghost use Rattle.age_cli.specs.inner.{IsForOutput};
 
 use crate::decrypt_command::decrypt_file;
 use crate::encrypt_command::encrypt_file;

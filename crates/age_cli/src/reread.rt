@@ -1,17 +1,15 @@
 //! How the position of a stop is found by reading the input once more.
 
-ghost use Rattle.std.specs.Prelude.{◌≡◌, ◌⊎◌, [], ℕ, List, Option, true, false, is_some, min, IfOk};
-ghost use Rattle.std.specs.Prelude.{IfErr, OnOk};
-ghost use Rattle.age_io.specs.Io.{Named, Origin};
-ghost use Rattle.age_io.specs.Supply.{Supply};
+ghost use Rattle.std.specs.Prelude.{◌≡◌, [], ℕ, List, true, false, is_some, min, IfOk, IfErr, OnOk};
+ghost use Rattle.age_io.specs.{Named, Origin};
 ghost use Rattle.age_fault.specs.declared.fault.FileFault.TheVariants.{Read};
 ghost use Rattle.age_file.specs.declared.position.PositionPolicy.TheVariants.{Dropped};
-ghost use Rattle.age_fileset.specs.FileSet.{IsMemoryOr, Does, CameSince, Gave, Settled, reading_of};
-ghost use Rattle.age_cli_args.specs.Requests.{option_text};
+ghost use Rattle.age_fileset.specs.{IsMemoryOr, Does, CameSince, Gave, Settled, reading_of};
+ghost use Rattle.age_cli_args.specs.{option_text};
 ghost use Rattle.age_cli_args.specs.declared.request.ProgressOption.TheVariants.{Silent};
-ghost use Rattle.age_command.specs.Endings.{Announces, Tells};
-ghost use Rattle.age_cli.specs.Acts.{Finds, ShowsRun, kept_for, start_of};
-ghost use Rattle.age_cli.specs.inner.Rereadings.{IsFoundIn, ConcludesDecryption, ConcludesFound, again_of};
+ghost use Rattle.age_command.specs.{Announces, Tells};
+ghost use Rattle.age_cli.specs.{Finds, kept_for, start_of};
+ghost use Rattle.age_cli.specs.inner.{IsFoundIn, ConcludesDecryption, ConcludesFound, ShowsAgain, again_of};
 
 use crate::interruption::{opening_end, save};
 use crate::output::{begin_meter, conclude, end_meter, leave};
@@ -144,10 +142,7 @@ fn find_in<F: FileSet, P: Meter>(
     ensures began { (name : List ℕ) → F.In.began source (Named name)
         → F.In.began result.source (Named name) }
     ensures silent { asked.now.progress ≡ Silent → progress.new ≡ progress.old }
-    ensures shown { (P.shown progress.new ≡ P.shown progress.old)
-        ⊎ ((size : Option ℕ) × (coming : Supply) × (left : Supply)
-        × ShowsRun size coming left
-        (P.shown progress.old) (P.shown progress.new)) }
+    ensures shown { ShowsAgain (P.shown progress.old) (P.shown progress.new) }
 {
     match asked.progress {
         ProgressOption::Silent => {
@@ -190,10 +185,7 @@ fn find_again<F: FileSet, P: Meter>(
         (min again.stopped.written settled)) }
     ensures faults { IfErr result (IsMemoryOr Read) }
     ensures silent { asked.now.progress ≡ Silent → progress.new ≡ progress.old }
-    ensures shown { (P.shown progress.new ≡ P.shown progress.old)
-        ⊎ ((size : Option ℕ) × (coming : Supply) × (left : Supply)
-        × ShowsRun size coming left
-        (P.shown progress.old) (P.shown progress.new)) }
+    ensures shown { ShowsAgain (P.shown progress.old) (P.shown progress.new) }
 {
     let Again {
         mut source,
@@ -210,54 +202,9 @@ fn find_again<F: FileSet, P: Meter>(
     position
 }
 
-/// Ends the output of a decryption that stopped and dropped its position, puts the line of its
-/// fault, and then finds the position of what OUT holds for certain and saves it: a second reading
-/// may take long.
-fn conclude_found<F: FileSet, E: Sink, P: Meter>(
-    alloc: Global,
-    files: &mut F,
-    out: F::Out,
-    asked: &Decrypting<'_>,
-    again: Again<F::In>,
-    settled: u64,
-    faults: &mut E,
-    announced: &mut Announcement,
-    progress: &mut P,
-) -> Ending
-    requires save { is_some (option_text asked.now.save) ≡ true }
-    requires input { F.In.began again.source (Named asked.now.from.now) }
-    ensures over { CameSince (F.view files.old) (F.view files.new)
-        (Gave (reading_of asked.now.from.now (F.In.view again.source))) }
-    ensures announced { Announces announced.new result (E.view faults.old) (E.view faults.new) ⊥ }
-    ensures again { ConcludesFound asked.now (F.Out.view out) again.from again.stopped again.key
-        (F.view files.old) (F.view files.new) result settled }
-    ensures silent { asked.now.progress ≡ Silent → progress.new ≡ progress.old }
-    ensures shown { (P.shown progress.new ≡ P.shown progress.old)
-        ⊎ ((size : Option ℕ) × (coming : Supply) × (left : Supply)
-        × ShowsRun size coming left
-        (P.shown progress.old) (P.shown progress.new)) }
-{
-    let fault = again.stopped.fault;
-    leave(files, out, asked.durability);
-    *announced = announce(faults, fault);
-    match find_again(alloc, files, asked, again, settled, progress) {
-        Ok(found) => match save(
-            alloc,
-            files,
-            asked.save,
-            Some(found),
-            settled,
-            asked.durability,
-        ) {
-            Ok(()) => Ending::Fault(fault),
-            Err(second) => Ending::Unsaved(fault, second),
-        },
-        Err(second) => Ending::Unsaved(fault, second),
-    }
-}
-
 /// Asks the output of a decryption that stopped and dropped its position how much of it is certain,
-/// and ends it with the position of that.
+/// ends it, puts the line of the fault, and then finds the position of what is certain and saves it:
+/// a second reading may take long.
 fn conclude_again<F: FileSet, E: Sink, P: Meter>(
     alloc: Global,
     files: &mut F,
@@ -278,15 +225,26 @@ fn conclude_again<F: FileSet, E: Sink, P: Meter>(
         × ConcludesFound asked.now (F.Out.view out) again.from again.stopped again.key
         (F.view files.old) (F.view files.new) result settled }
     ensures silent { asked.now.progress ≡ Silent → progress.new ≡ progress.old }
-    ensures shown { (P.shown progress.new ≡ P.shown progress.old)
-        ⊎ ((size : Option ℕ) × (coming : Supply) × (left : Supply)
-        × ShowsRun size coming left
-        (P.shown progress.old) (P.shown progress.new)) }
+    ensures shown { ShowsAgain (P.shown progress.old) (P.shown progress.new) }
 {
+    let fault = again.stopped.fault;
     let settled = files.settle(&mut out, asked.durability);
-    conclude_found(
-        alloc, files, out, asked, again, settled, faults, announced, progress,
-    )
+    leave(files, out, asked.durability);
+    *announced = announce(faults, fault);
+    match find_again(alloc, files, asked, again, settled, progress) {
+        Ok(found) => match save(
+            alloc,
+            files,
+            asked.save,
+            Some(found),
+            settled,
+            asked.durability,
+        ) {
+            Ok(()) => Ending::Fault(fault),
+            Err(second) => Ending::Unsaved(fault, second),
+        },
+        Err(second) => Ending::Unsaved(fault, second),
+    }
 }
 
 /// Ends the output of a decryption, and saves the position of a stop, which is found by reading the
@@ -315,10 +273,7 @@ pub(crate) fn conclude_decryption<F: FileSet, E: Sink, P: Meter>(
         (F.view files.old) (F.view files.new) result }
     ensures silent { asked.now.progress ≡ Silent → progress.new ≡ progress.old }
     ensures whole { OnOk result (P.shown progress.new ≡ P.shown progress.old) }
-    ensures shown { (P.shown progress.new ≡ P.shown progress.old)
-        ⊎ ((size : Option ℕ) × (coming : Supply) × (left : Supply)
-        × ShowsRun size coming left
-        (P.shown progress.old) (P.shown progress.new)) }
+    ensures shown { ShowsAgain (P.shown progress.old) (P.shown progress.new) }
 {
     let Decrypted {
         end,

@@ -1,35 +1,27 @@
 //! The command that continues a decryption.
 
-ghost use Rattle.std.specs.Prelude.{◌≡◌, ◌⊎◌, [], ◌∷◌, ℕ, List, IfOk, IfErr, OnOk};
-ghost use Rattle.age_fault.specs.declared.fault.FileFault.TheVariants.{Read, BadPosition};
-ghost use Rattle.age_io.specs.Io.{Named, Origin};
-ghost use Rattle.age_fileset.specs.FileSet.{Opened, Unread, InUse, Outcome, OpenFails, Does, CameSince};
-ghost use Rattle.age_fileset.specs.FileSet.{HasGivenAll, FilesView, Entry, PutsOnly};
-ghost use Rattle.age_fileset.specs.declared.files.OpenFault.TheVariants as OpenFault;
-ghost use Rattle.age_cli_args.specs.Requests.{option_text};
+ghost use Rattle.std.specs.Prelude.{◌≡◌, [], ◌∷◌, ℕ, List};
+ghost use Rattle.age_io.specs.{Named, Origin};
+ghost use Rattle.age_fileset.specs.{Opened, Outcome, CameSince, HasGivenAll, FilesView, Entry, PutsOnly};
+ghost use Rattle.age_cli_args.specs.{option_text};
 ghost use Rattle.age_cli_args.specs.declared.request.ProgressOption.TheVariants.{Silent, Shown};
 ghost use Rattle.age_cli_args.specs.declared.request.Request.TheVariants.{Resume};
-ghost use Rattle.age_file.specs.Resumes.{resume_ports, position_text, ResumesKeyed};
-ghost use Rattle.age_file.specs.Runs.{ports};
-ghost use Rattle.age_command.specs.Identities.{allows_by, refuses_by};
-ghost use Rattle.age_command.specs.Orders.{Begins, AreApart, order_asked};
-ghost use Rattle.age_command.specs.Endings.{Tells};
-ghost use Rattle.age_command.specs.Files.{IsUnread, HoldsOnly};
-ghost use Rattle.age_cli.specs.Acts.{Acts, PortsOf, ShowsProgress, ShowsReadings, ShowsRun};
-ghost use Rattle.age_cli.specs.Acts.{resume_engine, kept_for, paths_of};
-ghost use Rattle.age_cli.specs.Commands.{HoldsNoPosition, old_found};
-ghost use Rattle.age_cli.specs.inner.Openings.{Compares};
-ghost use Rattle.age_cli.specs.inner.Rereadings.{RunsEngine, key_of, placed};
+ghost use Rattle.age_file.specs.{resume_ports, position_text, ResumesKeyed, ports};
+ghost use Rattle.age_command.specs.{allows_by, refuses_by, Tells};
+ghost use Rattle.age_cli.specs.Acts.{Acts};
+ghost use Rattle.age_cli.specs.{PortsOf, ShowsProgress, ShowsReadings, ShowsRun, resume_engine, kept_for};
+ghost use Rattle.age_cli.specs.{paths_of, old_found};
+ghost use Rattle.age_cli.specs.inner.{IsUnplaced, OpensFiles, RunsEngine, key_of, placed};
 
-use crate::decrypt_command::{is_given_as, names_a_file_twice, read_secret};
-use crate::output::{Content, Output, begin_meter, end_meter, open_both};
+use crate::decrypt_command::identify;
+use crate::output::{Content, Writing, begin_meter, end_meter, open_both, open_in};
 use crate::reread::{Decrypted, can_reread, conclude_decryption, positions_at_first};
 use age_cli_args::{Decrypting, ProgressOption, Resuming};
-use age_command::{Announcement, Choice, Ending, Identity, read_file};
+use age_command::{Announcement, Ending, Identity, read_file};
 use age_file::{
     Done, FileFault, Position, PositionPolicy, Source, Standing, Stopped, read_again, resume_keyed,
 };
-use age_fileset::{FileSet, OpenFault};
+use age_fileset::FileSet;
 use age_io::{Meter, Metered, Sink};
 use age_keys::KnownKey;
 use std::alloc::Global;
@@ -38,103 +30,37 @@ use std::alloc::Global;
 const POSITION_FILE_MAX: usize = 256;
 
 /// The position in a file.
-fn read_position<F: FileSet>(
-    alloc: Global,
-    files: &mut F,
-    name: &str,
-) -> Result<Position, OpenFault>
-    ensures does { Does (Opened name.now ∷ []) (F.view files.old) (F.view files.new) }
-    ensures given { IfOk result (λ p. HasGivenAll (CameSince (F.view files.old) (F.view files.new))
-        name.now (position_text p)) }
-    ensures faults { IfErr result (λ f. OpenFails Read f ⊎ (f ≡ OpenFault.Fault BadPosition)) }
-    ensures bad { IfErr result (λ f. f ≡ OpenFault.Fault BadPosition
-        → HoldsOnly (CameSince (F.view files.old) (F.view files.new)) name.now HoldsNoPosition) }
-    ensures reason { IfErr result (λ f. f ≡ OpenFault.Fault Read
-        → IsUnread (CameSince (F.view files.old) (F.view files.new))) }
-    ensures in_use { IfErr result (λ f. f ≡ OpenFault.SameFile
-        → CameSince (F.view files.old) (F.view files.new) (InUse name.now)) }
+fn read_position<F: FileSet>(alloc: Global, files: &mut F, name: &str) -> Result<Position, Ending>
+    ensures { OpensFiles (Opened name.now ∷ []) (Opened name.now ∷ []) ⊥ (IsUnplaced name.now)
+        (F.view files.old) (F.view files.new)
+        (λ p. HasGivenAll (CameSince (F.view files.old) (F.view files.new)) name.now
+        (position_text p)) result }
 {
-    match read_file(alloc, files, name, POSITION_FILE_MAX)? {
+    let held = read_file(alloc, files, name, POSITION_FILE_MAX)?;
+    match held {
         Some(text) => Ok(Position::read(text.as_slice())?),
-        None => Err(OpenFault::Fault(FileFault::BadPosition)),
+        None => Err(Ending::Fault(FileFault::BadPosition)),
     }
 }
 
-/// Whether two files that have to differ are one: those that `decrypt` tells apart; the earlier
-/// output must differ from IN, OUT and the file of `--save`, and OUT from the position.
-fn names_one_twice<F: FileSet>(files: &mut F, asked: &Resuming<'_>) -> bool
-    ensures { Compares (F.view files.old) (F.view files.new) result
-        (AreApart (order_asked (Resume asked.now)).apart) }
-{
-    let others = &asked.decrypting;
-    if names_a_file_twice(files, others) {
-        return true;
-    }
-    if files.is_same(asked.position, others.to) {
-        return true;
-    }
-    if is_given_as(files, others.save, asked.old) {
-        return true;
-    }
-    if files.is_same(asked.old, others.from) {
-        return true;
-    }
-    files.is_same(asked.old, others.to)
-}
-
-/// Opens the earlier output. If the position has no chunk before it, a missing one counts as empty:
-/// a run that stops before its first chunk makes none.
-fn open_old<F: FileSet>(
-    alloc: Global,
-    files: &mut F,
-    name: &str,
-    position: &Position,
-) -> Result<F::In, OpenFault>
-    ensures does { Does (Opened name.now ∷ []) (F.view files.old) (F.view files.new) }
-    ensures found { IfOk result (λ s. CameSince (F.view files.old) (F.view files.new)
-        (old_found position.now name.now (F.In.view s).supply.left (F.size s))) }
-    ensures begun { IfOk result (λ s. (F.In.view s).supply.given ≡ []) }
-    ensures named { IfOk result (λ s. F.In.began s (Named name.now)) }
-    ensures faults { IfErr result (OpenFails Read) }
-    ensures reason { IfErr result (λ f. f ≡ OpenFault.Fault Read
-        → CameSince (F.view files.old) (F.view files.new) (Unread name.now)) }
-    ensures in_use { IfErr result (λ f. f ≡ OpenFault.SameFile
-        → CameSince (F.view files.old) (F.view files.new) (InUse name.now)) }
-{
-    if position.index == 0 {
-        files.open_or_empty(alloc, name)
-    } else {
-        files.open(alloc, name)
-    }
-}
-
-/// The position, and then the earlier output, opened.
+/// The position, and then the earlier output, opened. If the position has no chunk before it, a
+/// missing one counts as empty: a run that stops before its first chunk makes none.
 fn open_earlier<F: FileSet>(
     alloc: Global,
     files: &mut F,
     asked: &Resuming<'_>,
-) -> Result<(Position, F::In), OpenFault>
-    ensures found { IfOk result (λ both. CameSince (F.view files.old) (F.view files.new)
-        (old_found both.0 asked.now.old.now (F.In.view both.1).supply.left (F.size both.1))) }
-    ensures given { IfOk result (λ both. HasGivenAll (CameSince (F.view files.old)
-        (F.view files.new)) asked.now.position.now (position_text both.0)) }
-    ensures begun { IfOk result (λ both. (F.In.view both.1).supply.given ≡ []) }
-    ensures named { IfOk result (λ both. F.In.began both.1 (Named asked.now.old.now)) }
-    ensures does { OnOk result (Does (Opened asked.now.position.now ∷ Opened asked.now.old.now ∷ [])
-        (F.view files.old) (F.view files.new)) }
-    ensures begins { Begins (Opened asked.now.position.now ∷ Opened asked.now.old.now ∷ [])
-        (F.view files.old) (F.view files.new) }
-    ensures faults { IfErr result (λ f. OpenFails Read f ⊎ (f ≡ OpenFault.Fault BadPosition)) }
-    ensures bad { IfErr result (λ f. f ≡ OpenFault.Fault BadPosition
-        → HoldsOnly (CameSince (F.view files.old) (F.view files.new)) asked.now.position.now
-        HoldsNoPosition) }
-    ensures reason { IfErr result (λ f. f ≡ OpenFault.Fault Read
-        → IsUnread (CameSince (F.view files.old) (F.view files.new))) }
-    ensures in_use { IfErr result (λ f. f ≡ OpenFault.SameFile → (name : List ℕ)
-        × CameSince (F.view files.old) (F.view files.new) (InUse name)) }
+) -> Result<(Position, F::In), Ending>
+    ensures { OpensFiles (Opened asked.now.position.now ∷ Opened asked.now.old.now ∷ [])
+        (Opened asked.now.position.now ∷ Opened asked.now.old.now ∷ []) ⊥
+        (IsUnplaced asked.now.position.now) (F.view files.old) (F.view files.new)
+        (λ both. HasGivenAll (CameSince (F.view files.old) (F.view files.new))
+        asked.now.position.now (position_text both.0) × ((F.In.view both.1).supply.given ≡ [])
+        × F.In.began both.1 (Named asked.now.old.now)
+        × CameSince (F.view files.old) (F.view files.new)
+        (old_found both.0 asked.now.old.now (F.In.view both.1).supply.left (F.size both.1))) result }
 {
     let position = read_position(alloc, files, asked.position)?;
-    let old = open_old(alloc, files, asked.old, &position)?;
+    let old = open_in(alloc, files, asked.old, position.index == 0)?;
     Ok((position, old))
 }
 
@@ -331,27 +257,21 @@ pub fn resume_file<F: FileSet, E: Sink, P: Meter>(
 {
     *announced = Announcement::Unmade;
     let wanted = &asked.decrypting;
-    let is_file_named_twice = names_one_twice(files, asked);
-    let choice = Choice::of(&wanted.identity)?;
-    let read = [
-        Some(asked.position),
-        Some(asked.old),
-        wanted.identity.pass,
-        wanted.identity.shared,
-        Some(wanted.from),
-    ];
-    let secret = read_secret(alloc, files, &choice, is_file_named_twice, &read)?;
-    let identity = choice.identity(secret)?;
-    let (position, old) = open_earlier(alloc, files, asked)?;
-    let output = Output {
-        to: wanted.to,
-        save: wanted.save,
+    let writing = Writing {
+        first: wanted.identity.pass,
+        second: wanted.identity.shared,
         position: Some(asked.position),
-        durability: wanted.durability,
+        old: Some(asked.old),
+        from: wanted.from,
+        to: wanted.to,
         clobber: wanted.clobber,
+        save: wanted.save,
+        durability: wanted.durability,
         content: Content::Plaintext,
     };
-    let (source, out) = open_both(alloc, files, wanted.from, &output)?;
+    let identity = identify(alloc, files, wanted, &writing)?;
+    let (position, old) = open_earlier(alloc, files, asked)?;
+    let (source, out) = open_both(alloc, files, &writing)?;
     resume_opened(
         alloc, files, asked, identity, &position, old, source, out, faults, announced, progress,
     )

@@ -2,8 +2,7 @@
 use Rattle.std.proofs.Common.{◌≡◌, refl, codes, Bool, true, false, List, [], ◌∷◌, Option, Some, None, option_map, map}
 use Rattle.clap.specs.Words.{Row, Text, first_of, one_of}
 use Rattle.clap.proofs.OnLiterals.{clap_on_literals}
-use Rattle.age_cli_args.specs.Commands.{age_tool, encrypting, decrypting, resuming, inspecting, drilling}
-use Rattle.age_cli_args.specs.Requests.{refusals, named, is_given}
+use Rattle.age_cli_args.specs.{age_tool, encrypting, decrypting, resuming, inspecting, drilling, refusals, named, is_given}
 
 abbrev words : List Text
 words = codes "decrypt" ∷ codes "--pass=P" ∷ codes "--max-log" ∷ codes "9" ∷ codes "--progress" ∷ codes "A" ∷ codes "B" ∷ []

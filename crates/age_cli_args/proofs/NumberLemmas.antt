@@ -9,7 +9,7 @@ use Rattle.std.proofs.lemmas.Slice.Eq.{bytes_eq-Decides}
 use Rattle.clap.specs.Words.{Text, matched_of, one_text, first_value, ReadsOne, read_as}
 use Rattle.clap.specs.declared.parser.matches.Found.{Found}
 use Rattle.clap.specs.declared.parser.matches.MatchedArg.{MatchedArg}
-use Rattle.age_cli_args.specs.Requests.{IsNumber}
+use Rattle.age_cli_args.specs.{IsNumber}
 
 -- a number that was read is the one that its text spells
 pub number_read : {E : Type 0} (G : List ℕ → Result ℕ E → Type 0) (o : Option Text) (n default : ℕ) → (o ≡ None → Some n ≡ None)

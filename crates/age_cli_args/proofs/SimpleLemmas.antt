@@ -2,10 +2,9 @@
 use Rattle.std.proofs.Common.{◌≡◌, true, refl, List, [], None, ap, ◌∙◌, ℕ, suc, ◌+◌, ◌<◌, length, drop, get_or, arith}
 use Rattle.std.proofs.Math.Seq.{drop-cons}
 use Rattle.clap.specs.Words.{is_simple, is_simple_and_free, Row, Text, App, Rule, with_rule, with_subcommand}
-use Rattle.age_cli_args.specs.Requests.{named, Asks}
+use Rattle.age_cli_args.specs.{named, Asks, age_tool, encrypting, decrypting, resuming, inspecting, drilling}
 use Rattle.clap.proofs.OnLiterals.{clap_on_literals}
-use Rattle.age_cli_args.specs.Commands.{age_tool, encrypting, decrypting, resuming, inspecting, drilling}
-use Rattle.age_cli_args.specs.inner.Commands.{with_all, rule_as, app_as, with_subcommands}
+use Rattle.age_cli_args.specs.inner.{with_all, rule_as, app_as, with_subcommands}
 use Rattle.age_cli_args.specs.declared.commands.Argument.{Argument}
 use Rattle.age_cli_args.specs.declared.commands.Subcommand.{Subcommand}
 

@@ -5,8 +5,8 @@ ghost use Rattle.clap.specs.Words.{App, rule_of, new_rule, with_subcommand, new_
 ghost use Rattle.clap.specs.Words.{subcommand_rows_of};
 ghost use Rattle.clap.specs.Walk.{texts};
 ghost use Rattle.age_cli_args.specs.Commands.{option_rule, required_rule, number_rule, flag_rule, age_tool};
-ghost use Rattle.age_cli_args.specs.inner.Commands.{HasApp, described_tool, bare_tool};
-ghost use Rattle.age_cli_args.specs.inner.Commands.{rule_as, with_all, app_as, with_subcommands};
+ghost use Rattle.age_cli_args.specs.inner.{HasApp, described_tool, bare_tool};
+ghost use Rattle.age_cli_args.specs.inner.{rule_as, with_all, app_as, with_subcommands};
 ghost use Rattle.age_cli_args.specs.Requests.{refusals, named};
 
 use crate::help;

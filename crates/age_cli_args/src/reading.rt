@@ -3,9 +3,10 @@
 ghost use Rattle.std.specs.Prelude.{◌≡◌, ◌≤◌, ℕ, None, Some, IfNone, IfOk, IfSome};
 ghost use Rattle.clap.specs.Words.{subcommand_rows_of, rows_of, found_of, one_of, first_of, FailsBy};
 ghost use Rattle.clap.specs.Walk.{texts};
-ghost use Rattle.age_cli_args.specs.Requests.{refusals, is_given, IsNumber, option_text, IsClobber};
-ghost use Rattle.age_cli_args.specs.Requests.{IsDurability, IsProgress, IsEncrypting, IsIdentityOptions};
-ghost use Rattle.age_cli_args.specs.Requests.{IsDecrypting, IsResuming, IsDrilling, IsRequest, Requests};
+ghost use Rattle.age_cli_args.specs.{refusals, is_given, IsNumber, option_text, IsClobber, IsDurability};
+ghost use Rattle.age_cli_args.specs.{IsProgress, IsEncrypting, IsIdentityOptions, IsDecrypting, IsResuming};
+ghost use Rattle.age_cli_args.specs.{IsDrilling, IsRequest};
+ghost use Rattle.age_cli_args.specs.Requests.{Requests};
 ghost use Rattle.age_cli_args.specs.declared.request.Encrypting.{Encrypting};
 ghost use Rattle.age_cli_args.specs.declared.request.IdentityOptions.{IdentityOptions};
 ghost use Rattle.age_cli_args.specs.declared.request.Decrypting.{Decrypting};

@@ -5,14 +5,10 @@ use Rattle.std.proofs.lemmas.List.{length-append, length-take}
 use Rattle.std.specs.Borrow.{Bor}
 use Rattle.std.specs.declared.vec.Vec.{Vec}
 use Rattle.clap.specs.Words.{Text}
-use Rattle.age_fileset.specs.FileSet.{Outcome, HasGiven, HasGivenAll}
+use Rattle.age_fileset.specs.{Outcome, HasGiven, HasGivenAll}
 use Rattle.age_fileset.specs.declared.files.OpenFault.{OpenFault}
-use Rattle.age_command.specs.Files.{without_line_feed}
-use Rattle.age_command.specs.Identities.{IsEnough, Makes, file_of, file_bytes}
-use Rattle.age_command.specs.declared.choice.Choice.{Choice}
-use Rattle.age_command.specs.declared.choice.Choice.TheVariants.{PassphraseFile, SharedFile}
-use Rattle.age_command.specs.declared.identity.Identity.{Identity}
-use Rattle.age_command.specs.declared.identity.Identity.TheVariants.{ByPassphrase, ByFileKey, ByShared}
+use Rattle.age_command.specs.{without_line_feed, IsEnough, Makes, file_of, file_bytes, Choice, PassphraseFile, SharedFile, Identity, ByPassphrase, ByFileKey}
+use Rattle.age_command.specs.{ByShared}
 
 abbrev got : Option (List ℕ) → List ℕ
 got (Some bytes) = bytes

@@ -1,8 +1,8 @@
 -- The events of a command, in order.
 use Rattle.std.proofs.Common.{◌≡◌, ◌∙◌, ◌++◌, [], refl, ap, sym, List, append_assoc, append-nil}
-use Rattle.age_fileset.specs.FileSet.{Event, FilesView, Does}
-use Rattle.age_fileset.proofs.OutcomeLemmas.{does_none, does_then, did_events}
-use Rattle.age_command.specs.Orders.{Begins, Follows}
+use Rattle.age_fileset.specs.{Event, FilesView, Does}
+use Rattle.age_fileset.proofs.{does_none, does_then, did_events}
+use Rattle.age_command.specs.{Begins, Follows}
 
 -- events came, and then others
 pub then_did : (old mid new done more : List Event) → mid ≡ old ++ done → new ≡ mid ++ more → new ≡ old ++ (done ++ more)

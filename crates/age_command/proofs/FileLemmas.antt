@@ -1,10 +1,9 @@
 -- What was read of a file, by the outcomes.
 use Rattle.std.proofs.Common.{◌≡◌, ◌∙◌, ◌++◌, ◌<◌, [], ◌∷◌, ap, ℕ, List, length, append_assoc, Option, Some, None, IfSome, IfNone}
 use Rattle.std.specs.declared.vec.Vec.{Vec}
-use Rattle.age_io.specs.Io.{SourceView}
-use Rattle.age_io.specs.Supply.{Consumes, IsAtEnd}
-use Rattle.age_fileset.specs.FileSet.{FilesView, Found, Gave, reading_of, CameSince, HasGiven, HasGivenAll, with_outcomes}
-use Rattle.age_fileset.proofs.OutcomeLemmas.{all_since, gave_since, came_then, grows_so}
+use Rattle.age_io.specs.{SourceView, Consumes, IsAtEnd}
+use Rattle.age_fileset.specs.{FilesView, Found, Gave, reading_of, CameSince, HasGiven, HasGivenAll, with_outcomes}
+use Rattle.age_fileset.proofs.{all_since, gave_since, came_then, grows_so}
 
 -- a file was found and read, and then its reading was over
 module _ (name : List ℕ) (old mid new : FilesView) (first last : SourceView) (size : Option ℕ) (unread : first.supply.given ≡ []) (found : CameSince old mid (Found name first.supply.left size))

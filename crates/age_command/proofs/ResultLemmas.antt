@@ -1,5 +1,5 @@
 -- What holds of a result that is this error.
-use Rattle.std.proofs.Common.{◌≡◌, Result, Ok, Err, IfOk, OnOk, OnErr, IfErr, IsErr, IsErrAnd, sym, subst}
+use Rattle.std.proofs.Common.{◌≡◌, Result, Ok, Err, IfOk, OnOk, IfErr, IsErr, IsErrAnd, sym, subst}
 
 pub no_value : {T E : Type 0} (r : Result T E) (e : E) → IsErr r × IsErrAnd r (λ x. x ≡ e) → (P : T → Type 0) → IfOk r P
 no_value (Ok x) e is P = absurd is.1
@@ -16,7 +16,3 @@ this_error (Err x) e is P h = subst P (sym is.1) h
 pub just_error : {T E : Type 0} (r : Result T E) (e : E) → IsErr r × IsErrAnd r (λ x. x ≡ e) → (P : E → Type 0) → P e → IsErrAnd r P
 just_error (Ok x) e is P h = absurd is.1
 just_error (Err x) e is P h = subst P (sym is.1) h
-
-pub an_error : {T E : Type 0} (r : Result T E) (P : Type 0) → P → OnErr r P
-an_error (Ok x) P h = tt
-an_error (Err x) P h = h

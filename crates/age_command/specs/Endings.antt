@@ -1,12 +1,12 @@
 -- How a run ends if it isn't done, and which lines report it.
-use Rattle.std.specs.Prelude.{◌≡◌, ◌⊎◌, ℕ, Bool, true, false, List, [], ◌++◌, codes, decimal}
-use Rattle.std.specs.Prelude.{nat_le, Option, Some, None, Result, Ok, Err, IsErrAnd, if◌then◌else◌}
+use Rattle.std.specs.Prelude.{◌≡◌, ◌⊎◌, ℕ, Bool, true, false, List, [], ◌++◌, codes, decimal, nat_le, Option}
+use Rattle.std.specs.Prelude.{Some, None, Result, Ok, Err, IsErrAnd, if◌then◌else◌}
 use Rattle.age_io.specs.Taken.{Taken, Appends}
-use Rattle.age_io.specs.Io.{SinkView}
-use Rattle.age_fault.specs.Faults.{fault_number, name_of, fault_place, HasRisen}
+use Rattle.age_io.specs.{SinkView}
+use Rattle.age_fault.specs.{fault_number, name_of, fault_place, HasRisen}
 use Rattle.age_fault.specs.declared.fault.FileFault.{FileFault}
 use Rattle.age_fault.specs.declared.fault.FileFault.TheVariants.{Read, Write, Memory}
-use Rattle.age_fileset.specs.FileSet.{Event}
+use Rattle.age_fileset.specs.{Event}
 use Rattle.age_command.specs.declared.ending.Announcement.{Announcement}
 use Rattle.age_command.specs.declared.ending.Announcement.TheVariants.{Unmade, Made, Failed}
 use Rattle.age_command.specs.declared.ending.Ending.{Ending}

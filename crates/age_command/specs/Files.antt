@@ -1,11 +1,12 @@
 -- The first bytes of a source, what a file holds by what it gave, and why a command may end before its
 -- output is written.
-use Rattle.std.specs.Prelude.{◌-◌, ◌==◌, ◌&&◌, nat_lt, take, slice_index, if◌then◌else◌}
-use Rattle.std.specs.Prelude.{◌≡◌, ◌⊎◌, ℕ, ◌<◌, ◌≤◌, List, ◌++◌, length, true}
-use Rattle.age_io.specs.Supply.{Supply, Consumes, IsAtEnd}
+use Rattle.std.specs.Prelude.{◌-◌, ◌==◌, ◌&&◌, nat_lt, take, slice_index, if◌then◌else◌, ◌≡◌, ◌⊎◌, ℕ, ◌<◌}
+use Rattle.std.specs.Prelude.{◌≤◌, List, ◌++◌, length, true}
+use Rattle.age_io.specs.Supply.{Supply}
+use Rattle.age_io.specs.{Consumes, IsAtEnd}
 use Rattle.clap.specs.Words.{Text}
 use Rattle.age_fault.specs.declared.fault.FileFault.TheVariants.{Read, Write}
-use Rattle.age_fileset.specs.FileSet.{Outcome, Unread, Unwritten, Gave, Reading, HasGiven, HasGivenAll}
+use Rattle.age_fileset.specs.{Outcome, Unread, Unwritten, Gave, Reading, HasGiven, HasGivenAll}
 use Rattle.age_command.specs.declared.ending.Ending.{Ending}
 use Rattle.age_command.specs.declared.ending.Ending.TheVariants.{Fault}
 

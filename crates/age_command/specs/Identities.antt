@@ -1,15 +1,14 @@
 -- What opens a file, by the options and by the files that they name.
-use Rattle.std.specs.Prelude.{◌≡◌, ℕ, List, ◌++◌, length, Option, Some, None, option_map}
-use Rattle.std.specs.Prelude.{IfSome, IsSomeAnd, ◌⊎◌}
+use Rattle.std.specs.Prelude.{◌≡◌, ℕ, List, ◌++◌, length, Option, Some, None, option_map, IfSome, IsSomeAnd}
+use Rattle.std.specs.Prelude.{◌⊎◌}
 use Rattle.std.specs.declared.vec.Vec.{Vec}
 use Rattle.clap.specs.Words.{Text}
 use Rattle.age_stanza.specs.declared.header.Header.{Header}
-use Rattle.age_keys.specs.Keys.{SpellsKey}
-use Rattle.age_keys.specs.Scrypt.{IsAllowed, IsPassphraseKey, PassphraseRefuses, passphrase_steps}
-use Rattle.age_keys.specs.X25519.{Shared, IsSharedKey, SharedRefuses}
+use Rattle.age_keys.specs.{SpellsKey, IsAllowed, IsPassphraseKey, PassphraseRefuses, passphrase_steps, Shared}
+use Rattle.age_keys.specs.{IsSharedKey, SharedRefuses}
 use Rattle.age_keys.specs.declared.fault.KeyFault.{KeyFault}
-use Rattle.age_fileset.specs.FileSet.{Outcome, HasGivenAll}
-use Rattle.age_cli_args.specs.Requests.{option_text}
+use Rattle.age_fileset.specs.{Outcome, HasGivenAll}
+use Rattle.age_cli_args.specs.{option_text}
 use Rattle.age_cli_args.specs.declared.request.IdentityOptions.{IdentityOptions}
 use Rattle.age_command.specs.Files.{HoldsOnly, without_line_feed}
 use Rattle.age_command.specs.Orders.{opening_event, identity_order}

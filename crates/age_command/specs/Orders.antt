@@ -2,9 +2,9 @@
 use Rattle.std.specs.Prelude.{◌≡◌, List, [], ◌∷◌, ◌++◌, Option, Some, None, ◌⊎◌, codes}
 use Rattle.clap.specs.Words.{Text}
 use Rattle.age_io.specs.declared.durability.Durability.{Durability}
-use Rattle.age_fileset.specs.FileSet.{Event, Opened, Prepared, Created, Made, Replaced, Closed}
-use Rattle.age_fileset.specs.FileSet.{FilesView, Does, given_names}
-use Rattle.age_cli_args.specs.Requests.{option_text}
+use Rattle.age_fileset.specs.{Event, Opened, Prepared, Created, Made, Replaced, Closed, FilesView, Does}
+use Rattle.age_fileset.specs.{given_names}
+use Rattle.age_cli_args.specs.{option_text}
 use Rattle.age_cli_args.specs.declared.request.ClobberOption.{ClobberOption}
 use Rattle.age_cli_args.specs.declared.request.ClobberOption.TheVariants.{Allowed, Refused}
 use Rattle.age_cli_args.specs.declared.request.Request.{Request}

@@ -1,17 +1,14 @@
 //! What opens a file, as one of the options says.
 
 ghost use Rattle.std.specs.Prelude.{◌≡◌, ℕ, List, Option, IfOk, IfErr, IfSome, IfNone, IsSomeAnd};
-ghost use Rattle.age_keys.specs.Scrypt.{IsAllowed, PassphraseIdentity};
-ghost use Rattle.age_keys.specs.X25519.{Shared};
+ghost use Rattle.age_keys.specs.{IsAllowed, PassphraseIdentity, Shared};
 ghost use Rattle.age_fault.specs.declared.fault.FileFault.TheVariants.{Read};
-ghost use Rattle.age_fileset.specs.FileSet.{OpenFails, InUse, Does, CameSince};
-ghost use Rattle.age_command.specs.Orders.{opening_event};
-ghost use Rattle.age_command.specs.Identities.{IsPassphraseIn, IsSharedIn, MakesBy, file_of};
-ghost use Rattle.age_command.specs.Identities.{blame_by, blame_in};
-ghost use Rattle.age_command.specs.Identities.{file_bytes, Makes, Chooses, IsEnough};
-ghost use Rattle.age_command.specs.Identities.{IsSecretGiven};
-ghost use Rattle.age_command.specs.Files.{IsUnread};
+ghost use Rattle.age_fileset.specs.{OpenFails, InUse, Does, CameSince};
 ghost use Rattle.age_fileset.specs.declared.files.OpenFault.TheVariants.{SameFile, Fault};
+ghost use Rattle.age_command.specs.Orders.{opening_event};
+ghost use Rattle.age_command.specs.Identities.{IsPassphraseIn, IsSharedIn, MakesBy, file_of, blame_by};
+ghost use Rattle.age_command.specs.Identities.{blame_in, file_bytes, Makes, Chooses, IsEnough, IsSecretGiven};
+ghost use Rattle.age_command.specs.Files.{IsUnread};
 ghost use Rattle.age_command.specs.declared.identity.Identity.{Identity};
 
 use crate::Usage;

@@ -1,14 +1,11 @@
 //! The command that delivers a payload by a script.
 
-ghost use Rattle.std.specs.Prelude.{◌≡◌, ◌≤◌, ◌∷◌, [], Some, IfOk, IfErr, OnOk, length, is_some};
-ghost use Rattle.std.specs.Prelude.{true};
-ghost use Rattle.age_fileset.specs.FileSet.{Opened, Does};
-ghost use Rattle.age_command.specs.Endings.{RefusesAtOnce, is_usage};
-ghost use Rattle.age_command.specs.Orders.{Begins, order_asked};
-ghost use Rattle.age_cli_args.specs.Requests.{option_text};
+ghost use Rattle.std.specs.Prelude.{◌≡◌, ◌≤◌, ◌∷◌, [], Some, IfOk, IfErr, OnOk, length, is_some, true};
+ghost use Rattle.age_fileset.specs.{Opened, Does};
+ghost use Rattle.age_command.specs.{RefusesAtOnce, is_usage, Begins, opening_event, order_asked};
+ghost use Rattle.age_cli_args.specs.{option_text};
 ghost use Rattle.age_cli_args.specs.declared.request.Request.TheVariants.{Drill};
-ghost use Rattle.age_stanza.specs.Grammar.{HasText};
-ghost use Rattle.age_stanza.specs.Parsing.{reading};
+ghost use Rattle.age_stanza.specs.{HasText, reading};
 
 use crate::replaying::Replaying;
 use crate::script::{SCRIPT_MAX, ScriptLine, has_too_many_lines, read_lines};
@@ -265,10 +262,11 @@ fn deliver_sealed<S: Source, O: Sink>(
     deliver_payload(alloc, &key, payload, script, output)
 }
 
-/// Delivers a payload from a file that was opened, in the clear if no passphrase is given.
+/// Delivers a payload from a file that was opened: of an age file that a passphrase opens, or in the
+/// clear if none is given.
 fn deliver_opened<S: Source + Drop, O: Sink>(
     alloc: Global,
-    unlock: Option<&Passphrase<'_>>,
+    pass: Option<Vec<u8>>,
     opened: Result<S, OpenFault>,
     script: &[u8],
     output: &mut O,
@@ -277,54 +275,46 @@ fn deliver_opened<S: Source + Drop, O: Sink>(
     ensures silent { IfErr result (λ e. is_usage e ≡ true → output.new ≡ output.old) }
 {
     let mut source = opened?;
-    match unlock {
-        Some(unlock) => deliver_sealed(alloc, unlock, &mut source, script, output),
-        None => deliver_clear(alloc, &mut source, script, output),
+    let Some(pass) = pass else {
+        return deliver_clear(alloc, &mut source, script, output);
+    };
+    match Passphrase::new(trimmed(pass.as_slice()), WORK_FACTOR_LIMIT) {
+        Some(unlock) => deliver_sealed(alloc, &unlock, &mut source, script, output),
+        None => Err(Ending::Usage(Usage::BadPassphraseFile)),
     }
 }
 
-/// Drills a payload, in the clear if no passphrase is given.
+/// The bytes of the file of the passphrase, if one is named.
+fn read_words<F: FileSet>(
+    alloc: Global,
+    files: &mut F,
+    name: Option<&str>,
+) -> Result<Option<Vec<u8>>, Ending>
+    ensures { Does (opening_event (option_text name.entry)) (F.view files.old) (F.view files.new) }
+{
+    match name {
+        Some(name) => Ok(Some(read_pass(alloc, files, name)?)),
+        None => Ok(None),
+    }
+}
+
+/// Reads the files of a drill, and delivers the payload.
 fn drill<F: FileSet, O: Sink>(
     alloc: Global,
     files: &mut F,
     asked: &Drilling<'_>,
-    unlock: Option<&Passphrase<'_>>,
     output: &mut O,
 ) -> Result<(), Ending>
-    ensures order { Begins (Opened asked.now.script.now ∷ Opened asked.now.from.now ∷ [])
-        (F.view files.old) (F.view files.new) }
-    ensures order_done { OnOk result (Does (Opened asked.now.script.now ∷ Opened asked.now.from.now ∷ [])
-        (F.view files.old) (F.view files.new)) }
+    ensures order { Begins (order_asked (Drill asked.now)).whole (F.view files.old) (F.view files.new) }
+    ensures order_done { OnOk result (Does (order_asked (Drill asked.now)).done (F.view files.old)
+        (F.view files.new)) }
     ensures sent { OnOk result ((O.view output.new).settled ≡ true) }
     ensures silent { IfErr result (λ e. is_usage e ≡ true → output.new ≡ output.old) }
 {
+    let pass = read_words(alloc, files, asked.pass)?;
     let script = read_script(alloc, files, asked.script)?;
     let opened = files.open(alloc, asked.from);
-    deliver_opened(alloc, unlock, opened, script.as_slice(), output)
-}
-
-/// Drills the payload of an age file that a passphrase opens.
-fn drill_sealed<F: FileSet, O: Sink>(
-    alloc: Global,
-    files: &mut F,
-    asked: &Drilling<'_>,
-    pass_name: &str,
-    output: &mut O,
-) -> Result<(), Ending>
-    ensures order { Begins
-        (Opened pass_name.now ∷ Opened asked.now.script.now ∷ Opened asked.now.from.now ∷ [])
-        (F.view files.old) (F.view files.new) }
-    ensures order_done { OnOk result (Does
-        (Opened pass_name.now ∷ Opened asked.now.script.now ∷ Opened asked.now.from.now ∷ [])
-        (F.view files.old) (F.view files.new)) }
-    ensures sent { OnOk result ((O.view output.new).settled ≡ true) }
-    ensures silent { IfErr result (λ e. is_usage e ≡ true → output.new ≡ output.old) }
-{
-    let pass = read_pass(alloc, files, pass_name)?;
-    match Passphrase::new(trimmed(pass.as_slice()), WORK_FACTOR_LIMIT) {
-        Some(unlock) => drill(alloc, files, asked, Some(&unlock), output),
-        None => Err(Ending::Usage(Usage::BadPassphraseFile)),
-    }
+    deliver_opened(alloc, pass, opened, script.as_slice(), output)
 }
 
 /// Delivers a payload as asked. No file is changed, and whatever the deliveries gave is no fault.
@@ -349,8 +339,5 @@ pub fn drill_file<F: FileSet, O: Sink>(
         return Err(Ending::Usage(Usage::GiveClearOrPass));
     }
     files.check_streams(alloc, &[asked.pass, Some(asked.script), Some(asked.from)])?;
-    match asked.pass {
-        Some(name) => drill_sealed(alloc, files, asked, name, output),
-        None => drill(alloc, files, asked, None, output),
-    }
+    drill(alloc, files, asked, output)
 }

@@ -1,7 +1,7 @@
 //! Why a run didn't do what it was asked.
 
 ghost use Rattle.std.specs.Prelude.{◌≡◌};
-ghost use Rattle.age_command.specs.inner.Endings.{ending_of};
+ghost use Rattle.age_command.specs.inner.{ending_of};
 ghost use Rattle.age_command.specs.declared.ending.Ending.TheVariants.{Fault, Usage as UsageEnding};
 
 use age_fault::FileFault;

@@ -1,15 +1,14 @@
 //! The first bytes of a source or a file.
 
-ghost use Rattle.std.specs.Prelude.{◌≡◌, ◌^◌, ◌<◌, ◌≤◌, [], ℕ, List, length, OnOk, IfOk, IfErr};
-ghost use Rattle.std.specs.Prelude.{IfSome, IfNone, ◌∷◌, true};
-ghost use Rattle.age_fileset.specs.FileSet.{Opened, InUse, IsMemoryOr, OpenFails, Does, CameSince};
-ghost use Rattle.age_fault.specs.declared.fault.FileFault.TheVariants.{Read};
-ghost use Rattle.age_io.specs.Io.{Origin};
-ghost use Rattle.age_io.specs.Supply.{Consumes, IsAtEnd};
-ghost use Rattle.age_fileset.specs.FileSet.{HasGiven, HasGivenAll};
+ghost use Rattle.std.specs.Prelude.{◌≡◌, ◌^◌, ◌<◌, ◌≤◌, [], ℕ, List, length, OnOk, IfOk, IfErr, IfSome};
+ghost use Rattle.std.specs.Prelude.{IfNone, ◌∷◌, true};
+ghost use Rattle.age_fileset.specs.{Opened, InUse, IsMemoryOr, OpenFails, Does, CameSince, HasGiven};
+ghost use Rattle.age_fileset.specs.{HasGivenAll};
 ghost use Rattle.age_fileset.specs.declared.files.OpenFault.TheVariants.{SameFile, Fault};
-ghost use Rattle.age_command.specs.Files.{AreFirst, IsUnread};
-ghost use Rattle.age_command.specs.inner.Pieces.{IsPiece};
+ghost use Rattle.age_fault.specs.declared.fault.FileFault.TheVariants.{Read};
+ghost use Rattle.age_io.specs.{Origin, Consumes, IsAtEnd};
+ghost use Rattle.age_command.specs.{AreFirst, IsUnread};
+ghost use Rattle.age_command.specs.inner.{IsPiece};
 
 use crate::identity::PASSPHRASE_FILE_MAX;
 use age_fault::FileFault;

@@ -1,11 +1,10 @@
 //! What opens a file, and what the files of secrets hold.
 
 ghost use Rattle.std.specs.Prelude.{◌≡◌, [], ◌∷◌, ℕ, List, IfOk, IfErr, IfSome, IfNone, Some};
-ghost use Rattle.age_fileset.specs.FileSet.{Opened, Does, CameSince, HasGivenAll};
+ghost use Rattle.age_fileset.specs.{Opened, Does, CameSince, HasGivenAll};
 ghost use Rattle.age_command.specs.declared.ending.Ending.TheVariants.{Usage as UsageEnding};
 ghost use Rattle.age_command.specs.declared.ending.Usage.TheVariants.{BadPassphraseFile};
-ghost use Rattle.age_keys.specs.Scrypt.{IsAllowed};
-ghost use Rattle.age_keys.specs.X25519.{Shared};
+ghost use Rattle.age_keys.specs.{IsAllowed, Shared};
 ghost use Rattle.age_command.specs.Endings.{EndsEarly};
 ghost use Rattle.age_command.specs.Identities.{IsPassphraseIn, IsSharedIn};
 ghost use Rattle.age_command.specs.Files.{HoldsOnly, without_line_feed};

@@ -1,9 +1,9 @@
 //! Writes bytes whole.
 
 ghost use Rattle.std.specs.Prelude.{◌≡◌, IfErr, OnOk, OnErr};
+ghost use Rattle.age_fault.specs.{HasRisen};
 ghost use Rattle.age_fault.specs.declared.fault.FileFault.TheVariants.{Write};
 ghost use Rattle.age_io.specs.Taken.{Appends};
-ghost use Rattle.age_fault.specs.Faults.{HasRisen};
 
 use age_fault::{FileFault, write_all};
 use age_io::Sink;

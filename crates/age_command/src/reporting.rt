@@ -1,12 +1,12 @@
 //! Reports why a run ended.
 
 ghost use Rattle.std.specs.Prelude.{◌≡◌, ◌++◌, [], decimal, Some, true};
-ghost use Rattle.age_io.specs.Io.{holds};
-ghost use Rattle.age_fault.specs.Faults.{fault_number, fault_place};
-ghost use Rattle.age_command.specs.Endings.{place_text, fault_line, ReportsEnding, Announces, ReportsRest};
+ghost use Rattle.age_io.specs.{holds};
+ghost use Rattle.age_fault.specs.{fault_number, fault_place};
+ghost use Rattle.age_command.specs.{place_text, fault_line, ReportsEnding, Announces, ReportsRest};
 ghost use Rattle.age_command.specs.declared.ending.Ending.TheVariants.{Fault};
 ghost use Rattle.age_command.specs.declared.ending.Announcement.TheVariants.{Made};
-ghost use Rattle.age_command.specs.inner.Endings.{PutsAll};
+ghost use Rattle.age_command.specs.inner.{PutsAll};
 
 use crate::ending::{Announcement, Ending, Usage};
 use crate::put::put_bytes;

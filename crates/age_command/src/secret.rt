@@ -1,6 +1,6 @@
 //! A passphrase whose bytes are overwritten once it isn't needed.
 
-ghost use Rattle.age_keys.specs.Scrypt.{IsAllowed, IsPassphraseKey, PassphraseRefuses, passphrase_steps};
+ghost use Rattle.age_keys.specs.{IsAllowed, IsPassphraseKey, PassphraseRefuses, passphrase_steps};
 ghost use Rattle.age_command.specs.Files.{without_line_feed};
 ghost use Rattle.std.specs.Prelude.{◌≡◌, IfSome, IfNone};
 
@@ -48,7 +48,7 @@ pub struct OwnPassphrase {
 }
 
 impl Model for OwnPassphrase {
-    ghost use Rattle.age_keys.specs.Scrypt.{PassphraseIdentity, IsAllowed};
+    ghost use Rattle.age_keys.specs.{PassphraseIdentity, IsAllowed};
     ghost use Rattle.age_command.specs.Files.{without_line_feed};
 
     ghost Value = { PassphraseIdentity };

@@ -1,31 +1,32 @@
--- How files are opened, and the random bytes of an encryption. Private: no public contract cites
--- this module.
-use Rattle.std.specs.Prelude.{◌≡◌, ◌⊎◌, [], Option, Some, None, ◌++◌, true, Bool, List, Result}
-use Rattle.std.specs.Prelude.{IfOk, OnOk, OnErr, IfErr, ℕ, length}
+-- The names of a command, how files are opened, and the random bytes of an encryption. Private: no
+-- public contract cites this module.
+use Rattle.std.specs.Prelude.{◌≡◌, ◌⊎◌, [], Option, Some, None, ◌++◌, true, Bool, List, Result, IfOk, IfErr}
+use Rattle.std.specs.Prelude.{ℕ, length, if◌then◌else◌}
 use Rattle.clap.specs.Words.{Text}
 use Rattle.age_keys.specs.declared.random.FileRandom.{FileRandom}
-use Rattle.age_fileset.specs.FileSet.{Event, FilesView, Outcome, OneStream, HasGiven, HasGivenAll}
-use Rattle.age_fileset.specs.FileSet.{Does, PutsOnly, CameSince}
-use Rattle.age_cli_args.specs.Requests.{option_text}
-use Rattle.age_cli_args.specs.declared.request.Decrypting.{Decrypting}
+use Rattle.age_fault.specs.declared.fault.FileFault.TheVariants.{Read, Write, Memory, BadPosition}
+use Rattle.age_fileset.specs.{Event, FilesView, Outcome, HasGiven, HasGivenAll, Does, PutsOnly, CameSince}
+use Rattle.age_fileset.specs.{Found, FoundOrEmpty, Unwritten}
+use Rattle.age_cli_args.specs.{option_text}
 use Rattle.age_cli_args.specs.declared.request.Encrypting.{Encrypting}
-use Rattle.age_command.specs.Endings.{EndsEarly, RefusesAtOnce, is_usage}
+use Rattle.age_command.specs.{is_usage, Follows, Order, HoldsOnly, IsUnread}
 use Rattle.age_command.specs.declared.ending.Ending.{Ending}
-use Rattle.age_command.specs.declared.ending.Ending.TheVariants.{Usage}
-use Rattle.age_command.specs.declared.ending.Usage.TheVariants.{SameFile}
-use Rattle.age_command.specs.Files.{HasReason}
-use Rattle.age_command.specs.Orders.{Begins, Follows, random_name}
-use Rattle.age_cli.specs.Acts.{SparesOut, AreSame, IsUnusable}
+use Rattle.age_command.specs.declared.ending.Ending.TheVariants.{Fault, Usage}
+use Rattle.age_command.specs.declared.ending.Usage.TheVariants.{SameFile, BadPassphraseFile, BadRandomFile}
+use Rattle.age_command.specs.Orders.{writing_order}
+use Rattle.age_cli.specs.Acts.{SparesOut, AreSame, IsUnusable, NamesOne}
+use Rattle.age_cli.specs.Commands.{HoldsNoPassphrase, HoldsNoRandom, HoldsNoPosition}
 use Rattle.age_cli.specs.declared.encrypt_command.Material.{Material}
 use Rattle.age_cli.specs.declared.output.Content.{Content}
 use Rattle.age_cli.specs.declared.output.Content.TheVariants.{Plaintext, AgeFile}
+use Rattle.age_cli.specs.declared.output.Writing.{Writing}
 
--- ---- The names of the files that are read.
+-- ---- The names of a command.
 
--- a name is the input's, or that of the passphrase or shared-secret file
-abbrev pub IsReadAs : Decrypting → Text → Type 0
-IsReadAs d name = (d.from.now ≡ name)
-    ⊎ ((option_text d.identity.pass ≡ Some name) ⊎ (option_text d.identity.shared ≡ Some name))
+-- the order of a command that writes
+abbrev pub order_in : Writing → Order
+order_in w = writing_order (option_text w.first) (option_text w.second) (option_text w.position)
+    (option_text w.old) (Some w.from.now) w.clobber (Some w.to.now) (option_text w.save) w.durability
 
 -- these pairs of names were compared: two are the same, or they aren't
 pub record Compares (old new : FilesView) (answer : Bool) (IsPair : Text → Text → Type 0)
@@ -34,55 +35,61 @@ pub record Compares (old new : FilesView) (answer : Bool) (IsPair : Text → Tex
   pub twice : (name : Text) → IsPair name name → answer ≡ true
   pub found : answer ≡ true → AreSame (CameSince old new) IsPair
 
--- ---- How files are opened and made before anything is written.
+-- ---- How a command ends before its output is written.
+
+-- why: a file couldn't be read or written, memory was refused, a position is bad, or the command line
+-- is to blame
+abbrev pub IsCause : (Came : Outcome → Type 0) → (Bad : Type 0) → (Blame : Ending → Type 0) → Ending → Type 0
+IsCause Came Bad Blame (Fault Read) = IsUnread Came
+IsCause Came Bad Blame (Fault Write) = (name : Text) × Came (Unwritten name)
+IsCause Came Bad Blame (Fault Memory) = Unit {0}
+IsCause Came Bad Blame (Fault BadPosition) = Bad
+IsCause Came Bad Blame (Usage usage) = Blame (Usage usage)
+IsCause Came Bad Blame other = ⊥
+
+pub record EndsBy (Came : Outcome → Type 0) (Bad : Type 0) (Blame : Ending → Type 0) (ending : Ending)
+    : Type 0 where
+  pub cause : IsCause Came Bad Blame ending
+
+-- files can't be opened or made, the output of this name among them, if that is to be an age file
+abbrev pub IsUnopened : (age_file : Option Text) → (Outcome → Type 0) → Ending → Type 0
+IsUnopened age_file Came = EndsBy Came ⊥ (IsUnusable Came age_file)
+
+-- the file of a position can't be read, or holds none, or another file can't be opened
+abbrev pub IsUnplaced : Text → (Outcome → Type 0) → Ending → Type 0
+IsUnplaced name Came = EndsBy Came (HoldsOnly Came name HoldsNoPosition) (IsUnusable Came None)
+
+-- It ended with the files as they were. A beginning of `events` was done, by which nothing was put and no
+-- output touched; none of it, if names are equal that have to differ.
+pub record FailsEarly (events : List Event) (IsTwice : Type 0) (Why : (Outcome → Type 0) → Ending → Type 0)
+    (old new : FilesView) (ending : Ending) : Type 0 where
+  pub none : PutsOnly [] old new
+  pub spared : SparesOut old.ended new.ended
+  pub order : Follows events old.events new.events
+  pub apart : IsTwice → (new.events ≡ old.events) × (is_usage ending ≡ true)
+  pub why : Why (CameSince old new) ending
+
+-- the files of `order` were opened or made, and this holds of them; or it ended so, in `whole`
+pub record OpensFiles {A : Type 0} (order whole : List Event) (IsTwice : Type 0)
+    (Why : (Outcome → Type 0) → Ending → Type 0) (old new : FilesView) (IsNew : A → Type 0)
+    (result : Result A Ending) : Type 0 where
+  pub done : IfOk result (λ x. IsNew x × Does order old new × (IsTwice → ⊥))
+  pub fails : IfErr result (FailsEarly whole IsTwice Why old new)
+
+-- a file is found, or one that isn't there counts as empty
+abbrev pub found_by : Bool → Text → Option (List ℕ) → Option ℕ → Outcome
+found_by or_empty name left size = if or_empty then FoundOrEmpty name left size else Found name left size
 
 -- the name of an output, if that is to be an age file
 abbrev pub age_file_in : Content → Text → Option Text
 age_file_in AgeFile name = Some name
 age_file_in Plaintext name = None
 
--- the files of `order` were opened or made, and this holds of them; or it ended early, in `whole`.
--- The output of this name, if it is given, may be no terminal.
-pub record OpensFiles {A : Type 0} (order whole : List Event) (age_file : Option Text)
-    (old new : FilesView) (IsNew : A → Type 0) (result : Result A Ending) : Type 0 where
-  -- Nothing was given or taken so far.
-  pub begun : IfOk result IsNew
-  -- All of the order was done.
-  pub noted : OnOk result (Does order old new)
-  -- Nothing was put, and no output was touched.
-  pub none : PutsOnly [] old new
-  pub spared : SparesOut old.ended new.ended
-  -- Or a beginning of what a refusal may add was done.
-  pub followed : OnErr result (Follows whole old.events new.events)
-  -- It ended early.
-  pub early : IfErr result EndsEarly
-  -- It had a reason.
-  pub reason : IfErr result (HasReason (CameSince old new))
-  -- The command line is to blame only for what a name leads to.
-  pub fault : IfErr result (λ ending. is_usage ending ≡ true → IsUnusable (CameSince old new) age_file ending)
-
--- names that have to differ are the same, or two of these are of one stream, and the ending says so
-abbrev pub BlamesNames : (Came : Outcome → Type 0) → Bool → List Text → Ending → Type 0
-BlamesNames Came is_twice read ending =
-    (ending ≡ Usage SameFile) × ((is_twice ≡ true) ⊎ Came (OneStream read))
-
--- the files by which a command line is judged were opened, `order` being the events of that; if names
--- that have to differ are equal, none is
-pub record Judges {A : Type 0} (order : List Event) (old new : FilesView) (IsTwice : Type 0)
-    (Blame : Ending → Type 0) (result : Result A Ending) : Type 0 where
-  -- All of the order was done.
-  pub noted : OnOk result (Does order old new)
-  -- However it ended, a beginning was.
-  pub followed : Begins order old new
-  -- Names that have to differ are refused before a file is opened.
-  pub apart : IsTwice → RefusesAtOnce old.events new.events result
-  -- The command line is refused for this alone, or for what a name leads to.
-  pub blamed : IfErr result
-      (λ ending. is_usage ending ≡ true → Blame ending ⊎ IsUnusable (CameSince old new) None ending)
-  -- It ended early.
-  pub early : IfErr result EndsEarly
-  -- It had a reason.
-  pub reason : IfErr result (HasReason (CameSince old new))
+-- the command line is to blame: for the names of what is written and read, for what files give, or for
+-- what a name leads to
+abbrev pub IsBlamedBy : (Came : Outcome → Type 0) → Writing → (GivesNone : Ending → Type 0) → Ending → Type 0
+IsBlamedBy Came w GivesNone ending = ((ending ≡ Usage SameFile) × NamesOne Came (order_in w))
+    ⊎ (GivesNone ending ⊎ IsUnusable Came (age_file_in w.content w.to.now) ending)
 
 -- ---- The random parts of an age file in bytes.
 
@@ -95,8 +102,15 @@ pub record IsRandom (bytes : List ℕ) (r : FileRandom) : Type 0 where
   pub nonce_length : length r.payload_nonce ≡ 16
 
 -- all that the file of the passphrase gave, and what that of the random bytes gave
-pub record IsMaterialGiven (Came : Outcome → Type 0) (asked : Encrypting) (m : Material) : Type 0 where
+pub record IsMaterialGiven (Came : Outcome → Type 0) (asked : Encrypting) (random_name : Text)
+    (m : Material) : Type 0 where
   pub pass : HasGivenAll Came asked.pass.now m.pass.items
   pub bytes : List ℕ
-  pub random : HasGiven Came (random_name (option_text asked.random)) bytes
+  pub random : HasGiven Came random_name bytes
   pub random_is : IsRandom bytes m.random
+
+-- one of these files doesn't hold what it has to
+abbrev pub LacksMaterial : (Came : Outcome → Type 0) → Encrypting → (random_name : Text) → Ending → Type 0
+LacksMaterial Came asked random_name ending =
+    ((ending ≡ Usage BadPassphraseFile) × HoldsOnly Came asked.pass.now (HoldsNoPassphrase asked.log))
+    ⊎ ((ending ≡ Usage BadRandomFile) × HoldsOnly Came random_name HoldsNoRandom)

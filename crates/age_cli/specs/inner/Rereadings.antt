@@ -1,26 +1,31 @@
 -- How a position is found by reading the input once more. What only private code cites.
-use Rattle.std.specs.Prelude.{◌≡◌, ◌⊎◌, ℕ, Bool, true, List, Option, Some, is_some, None, min}
-use Rattle.std.specs.Prelude.{Result, Err, IsErr, OnOk, IfErr, IsErrAnd, if◌then◌else◌}
-use Rattle.age_io.specs.Io.{SourceView, SinkView}
+use Rattle.std.specs.Prelude.{◌≡◌, ◌⊎◌, ℕ, Bool, true, List, Option, Some, is_some, None, min, Result, Err}
+use Rattle.std.specs.Prelude.{IsErr, OnOk, IfErr, IsErrAnd, if◌then◌else◌}
+use Rattle.age_io.specs.{Shown as ShownOne, SourceView, SinkView}
 use Rattle.age_io.specs.declared.durability.Durability.{Durability}
-use Rattle.age_file.specs.Runs.{Ports}
+use Rattle.age_file.specs.{Ports}
 use Rattle.age_file.specs.declared.decryption.Done.{Done}
 use Rattle.age_file.specs.declared.decryption.Stopped.{Stopped}
 use Rattle.age_file.specs.declared.position.Position.{Position}
 use Rattle.age_file.specs.declared.standing.Standing.{Standing}
 use Rattle.age_file.specs.declared.standing.Standing.TheVariants.{Skipping, InPayload}
-use Rattle.age_fileset.specs.FileSet.{FilesView, Outcome, Found, Gave, Settled, CameSince, reading_of}
+use Rattle.age_fileset.specs.{FilesView, Outcome, Found, Gave, Settled, CameSince, reading_of}
 use Rattle.age_io.specs.Supply.{Supply}
 use Rattle.clap.specs.Words.{Text}
-use Rattle.age_cli_args.specs.Requests.{option_text}
+use Rattle.age_cli_args.specs.{option_text}
 use Rattle.age_cli_args.specs.declared.request.Decrypting.{Decrypting}
 use Rattle.age_cli_args.specs.declared.request.ProgressOption.{ProgressOption}
 use Rattle.age_cli_args.specs.declared.request.ProgressOption.TheVariants.{Silent, Shown}
 use Rattle.age_command.specs.declared.ending.Ending.{Ending}
-use Rattle.age_cli.specs.Acts.{start_of, Engine, Finds, Paths}
+use Rattle.age_cli.specs.Acts.{start_of, Engine, Finds, Paths, ShowsRun}
 use Rattle.age_cli.specs.Commands.{WasRead}
 use Rattle.age_cli.specs.declared.interruption.Interruption.{Interruption}
 use Rattle.age_cli.specs.inner.Endings.{Concludes, opening_end}
+
+-- what progress shows of a second reading, if there was one
+abbrev pub ShowsAgain : (old new : Option (List ShownOne)) → Type 0
+ShowsAgain old new = (new ≡ old)
+    ⊎ ((size : Option ℕ) × (coming : Supply) × (left : Supply) × ShowsRun size coming left old new)
 
 -- IN was read once more, and a position was found
 pub record IsFoundIn (Came : Outcome → Type 0) (name : Text) (from : Option Position) (key : List ℕ)

@@ -1,9 +1,8 @@
 use Rattle.std.proofs.Common.{◌≡◌, ◌∙◌, refl}
-use Rattle.age_file.specs.Runs.{ports}
-use Rattle.age_fileset.specs.FileSet.{CameSince}
-use Rattle.age_cli.specs.Acts.{PortsOf, ShowsReadings}
-use Rattle.age_cli.proofs.ReadingsLemmas.{shown_with}
-use Rattle.age_cli.proofs.RestLemmas.{runs_opened}
+use Rattle.age_file.specs.{ports}
+use Rattle.age_fileset.specs.{CameSince}
+use Rattle.age_cli.specs.{PortsOf, ShowsReadings}
+use Rattle.age_cli.proofs.{shown_with, runs_opened}
 use Rattle.age_cli.proofs.decrypt_command.decrypt_opened.Goals as goal
 
 pub returns-clause-opened : goal.returns-clause-opened

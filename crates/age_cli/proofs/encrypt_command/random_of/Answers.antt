@@ -1,6 +1,6 @@
 use Rattle.std.proofs.Common.{◌≡◌, ◌++◌, ◌∙◌, ap, sym, arith, List, ℕ, drop, length, refl}
 use Rattle.std.proofs.lemmas.List.{length-drop, drop-drop, take_all, append_assoc}
-use Rattle.age_command.proofs.CutLemmas.{cut_in_two, front_length}
+use Rattle.age_command.proofs.{cut_in_two, front_length}
 use Rattle.age_cli.proofs.encrypt_command.random_of.Goals as goal
 
 pub returns-clause-parts : goal.returns-clause-parts

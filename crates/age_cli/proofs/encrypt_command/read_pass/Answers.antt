@@ -1,6 +1,18 @@
-use Rattle.std.proofs.Common.{refl, inl}
-use Rattle.age_cli.proofs.ReadLemmas.{pass_only}
+use Rattle.std.proofs.Common.{refl, inl, inr}
+use Rattle.age_fault.specs.declared.fault.FileFault.TheVariants.{Read}
+use Rattle.age_cli.proofs.{fails_all, fault_why, opens_not, pass_only}
 use Rattle.age_cli.proofs.encrypt_command.read_pass.Goals as goal
 
-pub returns-in-None-clause-refused : goal.returns-in-None-clause-refused
-returns-in-None-clause-refused g c usage = inl (refl, pass_only c.args.asked.now.pass c.args.asked.now.log _ _ c.in_ok-held.ensures.enough c.in-None.ensures.none)
+pub returns-in_err-held : goal.returns-in_err-held
+returns-in_err-held g c =
+    let read = c.in_err-held.ensures in
+    opens_not c.from_residual.result c.from_residual.ensures (fails_all c.read.ensures.does (λ no. absurd no) (fault_why Read _ read.faults
+    (λ same. inr (inl (refl, (c.args.asked.now.pass.now, read.in_use same)))) (λ is. record { cause = read.reason is })))
+
+pub returns-in-Some : goal.returns-in-Some
+returns-in-Some g c = record { done = (rw c.in-Some.ensures.some.0 at c.in_ok-held.ensures.given, c.read.ensures.does, (λ no. no)); fails = tt }
+
+pub returns-in-None : goal.returns-in-None
+returns-in-None g c =
+    let a = c.args.asked.now in
+    record { done = tt; fails = fails_all c.read.ensures.does (λ no. absurd no) (record { cause = inl (refl, pass_only a.pass a.log _ _ c.in_ok-held.ensures.enough c.in-None.ensures.none) }) }

@@ -1,5 +1,5 @@
-use Rattle.age_io.specs.Io.{Named, Metered}
-use Rattle.age_cli.proofs.ReadingsLemmas.{shows_run}
+use Rattle.age_io.specs.{Named, Metered}
+use Rattle.age_cli.proofs.{shows_run}
 use Rattle.age_cli.proofs.encrypt_command.seal_text.Goals as goal
 
 pub returns-in-Shown-clause-shown : goal.returns-in-Shown-clause-shown

@@ -1,11 +1,10 @@
 use Rattle.std.proofs.Common.{inr, Ok}
 use Rattle.std.proofs.lemmas.Result.{on_ok_weaker, IfErr-weaker}
-use Rattle.age_io.specs.Io.{Named}
-use Rattle.age_fileset.specs.FileSet.{Opened, Found}
-use Rattle.age_fileset.proofs.OutcomeLemmas.{opened_does, opened_came, found_plain}
-use Rattle.age_cli.proofs.ReadLemmas.{over_does, was_read}
-use Rattle.age_cli.specs.Commands.{FailsFile, FailsInput}
-use Rattle.age_cli.proofs.ReportLemmas.{fails_as, whole_report}
+use Rattle.age_io.specs.{Named}
+use Rattle.age_fileset.specs.{Opened, Found}
+use Rattle.age_fileset.proofs.{opened_does, opened_came, found_plain}
+use Rattle.age_cli.proofs.{over_does, was_read, fails_as, whole_report}
+use Rattle.age_cli.specs.{FailsFile, FailsInput}
 use Rattle.age_cli.proofs.inspect_command.report_file.Goals as goal
 
 pub returns-in-Err-Fault-clause-does : goal.returns-in-Err-Fault-clause-does

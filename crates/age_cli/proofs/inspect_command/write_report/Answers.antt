@@ -1,5 +1,5 @@
 use Rattle.std.proofs.lemmas.Result.{on_ok_weaker}
-use Rattle.age_io.proofs.TakenLemmas.{Appends-kept}
+use Rattle.age_io.proofs.{Appends-kept}
 use Rattle.age_cli.proofs.inspect_command.write_report.Goals as goal
 
 pub returns-clause-done : goal.returns-clause-done

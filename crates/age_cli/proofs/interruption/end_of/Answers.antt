@@ -1,4 +1,4 @@
-use Rattle.age_cli.proofs.PutLemmas.{saved_well, saved_badly}
+use Rattle.age_cli.proofs.{saved_well, saved_badly}
 use Rattle.age_cli.proofs.interruption.end_of.Goals as goal
 
 pub returns-in-Ok-clause-put : goal.returns-in-Ok-clause-put

@@ -1,8 +1,8 @@
-use Rattle.age_cli_args.specs.Requests.{option_text}
-use Rattle.age_fileset.specs.FileSet.{CameSince}
-use Rattle.age_fileset.proofs.OutcomeLemmas.{all_as}
-use Rattle.age_cli.specs.Acts.{PortsOf, CameFirst, kept_for}
-use Rattle.age_cli.proofs.TextLemmas.{leaves_text, leaves_resumed, spares_of_request}
+use Rattle.age_cli_args.specs.{option_text}
+use Rattle.age_fileset.specs.{CameSince}
+use Rattle.age_fileset.proofs.{all_as}
+use Rattle.age_cli.specs.{PortsOf, CameFirst, kept_for}
+use Rattle.age_cli.proofs.{leaves_text, leaves_resumed, spares_of_request}
 use Rattle.age_cli.proofs.laws.decryptions_leave_text.Goals as goal
 
 pub returns-clause-done : goal.returns-clause-done

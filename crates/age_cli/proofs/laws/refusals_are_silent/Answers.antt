@@ -1,4 +1,4 @@
-use Rattle.age_cli.proofs.TextLemmas.{no_help, refused_silently, reported_accepts}
+use Rattle.age_cli.proofs.{no_help, refused_silently, reported_accepts}
 use Rattle.age_cli.proofs.laws.refusals_are_silent.Goals as goal
 
 pub returns-clause-silent : goal.returns-clause-silent

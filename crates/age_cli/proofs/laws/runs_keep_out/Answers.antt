@@ -1,6 +1,6 @@
 use Rattle.std.proofs.Common.{List, subst, sym, ap}
-use Rattle.age_fileset.specs.FileSet.{FilesView, AreTrue, Outcome}
-use Rattle.age_cli.proofs.HeadlineLemmas.{headline_of, resumed_headline_of, spares_asked, spares_refused, failed_by, usage_by}
+use Rattle.age_fileset.specs.{FilesView, AreTrue, Outcome}
+use Rattle.age_cli.proofs.{headline_of, resumed_headline_of, spares_asked, spares_refused, failed_by, usage_by}
 use Rattle.age_cli.proofs.laws.runs_keep_out.Goals as goal
 
 pub returns : goal.returns

@@ -1,14 +1,17 @@
-use Rattle.age_fileset.specs.FileSet.{Settled}
-use Rattle.age_cli.proofs.PutLemmas.{concludes_from, certain_from, certain_if}
+use Rattle.age_fileset.proofs.{came_then, grows_then}
+use Rattle.age_cli.proofs.{saves_from, saves_stop}
 use Rattle.age_cli.proofs.output.conclude.Goals as goal
+
+pub returns-in-Ok-clause-concludes : goal.returns-in-Ok-clause-concludes
+returns-in-Ok-clause-concludes g c = rw c.in-Ok.is (0, c.close_out.ensures.closes, λ there. tt)
 
 pub returns-clause-concludes : goal.returns-clause-concludes
 returns-clause-concludes g c =
-    let sink = g.F.Out.Sink.view c.args.out in
-    let view = g.F.FileSet.view in
     let settle = c.settle_stop-settled in
-    let did = rw settle.ensures.same at c.conclude_settled.ensures.concludes in (
+    let left = rw settle.ensures.same at c.leave.ensures in
+    let ended = c.end_of.ensures in
+    rw c.in-Err.is (
       settle.result,
-      concludes_from _ _ sink settle.result _ _ _ _ settle.ensures.does _ did,
-      certain_if _ _ _ c.args.engine (certain_from _ _ sink settle.result _ _ _ _ settle.ensures.does c.conclude_settled.result did (Settled c.args.durability sink.taken.bytes settle.result)) settle.ensures.certain,
+      saves_from settle.ensures.does (saves_stop left ended.unended ended.reported ended.noted ended.put),
+      λ there. came_then _ _ _ _ (grows_then left.outs ended.put.0 _ _ _ left.puts_only ended.put.1) _ (settle.ensures.certain there),
     )

@@ -1,4 +1,4 @@
-use Rattle.age_fileset.proofs.OutcomeLemmas.{does_none, noted_came, noted_does, terminal_plain}
+use Rattle.age_fileset.proofs.{does_none, noted_came, noted_does, terminal_plain}
 use Rattle.age_cli.proofs.output.is_unshown.Goals as goal
 
 pub returns-in-AgeFile-clause-does : goal.returns-in-AgeFile-clause-does

@@ -1,16 +1,23 @@
-use Rattle.std.proofs.Common.{[]}
-use Rattle.age_fileset.specs.FileSet.{Prepared}
-use Rattle.age_cli_args.specs.Requests.{option_text}
-use Rattle.age_fileset.proofs.OutcomeLemmas.{made_does, does_none, none_plain}
+use Rattle.std.proofs.Common.{[], Ok}
+use Rattle.age_fileset.specs.{Prepared}
+use Rattle.age_cli_args.specs.{option_text}
+use Rattle.age_fileset.proofs.{made_does, does_none, none_plain}
+use Rattle.age_cli.proofs.{made_fails, opens_not}
 use Rattle.age_cli.proofs.output.prepare_save.Goals as goal
 
-pub returns-in_err-prepare-in-Some-clause-does : goal.returns-in_err-prepare-in-Some-clause-does
-returns-in_err-prepare-in-Some-clause-does g c =
-    rw c.in-Some.is (made_does c.in-Some.save.now (Prepared c.in-Some.save.now (option_text c.args.asked.now.position)) [] none_plain _ _ c.prepare.result c.prepare.ensures.noted c.prepare.ensures.faults)
+pub returns-in_err-prepare-in-Some : goal.returns-in_err-prepare-in-Some
+returns-in_err-prepare-in-Some g c =
+    let save = c.in-Some.save.now in
+    rw c.in-Some.is (opens_not c.from_residual.result c.from_residual.ensures
+    (made_fails save _ (Prepared save (option_text c.args.asked.now.position)) c.in_err-prepare-in-Some.ensures.noted c.in_err-prepare-in-Some.ensures.faults))
 
-pub returns-in_ok-prepare-in-Some-clause-does : goal.returns-in_ok-prepare-in-Some-clause-does
-returns-in_ok-prepare-in-Some-clause-does g c =
-    rw c.in-Some.is (made_does c.in-Some.save.now (Prepared c.in-Some.save.now (option_text c.args.asked.now.position)) [] none_plain _ _ c.prepare.result c.prepare.ensures.noted c.prepare.ensures.faults)
+pub returns-in_ok-prepare-in-Some : goal.returns-in_ok-prepare-in-Some
+returns-in_ok-prepare-in-Some g c =
+    let save = c.in-Some.save.now in
+    rw c.in-Some.is (record {
+      done = (tt, made_does save (Prepared save (option_text c.args.asked.now.position)) [] none_plain _ _ (Ok (tt {0})) c.in_ok-prepare-in-Some.ensures.noted tt, (λ no. no));
+      fails = tt;
+    })
 
-pub returns-in-None-clause-does : goal.returns-in-None-clause-does
-returns-in-None-clause-does g c = rw c.in-None.is (does_none _)
+pub returns-in-None : goal.returns-in-None
+returns-in-None g c = rw c.in-None.is (record { done = (tt, does_none _, (λ no. no)); fails = tt })

@@ -1,5 +1,5 @@
 use Rattle.std.proofs.Common.{[], inl, inr, refl}
-use Rattle.age_fileset.proofs.OutcomeLemmas.{does_then, in_use_plain, noted_came, noted_does, then_came, grows_by}
+use Rattle.age_fileset.proofs.{does_then, in_use_plain, noted_came, noted_does, then_came, grows_by}
 use Rattle.age_cli.proofs.output.refusal_of.Goals as goal
 
 pub returns-then-is_unshown-clause-taken : goal.returns-then-is_unshown-clause-taken

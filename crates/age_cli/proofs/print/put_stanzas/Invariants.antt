@@ -1,6 +1,6 @@
 use Rattle.std.proofs.Common.{◌≡◌, ◌++◌, drop}
 use Rattle.std.specs.List.{flat_map}
-use Rattle.age_cli.specs.Commands.{stanza_line}
+use Rattle.age_cli.specs.{stanza_line}
 use Rattle.age_cli.proofs.print.put_stanzas.Given as goal
 
 abbrev pub invariant-loop-stanza : goal.invariant-loop-stanza

@@ -2,9 +2,9 @@ use Rattle.std.proofs.Common.{◌∙◌, ap, inl, inr, refl, subst, Some, None}
 use Rattle.clap.specs.Walk.{texts}
 use Rattle.age_cli_args.specs.Requests.{Requests}
 use Rattle.age_cli_args.specs.declared.request.Request.TheVariants.{Inspect, Encrypt, Decrypt, Resume, Drill}
-use Rattle.age_fileset.proofs.OutcomeLemmas.{does_none}
-use Rattle.age_cli.specs.Commands.{FailsFile, FailsInput}
-use Rattle.age_cli.proofs.ObeyLemmas.{some_words, obeyed, asked_fails, for_help, help_done, help_fails, both_done, drill_acts, inspect_acts}
+use Rattle.age_fileset.proofs.{does_none}
+use Rattle.age_cli.specs.{FailsFile, FailsInput}
+use Rattle.age_cli.proofs.{some_words, obeyed, asked_fails, for_help, help_done, help_fails, both_done, drill_acts, inspect_acts}
 use Rattle.age_cli.proofs.program.obey.Goals as goal
 
 pub returns-in-Ok-None-clause-obeys : goal.returns-in-Ok-None-clause-obeys

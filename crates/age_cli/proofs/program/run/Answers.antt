@@ -1,5 +1,5 @@
 use Rattle.std.proofs.Common.{ap, refl, Ok, Err}
-use Rattle.age_cli.proofs.ObeyLemmas.{reported_whole}
+use Rattle.age_cli.proofs.{reported_whole}
 use Rattle.age_cli.proofs.program.run.Goals as goal
 
 pub returns-in-Ok : goal.returns-in-Ok

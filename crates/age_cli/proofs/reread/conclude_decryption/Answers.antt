@@ -1,9 +1,9 @@
-use Rattle.std.proofs.Common.{[], ◌∷◌}
-use Rattle.age_fileset.specs.FileSet.{CameSince, Gave, Settled, reading_of}
-use Rattle.age_fileset.proofs.OutcomeLemmas.{does_only, gave_puts}
-use Rattle.age_cli_args.specs.Requests.{option_text}
-use Rattle.age_cli.specs.inner.Rereadings.{again_of}
-use Rattle.age_cli.proofs.RereadLemmas.{concluded_once, not_again}
+use Rattle.std.proofs.Common.{ap, [], ◌∷◌}
+use Rattle.age_fileset.specs.{CameSince, Gave, Settled, reading_of}
+use Rattle.age_fileset.proofs.{came_one, came_then, does_only, gave_puts}
+use Rattle.age_cli_args.specs.{option_text}
+use Rattle.age_cli.specs.inner.{again_of}
+use Rattle.age_cli.proofs.{concluded, concluded_once, not_again}
 use Rattle.age_cli.proofs.reread.conclude_decryption.Goals as goal
 
 pub returns-in-None-clause-concludes : goal.returns-in-None-clause-concludes
@@ -23,3 +23,15 @@ returns-in-None-clause-concludes g c =
     (does_only old mid (Gave gave ∷ []) (c.finish.ensures.over d.from.now c.requires.input) (gave_puts gave)) c.opening_end.result
     c.opening_end.ensures
     c.conclude.ensures.concludes)
+
+pub returns-in-None-clause-over : goal.returns-in-None-clause-over
+returns-in-None-clause-over g c =
+    let view = g.F.FileSet.view in
+    let d = c.args.asked.now in
+    let did = c.args.decrypted in
+    let ended = c.conclude.ensures.concludes in
+    let gave = Gave (reading_of d.from.now (g.F.In.Source.view did.source)) in
+    let facts = concluded (option_text d.save) d.durability (g.F.Out.Sink.view c.args.out) ended.0 c.opening_end.result (view c.finish.new.self) (view c.conclude.new.files)
+    c.conclude.result ended.1 in
+    came_then facts.puts (view c.args.files.now) (view c.finish.new.self) (view c.conclude.new.files) facts.grows gave
+    (came_one _ _ gave (ap (λ v. v.outcomes) (c.finish.ensures.over d.from.now c.requires.input)))

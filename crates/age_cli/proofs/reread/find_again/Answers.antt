@@ -1,9 +1,9 @@
 use Rattle.std.proofs.Common.{[], ◌∷◌, min}
-use Rattle.age_io.specs.Io.{Named}
-use Rattle.age_fileset.specs.FileSet.{CameSince, Found, Gave, reading_of, reread_as}
-use Rattle.age_fileset.proofs.OutcomeLemmas.{came_first, came_one, came_then, does_only, does_then, gave_puts, grows_by, then_came}
-use Rattle.age_cli.specs.Acts.{start_of}
-use Rattle.age_cli.proofs.RereadLemmas.{came_second, found_by, outcomes_of, reread_does}
+use Rattle.age_io.specs.{Named}
+use Rattle.age_fileset.specs.{CameSince, Found, Gave, reading_of, reread_as}
+use Rattle.age_fileset.proofs.{came_first, came_one, came_then, does_only, does_then, gave_puts, grows_by, then_came}
+use Rattle.age_cli.specs.{start_of}
+use Rattle.age_cli.proofs.{came_second, found_by, outcomes_of, reread_does}
 use Rattle.age_cli.proofs.reread.find_again.Goals as goal
 
 pub returns-in_err-reread-clause-does : goal.returns-in_err-reread-clause-does

@@ -1,6 +1,6 @@
 use Rattle.std.proofs.Common.{inr}
-use Rattle.age_io.specs.Io.{Named, Metered}
-use Rattle.age_cli.proofs.ReadingsLemmas.{shows_run}
+use Rattle.age_io.specs.{Named, Metered}
+use Rattle.age_cli.proofs.{shows_run}
 use Rattle.age_cli.proofs.reread.find_in.Goals as goal
 
 pub returns-in-Shown-clause-shown : goal.returns-in-Shown-clause-shown

@@ -1,14 +1,11 @@
 use Rattle.std.proofs.Common.{◌≡◌, ◌∙◌, [], ◌∷◌, ◌++◌, refl, Some}
-use Rattle.age_io.specs.Io.{Named}
-use Rattle.age_fileset.specs.FileSet.{CameSince, Gave, puts_in, reading_of}
-use Rattle.age_fileset.proofs.OutcomeLemmas.{came_one, came_then, does_only, gave_puts, grows_by, grows_so, grows_then}
-use Rattle.age_cli.specs.Acts.{PortsOf, ShowsReadings}
-use Rattle.age_cli.specs.inner.Rereadings.{again_of}
-use Rattle.age_file.specs.Runs.{ports}
-use Rattle.age_cli.proofs.ReadingsLemmas.{shown_with}
-use Rattle.age_cli.proofs.OpeningLemmas.{did_came}
-use Rattle.age_cli.proofs.RereadLemmas.{decryption_since, outcomes_of}
-use Rattle.age_cli.proofs.RestLemmas.{resumed_by}
+use Rattle.age_io.specs.{Named}
+use Rattle.age_fileset.specs.{CameSince, Gave, puts_in, reading_of}
+use Rattle.age_fileset.proofs.{came_one, came_then, does_only, gave_puts, grows_by, grows_so, grows_then}
+use Rattle.age_cli.specs.{PortsOf, ShowsReadings}
+use Rattle.age_cli.specs.inner.{again_of}
+use Rattle.age_file.specs.{ports}
+use Rattle.age_cli.proofs.{shown_with, did_came, decryption_since, outcomes_of, resumed_by}
 use Rattle.age_cli.proofs.resume_command.resume_opened.Goals as goal
 
 pub returns-clause-grows : goal.returns-clause-grows
@@ -55,7 +52,7 @@ returns-clause-opened g c = λ begin later unread found.
     (ports (In c.args.source) (Out c.args.out))
     (ports (In once.result.source) (Out once.new.out)) (record { source = once.result.source; sink = once.new.out; is = refl })
     (record { source = c.args.old; sink = c.args.out; is = refl })
-    (record { source = once.new.old; sink = once.new.out; is = refl }) first last later (did_came [] first mid last did read over)
+    (record { source = once.new.old; sink = once.new.out; is = refl }) first last later (did_came did read over)
     (record { unread = unread; size = g.F.FileSet.size c.args.old; found = found; over = later (Gave gave) came })
     (now ≡ was) (λ coming left r. ShowsReadings size coming left (shown was) (shown now) r)
     (λ silent. ended.ensures.silent silent ∙ once.ensures.silent silent) c.can_reread-is_reread.result

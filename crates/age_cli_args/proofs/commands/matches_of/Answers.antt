@@ -3,9 +3,8 @@ use Rattle.std.proofs.lemmas.Result.{IfOk-weaker}
 use Rattle.clap.specs.Words.{App, app_of, is_simple, is_simple_and_free, subcommand_of, fault_of}
 use Rattle.clap.specs.Walk.{texts}
 use Rattle.clap.proofs.FaultLemmas.{fails_as}
-use Rattle.age_cli_args.specs.Commands.{age_tool}
-use Rattle.age_cli_args.specs.Requests.{named, refusals}
-use Rattle.age_cli_args.proofs.SimpleLemmas.{is_simple-age_tool, is_free-age_tool}
+use Rattle.age_cli_args.specs.{age_tool, named, refusals}
+use Rattle.age_cli_args.proofs.{is_simple-age_tool, is_free-age_tool}
 use Rattle.age_cli_args.proofs.commands.matches_of.Goals as goal
 
 pub returns-clause-matches : goal.returns-clause-matches

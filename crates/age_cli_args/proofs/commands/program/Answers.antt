@@ -1,4 +1,4 @@
-use Rattle.age_cli_args.specs.Commands.{age_tool, encrypting, decrypting, resuming, inspecting, drilling}
+use Rattle.age_cli_args.specs.{age_tool, encrypting, decrypting, resuming, inspecting, drilling}
 use Rattle.age_cli_args.proofs.commands.program.Goals as goal
 
 pub returns : goal.returns

@@ -1,6 +1,6 @@
 use Rattle.std.proofs.Common.{◌≡◌, false, drop}
 use Rattle.clap.specs.Words.{App, app_of}
-use Rattle.age_cli_args.specs.inner.Commands.{HasApp, has_globals, with_all}
+use Rattle.age_cli_args.specs.inner.{HasApp, has_globals, with_all}
 use Rattle.age_cli_args.proofs.commands.with_arguments.Given as goal
 
 abbrev pub invariant-loop-argument : goal.invariant-loop-argument

@@ -1,8 +1,8 @@
 use Rattle.std.proofs.Common.{◌∙◌, sym, ap, refl}
 use Rattle.std.proofs.lemmas.List.{drop_all}
 use Rattle.clap.specs.Words.{App}
-use Rattle.age_cli_args.specs.inner.Commands.{with_subcommands}
-use Rattle.age_cli_args.proofs.SimpleLemmas.{add_command}
+use Rattle.age_cli_args.specs.inner.{with_subcommands}
+use Rattle.age_cli_args.proofs.{add_command}
 use Rattle.age_cli_args.proofs.commands.with_commands.Goals as goal
 
 pub loop-sub-init : goal.loop-sub-init

@@ -4,7 +4,7 @@ use Rattle.std.specs.Option.{option_map_or}
 use Rattle.std.specs.Str.Parse.{ParsesBool}
 use Rattle.clap.specs.Words.{Text, found_of, one_text}
 use Rattle.clap.proofs.WalkLemmas.{one_text-rows}
-use Rattle.age_cli_args.proofs.NumberLemmas.{flag_read}
+use Rattle.age_cli_args.proofs.{flag_read}
 use Rattle.age_cli_args.proofs.reading.flag.Goals as goal
 
 pub returns : goal.returns

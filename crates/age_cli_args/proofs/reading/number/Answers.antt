@@ -3,8 +3,8 @@ use Rattle.std.specs.Str.Parse.{ParsesUnsigned, ExplainsUnsignedError, HasUnsign
 use Rattle.std.proofs.lemmas.Option.{IfSome_then}
 use Rattle.clap.specs.Words.{Text, found_of, one_text}
 use Rattle.clap.proofs.WalkLemmas.{one_text-rows}
-use Rattle.age_cli_args.specs.Requests.{IsNumber}
-use Rattle.age_cli_args.proofs.NumberLemmas.{number_read, not_number, no_number, no_text, some_text, none_weaker}
+use Rattle.age_cli_args.specs.{IsNumber}
+use Rattle.age_cli_args.proofs.{number_read, not_number, no_number, no_text, some_text, none_weaker}
 use Rattle.age_cli_args.proofs.reading.number.Goals as goal
 
 pub returns-in-Some-clause-value : goal.returns-in-Some-clause-value

@@ -1,6 +1,6 @@
 use Rattle.std.proofs.Common.{[]}
-use Rattle.age_command.proofs.EventLemmas.{begins_none, begins_then}
-use Rattle.age_fileset.proofs.OutcomeLemmas.{checked_does}
+use Rattle.age_command.proofs.{begins_none, begins_then}
+use Rattle.age_fileset.proofs.{checked_does}
 use Rattle.age_command.proofs.drill.drill_file.Goals as goal
 
 pub returns-then-asked-is_some-clause-order : goal.returns-then-asked-is_some-clause-order

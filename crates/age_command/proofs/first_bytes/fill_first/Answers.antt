@@ -1,6 +1,6 @@
 use Rattle.std.proofs.Common.{take, arith, ap, length}
 use Rattle.std.proofs.lemmas.List.{length-append, length-take}
-use Rattle.age_io.proofs.SupplyLemmas.{Consumes-trans}
+use Rattle.age_io.proofs.{Consumes-trans}
 use Rattle.age_command.proofs.first_bytes.fill_first.Goals as goal
 
 pub pieces-preserved : goal.pieces-preserved

@@ -1,6 +1,5 @@
 use Rattle.std.proofs.Common.{◌≡◌, ◌≤◌, ◌-◌, length}
-use Rattle.age_io.specs.Io.{Origin}
-use Rattle.age_io.specs.Supply.{Consumes}
+use Rattle.age_io.specs.{Origin, Consumes}
 use Rattle.age_command.proofs.first_bytes.fill_first.Given as goal
 
 -- what was read so far

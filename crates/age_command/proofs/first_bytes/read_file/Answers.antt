@@ -1,9 +1,8 @@
 use Rattle.std.proofs.Common.{◌∷◌, [], Err, inl, Ok}
-use Rattle.age_io.specs.Io.{Named}
-use Rattle.age_fileset.specs.FileSet.{Opened, Found, Gave, reading_of}
-use Rattle.age_fileset.proofs.OutcomeLemmas.{does_only, does_then, opened_does, opened_came, opened_unread, opened_in_use, found_plain, gave_puts}
-use Rattle.age_command.proofs.ResultLemmas.{this_error}
-use Rattle.age_command.proofs.FileLemmas.{given_if, long_if}
+use Rattle.age_io.specs.{Named}
+use Rattle.age_fileset.specs.{Opened, Found, Gave, reading_of}
+use Rattle.age_fileset.proofs.{does_only, does_then, opened_does, opened_came, opened_unread, opened_in_use, found_plain, gave_puts}
+use Rattle.age_command.proofs.{this_error, given_if, long_if}
 use Rattle.age_command.proofs.first_bytes.read_file.Goals as goal
 
 pub returns-in_err-source-clause-does : goal.returns-in_err-source-clause-does

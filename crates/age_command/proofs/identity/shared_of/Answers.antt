@@ -1,6 +1,6 @@
 use Rattle.std.proofs.Common.{◌∙◌, ◌++◌, ap, sym, subst, arith, List, ℕ, length, Some}
-use Rattle.age_command.specs.Identities.{IsSharedIn}
-use Rattle.age_command.proofs.CutLemmas.{cut_in_two, front_length}
+use Rattle.age_command.specs.{IsSharedIn}
+use Rattle.age_command.proofs.{cut_in_two, front_length}
 use Rattle.age_command.proofs.identity.shared_of.Goals as goal
 
 pub returns-clause-some : goal.returns-clause-some

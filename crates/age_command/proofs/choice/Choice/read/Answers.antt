@@ -1,7 +1,7 @@
 use Rattle.std.proofs.Common.{refl}
-use Rattle.age_command.specs.declared.choice.Choice.TheVariants.{PassphraseFile, SharedFile}
-use Rattle.age_command.proofs.ChoiceLemmas.{enough, shared_long, pass_long}
-use Rattle.age_fileset.proofs.OutcomeLemmas.{does_none}
+use Rattle.age_command.specs.{PassphraseFile, SharedFile}
+use Rattle.age_command.proofs.{enough, shared_long, pass_long}
+use Rattle.age_fileset.proofs.{does_none}
 use Rattle.age_command.proofs.choice.Choice.read.Goals as goal
 
 pub returns-in-SharedFile-clause-enough : goal.returns-in-SharedFile-clause-enough

@@ -1,7 +1,7 @@
 use Rattle.std.proofs.Common.{◌≡◌, ◌∙◌, ap, subst, List, ℕ}
 use Rattle.std.specs.Result.{MatchResult}
-use Rattle.age_keys.specs.Scrypt.{IsPassphraseKey, PassphraseIdentity, PassphraseRefuses}
-use Rattle.age_command.specs.Files.{without_line_feed}
+use Rattle.age_keys.specs.{IsPassphraseKey, PassphraseIdentity, PassphraseRefuses}
+use Rattle.age_command.specs.{without_line_feed}
 use Rattle.age_command.proofs.secret.OwnPassphraseUnlock.unlock.Goals as goal
 
 abbrev of_bytes : ℕ → List ℕ → PassphraseIdentity
