@@ -24,7 +24,7 @@ def needs(*tools, root=False):
 
 
 def twice(one, other):
-    """What is said of two names of one file."""
+    """What is said of two names of one file, of which the first is the one to be written, if one is."""
     return f"age_tool: same file named twice\nage_tool: {one} and {other} are the same file\n".encode()
 
 

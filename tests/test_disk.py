@@ -39,11 +39,11 @@ class DiskTest(FilesCase):
         os.close(reader)
         os.mkfifo(self.path("fifo"))
         os.symlink("fifo", self.path("to-fifo"))
-        self.expect(2, twice("fifo", "to-fifo"), "encrypt --pass pass fifo to-fifo")
-        self.expect(2, twice("fifo", "to-fifo"), "decrypt --pass pass fifo to-fifo")
+        self.expect(2, twice("to-fifo", "fifo"), "encrypt --pass pass fifo to-fifo")
+        self.expect(2, twice("to-fifo", "fifo"), "decrypt --pass pass fifo to-fifo")
         keeps_open = os.open(self.path("fifo"), os.O_RDWR)
         self.expect(2, twice("to-fifo", "fifo"), "decrypt --pass pass --save to-fifo cut fifo")
-        self.expect(2, twice("fifo", "to-fifo"), "decrypt --pass pass --save to-fifo fifo new")
+        self.expect(2, twice("to-fifo", "fifo"), "decrypt --pass pass --save to-fifo fifo new")
         os.close(keeps_open)
         self.see("no output is left", not self.is_there("new"))
 
@@ -104,9 +104,9 @@ class DiskTest(FilesCase):
         number = os.stat(age).st_rdev
         os.mknod(self.path("node"), stat.S_IFBLK | 0o600, number)
         for to in ("to-device", "node"):
-            self.expect(2, twice(age, to), ["decrypt", "--pass", "pass", age, to])
-            self.expect(2, twice(age, to), ["encrypt", "--pass", "pass", "--log", "4", age, to])
-            self.expect(2, twice(age, to), ["decrypt", "--pass", "pass", "--save", to, age, "new"])
+            self.expect(2, twice(to, age), ["decrypt", "--pass", "pass", age, to])
+            self.expect(2, twice(to, age), ["encrypt", "--pass", "pass", "--log", "4", age, to])
+            self.expect(2, twice(to, age), ["decrypt", "--pass", "pass", "--save", to, age, "new"])
         self.see("the device that is read is kept", pathlib.Path(age).read_bytes() == image and not self.is_there("new"))
         self.expect(0, b"", ["decrypt", "--pass", "pass", "age", other], "OUT is a block device")
         with open(other, "rb") as device:

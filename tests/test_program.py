@@ -107,11 +107,11 @@ class ProgramTest(Case):
     def test_over_what_is_read(self):
         with open(self.path("plain.age"), "ab") as age:
             ended = self.decrypt("plain.age", "/dev/stdout", stdout=age)
-        self.ends("appended to what is read", ended, 2, b"", twice("plain.age", "/dev/stdout"))
+        self.ends("appended to what is read", ended, 2, b"", twice("/dev/stdout", "plain.age"))
         self.see("appended to what is read: the age file is kept", self.read("plain.age") == self.age)
         with open(self.path("plain.age"), "rb") as age:
             ended = self.decrypt("/dev/stdin", "plain.age", stdin=age)
-        self.ends("over standard input", ended, 2, b"", twice("/dev/stdin", "plain.age"))
+        self.ends("over standard input", ended, 2, b"", twice("plain.age", "/dev/stdin"))
         self.see("over standard input: the age file is kept", self.read("plain.age") == self.age)
 
     def test_shared_input(self):

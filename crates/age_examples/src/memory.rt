@@ -1,8 +1,8 @@
 //! A decryption over memory.
 
 ghost use Rattle.std.specs.Prelude.{◌≡◌, ℕ, List, [], MatchResult};
-ghost use Rattle.age_io.specs.Io.{memory_supply};
-ghost use Rattle.age_file.specs.Decrypts.{IsUndamagedFile, StopsOutside};
+ghost use Rattle.age_io.specs.{memory_supply};
+ghost use Rattle.age_file.specs.{IsUndamagedFile, StopsOutside};
 
 use age_file::{FileFault, MemSink, MemSource, decrypt, undamaged_is_written};
 use age_keys::Unlock;

@@ -2,8 +2,8 @@
 
 ghost use Rattle.std.specs.Prelude.{◌≡◌, OnOk};
 ghost use Rattle.age_io.specs.Taken.{Appends};
-ghost use Rattle.age_stream.specs.Opener.{chunk_bytes};
-ghost use Rattle.age_chunk.specs.Payload.{payload, chunk_length};
+ghost use Rattle.age_stream.specs.{chunk_bytes};
+ghost use Rattle.age_chunk.specs.{payload, chunk_length};
 
 use age_file::{FileFault, Sink, write_all};
 use age_stream::{BLOCK_LEN, ChunkBox, Sealer};

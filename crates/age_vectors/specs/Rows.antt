@@ -1,13 +1,12 @@
 -- What a row of a table of headers says of the definitions: the length of the header in front, the
 -- fault's number and line, or the key that is found.
 use Rattle.std.specs.Prelude.{◌≡◌, ◌⊎◌, ℕ, List, take, Some}
-use Rattle.age_stanza.specs.Grammar.{HeadText}
-use Rattle.age_stanza.specs.Parsing.{head_fault_number, head_fault_place, HasHeader, NoFault}
-use Rattle.age_stanza.specs.Parsing.{IsFault, line_after, memory_fault}
+use Rattle.age_stanza.specs.{HeadText, head_fault_number, head_fault_place, HasHeader, NoFault, IsFault}
+use Rattle.age_stanza.specs.{line_after, memory_fault}
 use Rattle.age_stanza.specs.declared.fault.HeadFault.{HeadFault}
 use Rattle.age_stanza.specs.declared.fault.HeadKind.TheVariants.{HeadCut}
 use Rattle.age_stanza.specs.declared.header.Header.{Header}
-use Rattle.age_keys.specs.Keys.{Opens}
+use Rattle.age_keys.specs.{Opens}
 use Rattle.age_vectors.specs.declared.header.TheConstants.{SMALLEST, SMALLEST_AND_ONE, FULL_LINE}
 use Rattle.age_vectors.specs.declared.header.TheConstants.{LAST_BYTE_ONE, CR_LF, ARMOR, ARMOR_CR, TWO_SPACES}
 use Rattle.age_vectors.specs.declared.header.TheConstants.{SPACE_AT_END, HIGH_BYTE, NUL, NO_EMPTY_LINE}

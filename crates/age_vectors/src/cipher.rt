@@ -1,9 +1,7 @@
 // ChaCha20, Poly1305 and their AEAD. A constant named for a section is what RFC 8439 gives there; A
 // is its appendix.
 ghost use Rattle.std.specs.Prelude.{◌≡◌, ◌+◌, ◌*◌, ◌^◌, ◌≤◌, IsTrue, length, replicate};
-ghost use Rattle.age_cipher.specs.Keystream.{ciphertext};
-ghost use Rattle.age_cipher.specs.Poly1305.{poly1305};
-ghost use Rattle.age_cipher.specs.Aead.{block_limit, sealing};
+ghost use Rattle.age_cipher.specs.{ciphertext, poly1305, block_limit, sealing};
 
 use age_cipher::{open_in_place, poly1305, seal_in_place, xor_stream};
 

@@ -2,8 +2,7 @@
 // nothing, and under a real key: what is held under cuts, swaps, repeats, restarts, bytes after the
 // end and inverted bits.
 ghost use Rattle.std.specs.Prelude.{◌<◌, ◌≤◌};
-ghost use Rattle.age_chunk.specs.ChunkBoxes.{tag_length};
-ghost use Rattle.age_chunk.specs.Payload.{block_length};
+ghost use Rattle.age_chunk.specs.{tag_length, block_length};
 
 use Delivery::{End, Piece, Restart};
 use age_keys::{FileKey, PayloadKey, payload_key};

@@ -1,8 +1,8 @@
 // Headers of the C2SP page's grammar, whole and in single bytes.
 ghost use Rattle.std.specs.Prelude.{◌<◌, IsTrue, IfOk, IfErr, take};
-ghost use Rattle.age_stanza.specs.Grammar.{HeadText};
-ghost use Rattle.age_vectors.specs.Rows.{IsReported, Accepts, RefusesHeader, AcceptedRows};
-ghost use Rattle.age_vectors.specs.Rows.{FirstLineRows, ArgumentRows, LineRows};
+ghost use Rattle.age_stanza.specs.{HeadText};
+ghost use Rattle.age_vectors.specs.Rows.{IsReported, Accepts, RefusesHeader, AcceptedRows, FirstLineRows};
+ghost use Rattle.age_vectors.specs.Rows.{ArgumentRows, LineRows};
 
 use age_stanza::{HEAD_MAX, HeadFault, HeadParser, HeadStep, Header, encode_head, is_header};
 use std::alloc::{AllocError, Global};

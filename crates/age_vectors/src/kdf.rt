@@ -1,7 +1,7 @@
 // HMAC, HKDF and PBKDF2 with SHA-256, and scrypt. A constant named for a case is what its RFC gives.
 ghost use Rattle.std.specs.Prelude.{◌≡◌, [], IsTrue, take, replicate, codes};
-ghost use Rattle.age_kdf.specs.Derivation.{hmac, hkdf32, pbkdf2_once};
-ghost use Rattle.age_scrypt.specs.Scrypt.{scrypt};
+ghost use Rattle.age_kdf.specs.{hmac, hkdf32, pbkdf2_once};
+ghost use Rattle.age_scrypt.specs.{scrypt};
 
 use age_kdf::{hkdf32, hmac, pbkdf2_once};
 use age_scrypt::{Steps, derive};

@@ -1,10 +1,9 @@
 // What passphrases and known keys find in headers. The header was made by Python: hashlib's scrypt,
 // HMAC over its SHA-256, and RFC 8439 in plain whole numbers.
 ghost use Rattle.std.specs.Prelude.{IsTrue, IfOk, codes};
-ghost use Rattle.age_stanza.specs.Grammar.{HeadText};
-ghost use Rattle.age_keys.specs.Keys.{Opens};
-ghost use Rattle.age_keys.specs.Scrypt.{scrypt_head};
-ghost use Rattle.age_vectors.specs.Rows.{OpensIn};
+ghost use Rattle.age_stanza.specs.{HeadText};
+ghost use Rattle.age_keys.specs.{Opens, scrypt_head};
+ghost use Rattle.age_vectors.specs.{OpensIn};
 
 use crate::header::{ARGUMENT_START, around, parsed, repeated};
 use age_keys::{FileKey, KnownKey, Passphrase, Steps, Unlock, open_header, scrypt_header};

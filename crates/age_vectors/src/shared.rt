@@ -1,7 +1,7 @@
 // What a shared secret finds in the X25519 stanzas of headers, which Python made.
 ghost use Rattle.std.specs.Prelude.{IsTrue};
-ghost use Rattle.age_keys.specs.X25519.{IsSharedKey};
-ghost use Rattle.age_vectors.specs.Rows.{OpensIn};
+ghost use Rattle.age_keys.specs.{IsSharedKey};
+ghost use Rattle.age_vectors.specs.{OpensIn};
 
 use crate::header::around;
 use crate::keys::{FILE_KEY, is_opened, opened};

@@ -1,5 +1,5 @@
 use Rattle.std.proofs.Common.{◌++◌, ap, ◌∙◌}
-use Rattle.age_io.specs.Io.{Holding}
+use Rattle.age_io.specs.{Holding}
 use Rattle.age_file.specs.declared.position.PositionPolicy.TheVariants.{Kept}
 use Rattle.age_examples.proofs.memory.text_of.Goals as goal
 

@@ -1,10 +1,10 @@
 use Rattle.std.proofs.Common.{◌≡◌, ◌-◌, ◌≤◌, ℕ, ◌+◌, length, take, drop, List, ◌++◌, ap, sym, subst, ◌∙◌, arith, take-add}
 use Rattle.std.proofs.lemmas.List.{take_all, take_rest, length-take, length-drop}
 use Rattle.age_io.specs.Taken.{Appends}
-use Rattle.age_stream.specs.Sealer.{Holds, step_len}
-use Rattle.age_chunk.specs.Payload.{sealed_before_last, block_bytes, payload, chunk_length}
+use Rattle.age_stream.specs.{Holds, step_len}
+use Rattle.age_chunk.specs.{sealed_before_last, block_bytes, payload, chunk_length}
 use Rattle.std.proofs.lemmas.Bool.Decides.{nat_tests}
-use Rattle.age_io.proofs.TakenLemmas.{Appends-trans}
+use Rattle.age_io.proofs.{Appends-trans}
 use Rattle.age_examples.proofs.sealing.seal_to.Goals as goal
 
 step_len_le : (m : ℕ) (held piece : List ℕ) → step_len m held piece ≤ length piece

@@ -1,7 +1,7 @@
 use Rattle.std.proofs.Common.{length, ◌-◌, ◌≡◌, ◌≤◌, take, false}
 use Rattle.age_io.specs.Taken.{Appends}
-use Rattle.age_stream.specs.Sealer.{Holds}
-use Rattle.age_chunk.specs.Payload.{sealed_before_last, block_bytes, chunk_length}
+use Rattle.age_stream.specs.{Holds}
+use Rattle.age_chunk.specs.{sealed_before_last, block_bytes, chunk_length}
 use Rattle.age_examples.proofs.sealing.seal_to.Given as goal
 
 abbrev pub invariant-loop-at : goal.invariant-loop-at
