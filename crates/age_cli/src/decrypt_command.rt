@@ -23,8 +23,9 @@ use age_io::{Meter, Metered, Sink};
 use age_keys::KnownKey;
 use std::alloc::Global;
 
-/// What opens the input, by the options and the file that they name. Refuses first if two names
-/// that must differ are one file, or two names of what is read stand for one stream.
+/// What opens the input, by the options and the file that they name. Before it reads that, refuses
+/// two names that must differ and are one file, and two names of what is read that stand for one
+/// stream.
 pub(crate) fn identify<F: FileSet>(
     alloc: Global,
     files: &mut F,

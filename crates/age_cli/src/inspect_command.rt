@@ -108,8 +108,8 @@ fn known_length<F: FileSet>(files: &F, source: &F::In) -> Option<u64>
     }
 }
 
-/// Writes the report on the file of this name. If its length is known, no more is read than its
-/// header.
+/// Writes the report on the file of this name. If its length is known, nothing is read once its
+/// header has come.
 pub(crate) fn report_file<F: FileSet, O: Sink>(
     alloc: Global,
     files: &mut F,

@@ -11,7 +11,8 @@ use age_io::Meter;
 /// The headline of [`run`](crate::run) over files in memory, as they stand before it and when it
 /// returns: whatever the status, OUT is as it was or holds a beginning of the plaintext, while no
 /// block of IN opens except as its writer sealed it; 0 means all of the plaintext; and only OUT and
-/// the file of `--save` differ.
+/// the file of `--save` differ. The plaintext has at most 2^48 chunks, and the earlier output of
+/// `resume` begins with those before its position.
 pub fn runs_keep_out<I: Source, O: Sink, E: Sink, P: Meter>(before: &MemFiles, after: &MemFiles)
     ensures { RunsKeepOut (PortsOf shown_in shown_out) I O E P before.now after.now }
 {

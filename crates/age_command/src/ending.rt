@@ -28,7 +28,7 @@ pub enum Usage {
     GiveClearOrPass,
     /// The script has more than 1,048,576 bytes or 1,000 lines.
     ScriptTooLong,
-    /// This line of the script, counted from 1, is malformed.
+    /// This line of the script, counted from 1, is malformed, or reaches past the payload.
     BadScriptLine(usize),
     /// The payload has more than 16,777,216 bytes.
     PayloadTooLong,

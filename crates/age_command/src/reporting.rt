@@ -16,7 +16,7 @@ use arrayvec::ArrayVec;
 use itoa::Buffer;
 
 /// A line on the stack, so that it goes out in one put and lines of several runs don't mix. The
-/// longest has 61 bytes.
+/// longest has 54 bytes.
 #[derive(Debug, Drop)]
 struct FaultLine {
     bytes: ArrayVec<u8, 128>,

@@ -107,8 +107,7 @@ fn decrypt_again<U: Unlock, S: Source, O: Sink>(
 /// Finds the position at which a decryption stopped in its payload, if positions were dropped: after
 /// this many bytes of the text, by reading its file again from its start. The text is checked and
 /// linked once more, from the first chunk on, or from that of the position from which a resumed
-/// decryption began, but written nowhere. No more of the file is read than the chunk after that
-/// takes.
+/// decryption began, but written nowhere. It pulls no more once the chunk after that has come.
 ///
 /// It refuses with `Memory` (28), and with `Read` (26) if the second reading ends elsewhere.
 pub fn position_after<U: Unlock, S: Source>(

@@ -36,8 +36,9 @@ pub struct Stopped {
     pub fault: FileFault,
     /// How many bytes were written.
     pub written: u128,
-    /// Where a reader may continue, once the payload nonce was read: after the whole chunks before
-    /// the last that were written. `None` if positions are dropped.
+    /// Where a reader may continue, once the payload nonce was read, and the old text of a resumed
+    /// decryption was found to be the position's: after the whole chunks before the last that were
+    /// written. `None` if positions are dropped.
     pub position: Option<Position>,
 }
 

@@ -71,9 +71,10 @@ pub fn read_again<U: Unlock>()
     one_header();
 }
 
-/// A run of [`decrypt`](crate::decrypt) or [`resume`](crate::resume), while no block opens except
-/// as the writer of a text sealed it: what it wrote begins the text, it is all of the text if the
-/// call is done, and each position carries the chain over the text's first chunks.
+/// A run of [`decrypt`](crate::decrypt), or of [`resume`](crate::resume) if what that copied begins
+/// the text, while no block opens except as the writer of the text sealed it: what it wrote begins
+/// the text, it is all of the text if the call is done, and each position carries the chain over the
+/// text's first chunks.
 pub fn authentic_runs<U: Unlock>()
     ensures { AuthenticRuns U U.allows }
 {}
@@ -84,10 +85,11 @@ pub fn head_faults_stay()
     ensures { HeadFaultsStay }
 {}
 
-/// What is undamaged: the text of an age file that is whole, which the unlocker opens, is written,
-/// by [`decrypt`](crate::decrypt) and at a position of it by [`resume`](crate::resume), or the call
-/// stops with `Read` (26), `Write` (27), `Memory` (28) or `ReadNeverEnds` (29). Of the call no more
-/// is assumed than what its contract promises.
+/// What is undamaged: the text of an age file that is whole, with a closed payload, which the
+/// unlocker opens, is written, by [`decrypt`](crate::decrypt) and at a position of it by
+/// [`resume`](crate::resume), or the call stops with `Read` (26), `Write` (27), `Memory` (28) or
+/// `ReadNeverEnds` (29), if contracts see the source's bytes. Of the call no more is assumed than
+/// what its contract promises.
 #[tactic(auto, using(crate::proofs::UndamagedLemmas::decrypted, crate::proofs::UndamagedLemmas::resumed))]
 pub fn undamaged_is_written<U: Unlock>()
     ensures decrypted { (keep : PositionPolicy) (who : U) (result : Result Done Stopped)

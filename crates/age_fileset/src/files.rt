@@ -108,9 +108,9 @@ pub trait FileSet {
         false
     }
 
-    /// Ends a reading of a file that was opened under this name, and sets it back to its start. It is
-    /// the file that was opened, whatever the name stands for now. Refuses with `Read` (26) if it
-    /// can't, and with `Memory` (28).
+    /// Ends a reading of a file that was opened under this name, and sets it back to its start. On a
+    /// disk it is the file that was opened, whatever the name stands for now. Refuses with `Read`
+    /// (26) if it can't, and with `Memory` (28).
     fn reread(&mut self, alloc: Global, name: &str, source: &mut Self::In) -> Result<(), FileFault>
         ensures over { Self.In.began source.old (Named name.now) → view self.new
             ≡ with_outcomes (Gave (reading_of name.now (Self.In.view source.old))
@@ -130,20 +130,19 @@ pub trait FileSet {
         ensures same { view self.new ≡ record (view self.old) { outcomes = (view self.new).outcomes } };
 
     /// Prepares for a file to be replaced later, once the files to be read are open: checks that it
-    /// can be, as far as this changes nothing. Refuses with `Write` (27) if it can't, with `Memory`
-    /// (28), and with [`SameFile`](OpenFault::SameFile) if it was opened or created before, unless
-    /// it is the file of `spared`. A file that is created after this is refused if it is the prepared
-    /// one.
+    /// can be, and may make room for that beside it. Refuses with `Write` (27) if it can't, with
+    /// `Memory` (28), and with [`SameFile`](OpenFault::SameFile) if it was opened or created before,
+    /// unless it is the file of `spared`. A file that is created after this is refused if it is the
+    /// prepared one.
     fn prepare(&mut self, alloc: Global, name: &str, spared: Option<&str>) -> Result<(), OpenFault>
         ensures noted { view self.new
             ≡ with_event (Prepared name.now (option_map (λ s. s.now) spared.entry))
             (made_as [] name.now result) (view self.old) }
         ensures faults { IfErr result (OpenFails FileFault.Write) };
 
-    /// Opens a file to be written, and makes it if there is none. Refuses with `Write` (27) if it can't
-    /// be opened, with `Memory` (28), and with
-    /// [`SameFile`](OpenFault::SameFile) if it was opened, prepared or created before; a file that
-    /// the call made is then gone again.
+    /// Opens a file to be written, and makes it if there is none. Refuses with `Write` (27) if it
+    /// can't be opened, with `Memory` (28), and with [`SameFile`](OpenFault::SameFile) if it was
+    /// opened, prepared or created before; a file that the call made is then removed, if it can be.
     fn create(&mut self, alloc: Global, name: &str) -> Result<Self::Out, OpenFault>
         ensures noted { view self.new ≡ with_event (Created name.now) (made_as [] name.now result)
             (view self.old) }
@@ -188,8 +187,7 @@ pub trait FileSet {
 
     /// Ends a file that was created, with exactly the bytes that its sink took, in place of what it
     /// held, and waits until they have reached the disk if that is asked for and the machine can
-    /// wait. Refuses with `Write` (27); it is then as it was, or holds the bytes that its sink
-    /// took.
+    /// wait. Refuses with `Write` (27); it is then as the calls that succeeded left it.
     fn close(&mut self, out: Self::Out, durability: Durability) -> Result<(), FileFault>
         ensures noted { EndsOne durability (written_as (Self.Out.view out).label
             (Self.Out.view out).taken.bytes result) (view self.old) (view self.new) }
@@ -198,7 +196,7 @@ pub trait FileSet {
         ensures faults { IsOkUnless result FileFault.Write };
 
     /// Ends a file that was created and into which nothing was put: it is as it was before
-    /// `create`, and if there was none, there is none, also on the disk if that is asked for.
+    /// `create`. One that was made is removed, if it can be, also on the disk if that is asked for.
     fn discard(&mut self, out: Self::Out, durability: Durability)
         ensures noted { EndsOne durability [] (view self.old) (view self.new) }
         ensures discarded { IsSomeAnd (view self.new).ended

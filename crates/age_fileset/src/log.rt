@@ -166,7 +166,7 @@ impl Log {
         self.note(Action::FoundOrEmpty(name, left, size));
     }
 
-    /// A file of this name couldn't be opened, prepared or created.
+    /// A file of this name couldn't be opened, prepared, created or replaced.
     pub fn refused(&mut self, name: &str, fault: OpenFault)
         ensures { self.new ≡ record self.old {
           outcomes = self.old.outcomes ++ refused_as name.now fault;
@@ -175,7 +175,7 @@ impl Log {
         self.note(Action::Refused(name, fault));
     }
 
-    /// A file of this name couldn't be ended or replaced.
+    /// A file of this name couldn't be ended.
     pub fn unwritten(&mut self, name: &Tape)
         ensures { self.new ≡ record self.old {
           outcomes = self.old.outcomes ++ Unwritten name.now ∷ [];

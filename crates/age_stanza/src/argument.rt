@@ -18,8 +18,7 @@ enum Letters {
 
 /// An argument of a stanza (<https://c2sp.org/age#header>). The value takes 24 bytes, and up to 8
 /// bytes of the argument lie in the value itself. So a header of many short arguments takes no
-/// allocation for each, and no more than 12 bytes of memory for a byte of its text. A contract sees
-/// the list of the argument's bytes.
+/// allocation for each. A contract sees the list of the argument's bytes.
 #[derive(Debug, Drop)]
 pub struct Argument {
     letters: Letters,

@@ -9,8 +9,8 @@ use Rattle.std.specs.Str.{bytes_eq}
 use Rattle.std.specs.Simd.{first_chunks}
 use Rattle.base64.specs.GeneralPurpose.{decode_of, IsBytes}
 use Rattle.base64.specs.Engines.{standard_no_pad}
-use Rattle.age_stanza.specs.Grammar.{version, line, IsArgument, argument_line, IsStanza, header_limit, HeadText}
-use Rattle.age_stanza.specs.Grammar.{Spells}
+use Rattle.age_stanza.specs.Grammar.{version, line, IsArgument, argument_line, IsStanza}
+use Rattle.age_stanza.specs.Grammar.{header_limit, HeadText, Spells}
 use Rattle.age_stanza.specs.Parsing.{armor, memory_fault, IsLine, AreLines, stanzas_text}
 use Rattle.age_stanza.specs.Parsing.{line_after, HasHeader, IsFault}
 use Rattle.age_stanza.specs.Text.{base64_text}
@@ -144,8 +144,9 @@ bytes_before (InBody ss args body) =
 abbrev pub IsPlace : Place → Type 0
 IsPlace Start = Unit {0}
 IsPlace (Between ss) = AllByRecursion IsStanza ss
-IsPlace (InBody ss args body) = AllByRecursion IsStanza ss × (0 < length args) × AllByRecursion IsArgument args
-    × IsBytes body × (length body % 48 ≡ 0)
+IsPlace (InBody ss args body) =
+    AllByRecursion IsStanza ss × (0 < length args) × AllByRecursion IsArgument args × IsBytes body
+    × (length body % 48 ≡ 0)
 
 -- finished lines led to this place, in line n
 pub record LeadTo (place : Place) (n : ℕ) : Type 0 where
