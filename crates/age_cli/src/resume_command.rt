@@ -93,11 +93,10 @@ fn key_of(standing: Standing) -> Option<KnownKey>
     }
 }
 
-/// How a resumed decryption ended, with where it stood and with the input.
+/// How a resumed decryption ended and where it stood, with the input.
 #[derive(Drop)]
 struct Resumed<S: Source> {
-    end: Result<Done, Stopped>,
-    standing: Standing,
+    ended: (Result<Done, Stopped>, Standing),
     source: S,
 }
 
@@ -118,7 +117,7 @@ fn resume_text<F: FileSet, P: Meter>(
         position.now
         (resume_ports (ports (F.In.view source) (F.Out.view out.old)) (F.In.view old.old))
         (resume_ports (ports (F.In.view result.source) (F.Out.view out.new)) (F.In.view old.new))
-        result.end result.standing }
+        result.ended.0 result.ended.1 }
     ensures began { (name : List ℕ) → F.In.began source (Named name)
         → F.In.began result.source (Named name) }
     ensures old_began { (from : Origin) → F.In.began old.old from → F.In.began old.new from }
@@ -128,20 +127,8 @@ fn resume_text<F: FileSet, P: Meter>(
 {
     match asked.progress {
         ProgressOption::Silent => {
-            let (end, standing) = resume_keyed(
-                alloc,
-                positions,
-                identity,
-                position,
-                &mut source,
-                old,
-                out,
-            );
-            Resumed {
-                end,
-                standing,
-                source,
-            }
+            let ended = resume_keyed(alloc, positions, identity, position, &mut source, old, out);
+            Resumed { ended, source }
         }
         ProgressOption::Shown => {
             begin_meter(files, &source, &mut *progress);
@@ -149,25 +136,13 @@ fn resume_text<F: FileSet, P: Meter>(
                 source,
                 meter: &mut *progress,
             };
-            let (end, standing) = resume_keyed(
-                alloc,
-                positions,
-                identity,
-                position,
-                &mut metered,
-                old,
-                out,
-            );
+            let ended = resume_keyed(alloc, positions, identity, position, &mut metered, old, out);
             let Metered {
                 source,
                 meter: _meter,
             } = metered;
             end_meter(&mut *progress);
-            Resumed {
-                end,
-                standing,
-                source,
-            }
+            Resumed { ended, source }
         }
     }
 }
@@ -221,11 +196,8 @@ fn resume_opened<F: FileSet, E: Sink, P: Meter>(
         &mut out,
         &mut *progress,
     );
-    let Resumed {
-        end,
-        standing,
-        source,
-    } = resumed;
+    let Resumed { ended, source } = resumed;
+    let (end, standing) = ended;
     files.finish(old);
     let decrypted = Decrypted {
         end: placed(is_reread, &standing, position, end),

@@ -56,7 +56,7 @@ returns-clause-opened g c = λ begin later unread found.
     (record { unread = unread; size = g.F.FileSet.size c.args.old; found = found; over = later (Gave gave) came })
     (now ≡ was) (λ coming left r. ShowsReadings size coming left (shown was) (shown now) r)
     (λ silent. ended.ensures.silent silent ∙ once.ensures.silent silent) c.can_reread-is_reread.result
-    once.result.end once.result.standing
+    once.result.ended.0 once.result.ended.1
     c.positions_at_first.result ended.result c.can_reread-is_reread.ensures c.positions_at_first.ensures.dropped c.positions_at_first.ensures.kept
     once.ensures.resumed
     (λ asked whole. shown_with size (In c.args.source).supply (In once.result.source).supply (shown was) (shown once.new.progress) (shown now) ended.result
