@@ -42,7 +42,7 @@ impl Action {
     }
 
     /// The number of the fault that it leads to.
-    pub fn fault_number(self) -> u8 {
+    pub(crate) fn fault_number(self) -> u8 {
         match self {
             Action::Open | Action::Read | Action::Reread => 26,
             _ => 27,
@@ -256,17 +256,17 @@ impl<'w> Failures<'w> {
     }
 
     /// Which file became shorter while it was read.
-    pub fn cut_off(&self) -> Option<&'w str> {
+    pub(crate) fn cut_off(&self) -> Option<&'w str> {
         self.cut_off.get()
     }
 
     /// What failed first.
-    pub fn first(&self) -> Option<Failure<'w>> {
+    pub(crate) fn first(&self) -> Option<Failure<'w>> {
         self.first.get()
     }
 
     /// What kept a position from being saved.
-    pub fn unsaved(&self) -> Option<Failure<'w>> {
+    pub(crate) fn unsaved(&self) -> Option<Failure<'w>> {
         self.unsaved.get()
     }
 
@@ -288,12 +288,12 @@ impl<'w> Failures<'w> {
     }
 
     /// Which names were found to be one file.
-    pub fn twice(&self) -> Option<Twice<'w>> {
+    pub(crate) fn twice(&self) -> Option<Twice<'w>> {
         self.twice.get()
     }
 
     /// Which file was opened last to be read, and how much of it was.
-    pub fn last_read(&self) -> Amount<'w> {
+    pub(crate) fn last_read(&self) -> Amount<'w> {
         self.last_read.get()
     }
 }

@@ -19,7 +19,7 @@ mod text;
 
 pub use announcing::{announce_reading, announce_rereading, announce_sync, explain_words};
 pub use explaining::explain;
-pub use failures::{Action, Amount, Failure, Failures, Twice};
+pub use failures::{Action, Failures};
 pub use heard::Heard;
 pub use line_style::LineStyle;
 pub use progress_line::ProgressLine;
