@@ -1,6 +1,7 @@
 """The libraries of the workspace as `rt ci` proves and keeps them; and a static library over them.
 
 usage: python3 -m tools.libraries CRATE     makes crates/CRATE/out/libCRATE.a of a static library, unless it is there and nothing changed
+       python3 -m tools.libraries --all     proves the workspace in which it is called, as `rt ci` does, in less time
 """
 import functools
 import os
@@ -99,5 +100,16 @@ def make_static(name):
     return True
 
 
+def prove_all():
+    """`rt ci` in less time. It gives a crate for which others wait one process while anything else is ready, so that processors stand idle
+    near the end of such a chain: with half as many processes again as there are processors it gives it more. And it plans with twice the
+    memory that most crates were seen to take, so that on a small machine few are proved side by side: two thirds of that suffice."""
+    rt = kit()
+    if hasattr(rt, "processors") and hasattr(rt, "need"):
+        processors, need = rt.processors, rt.need
+        rt.processors, rt.need = lambda: processors() * 3 // 2, lambda crate: need(crate) * 2 // 3
+    return rt.main(["ci"])
+
+
 if __name__ == "__main__":
-    sys.exit(not make_static(sys.argv[1]))
+    sys.exit(prove_all() if sys.argv[1] == "--all" else not make_static(sys.argv[1]))
