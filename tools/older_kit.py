@@ -1,9 +1,12 @@
-"""What `rt` of a kit lacks that keeps nothing of what it proved, under the names that a newer one has: such a kit proves all anew."""
+"""What `rt` of a kit lacks that keeps nothing of what it proved, under the names that a newer one has. What its `rt ci` proved in this
+checkout is kept in crates/NAME/out/kept by `check`, for the C library and for edits; all else it proves anew."""
 import contextlib
 import hashlib
 import os
 import shutil
 import tempfile
+
+from tools.workspace import CRATES
 
 IGNORED = shutil.ignore_patterns("out")
 
@@ -31,8 +34,35 @@ def copy_crates(top, to):
         shutil.copy(f"{top}/{name}", to)
 
 
+def unstamped():
+    """The folders of libraries as `rt ci` leaves them, which only it takes. Those of `rt check` have a stamp."""
+    return [it for it in CRATES.glob("*/out/rlib") if not (it / "stamp").exists()]
+
+
+class Gate:
+    """A run of `rt ci` in this checkout, whose libraries can be kept."""
+
+    def __init__(self, rt):
+        # (it would put them back in the place of those that it makes)
+        for it in unstamped():
+            shutil.rmtree(it)
+        self.crates, self.known = rt.crates_of(str(CRATES.parent)), Kept([])
+        self.keys = self.sources()
+
+    def sources(self):
+        return {it.name: self.known.key(it) for it in self.crates}
+
+    def keep(self):
+        """Keeps the libraries by checksums of their sources, once all is proved, unless these have changed since it began."""
+        for it in unstamped() if self.keys == self.sources() else []:
+            kept = it.parent / "kept"
+            shutil.rmtree(kept, ignore_errors=True)
+            it.rename(kept)
+            (kept / "key").write_text(self.keys[kept.parent.parent.name])
+
+
 class Kept:
-    """What earlier runs proved: nothing."""
+    """What `check` has proved in this checkout."""
 
     def __init__(self, crates):
         pass
@@ -50,7 +80,11 @@ class Kept:
         return known.hexdigest()
 
     def give(self, crate, of_tests, key):
-        return False
+        kept = CRATES / crate.name / "out" / "kept"
+        if of_tests or not (kept / "key").is_file() or (kept / "key").read_text() != key:
+            return False
+        shutil.copytree(kept, f"{crate.folder}/out/rlib")
+        return True
 
     def keep(self, crate, of_tests, key):
         pass
