@@ -15,10 +15,15 @@ from tools import older_kit
 from tools.workspace import CRATES, TOP, loaded, with_used
 
 
+def command():
+    """`rt` as a module."""
+    return loaded(pathlib.Path(os.path.realpath(shutil.which("rt"))))
+
+
 @functools.cache
 def kit():
-    """`rt` as a module: its crates, its calls of the prover, and what earlier checks have proved."""
-    rt = loaded(pathlib.Path(os.path.realpath(shutil.which("rt"))))
+    """The same with its crates, its calls of the prover, and what earlier checks have proved."""
+    rt = command()
     if not hasattr(rt, "Kept"):
         older_kit.complete(rt)
     return rt
@@ -104,7 +109,7 @@ def prove_all():
     """`rt ci` in less time. It gives a crate for which others wait one process while anything else is ready, so that processors stand idle
     near the end of such a chain: with half as many processes again as there are processors it gives it more. And it plans with twice the
     memory that most crates were seen to take, so that on a small machine few are proved side by side: two thirds of that suffice."""
-    rt = kit()
+    rt = command()
     if hasattr(rt, "processors") and hasattr(rt, "need"):
         processors, need = rt.processors, rt.need
         rt.processors, rt.need = lambda: processors() * 3 // 2, lambda crate: need(crate) * 2 // 3
