@@ -68,8 +68,10 @@ class Kept:
         pass
 
     def key(self, crate):
-        """A checksum of the sources of a crate and of those that it uses."""
-        known = hashlib.sha256()
+        """A checksum of the kit, and of the sources of a crate and of those that it uses."""
+        kit = os.path.dirname(os.path.dirname(os.path.realpath(shutil.which("rt"))))
+        with open(f"{kit}/KIT-ID", "rb") as file:
+            known = hashlib.sha256(file.read())
         for folder in sorted(it.folder for it in [crate, *crate.below()]):
             for at, folders, files in os.walk(folder):
                 folders[:] = sorted(it for it in folders if it != "out")
