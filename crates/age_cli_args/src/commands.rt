@@ -145,55 +145,42 @@ const DRILL: &[Argument] = &[
     Argument { id: "IN", given: Given::Operand, help: help::DRILLED },
 ];
 
-/// A command of the program: its name, its arguments, how it is used if these don't show it, and what
-/// the help says before them and after.
+/// A page of the help.
+#[derive(Clone, Copy)]
+#[rattlefmt::skip]
+enum Page { Encrypt, Decrypt, Resume, Inspect, Drill }
+
+/// A command of the program.
 #[derive(Clone, Copy)]
 struct Subcommand {
     name: &'static str,
     arguments: &'static [Argument],
-    usage: Option<&'static str>,
-    about: &'static str,
-    after: &'static str,
+    page: Page,
 }
 
-/// A static, since a constant would put all the texts of the help into what is proved of `program`.
+/// A static, since a constant would put all texts in it into what is proved of `program`. Even those of
+/// a static cost the proof some time, so the long ones are in [`texts_of`].
+#[rattlefmt::skip]
 static COMMANDS: [Subcommand; 5] = [
-    Subcommand {
-        name: "encrypt",
-        arguments: ENCRYPT,
-        usage: None,
-        about: help::ENCRYPT,
-        after: help::AFTER_ENCRYPT,
-    },
-    Subcommand {
-        name: "decrypt",
-        arguments: DECRYPT,
-        usage: Some(help::DECRYPT_USAGE),
-        about: help::DECRYPT,
-        after: help::AFTER_DECRYPT,
-    },
-    Subcommand {
-        name: "resume",
-        arguments: RESUME,
-        usage: Some(help::RESUME_USAGE),
-        about: help::RESUME,
-        after: help::AFTER_RESUME,
-    },
-    Subcommand {
-        name: "inspect",
-        arguments: INSPECT,
-        usage: None,
-        about: help::INSPECT,
-        after: help::AFTER_INSPECT,
-    },
-    Subcommand {
-        name: "drill",
-        arguments: DRILL,
-        usage: Some(help::DRILL_USAGE),
-        about: help::DRILL,
-        after: help::AFTER_DRILL,
-    },
+    Subcommand { name: "encrypt", arguments: ENCRYPT, page: Page::Encrypt },
+    Subcommand { name: "decrypt", arguments: DECRYPT, page: Page::Decrypt },
+    Subcommand { name: "resume", arguments: RESUME, page: Page::Resume },
+    Subcommand { name: "inspect", arguments: INSPECT, page: Page::Inspect },
+    Subcommand { name: "drill", arguments: DRILL, page: Page::Drill },
 ];
+
+/// How a command is used, if its arguments don't show it, and what the help says before them and
+/// after.
+#[rattlefmt::skip]
+fn texts_of(page: Page) -> (Option<&'static str>, &'static str, &'static str) {
+    match page {
+        Page::Encrypt => (None, help::ENCRYPT, help::AFTER_ENCRYPT),
+        Page::Decrypt => (Some(help::DECRYPT_USAGE), help::DECRYPT, help::AFTER_DECRYPT),
+        Page::Resume => (Some(help::RESUME_USAGE), help::RESUME, help::AFTER_RESUME),
+        Page::Inspect => (None, help::INSPECT, help::AFTER_INSPECT),
+        Page::Drill => (Some(help::DRILL_USAGE), help::DRILL, help::AFTER_DRILL),
+    }
+}
 
 /// `--ID VALUE`.
 fn option<'a>(alloc: Global, id: &'a str, value: &'a str, help: &'a str) -> Arg<'a>
@@ -282,22 +269,16 @@ fn with_arguments<'a>(
     Ok(whole)
 }
 
-/// A command whose usage is said, if its arguments don't show it.
-fn with_usage<'a>(plain: Command<'a>, usage: Option<&'a str>) -> Command<'a>
-    ensures { (a : App) → HasApp a plain.entry → HasApp a result }
-{
-    match usage {
-        Some(usage) => plain.override_usage(usage),
-        None => plain,
-    }
-}
-
-/// A command with its arguments.
+/// A command with its arguments, and with its usage if they don't show it.
 fn command_of<'a>(alloc: Global, sub: &Subcommand) -> Result<Command<'a>, AllocError>
     ensures { IfOk result (HasApp (app_as sub.now)) }
 {
-    let plain = command(alloc, sub.name, sub.about, sub.after);
-    with_arguments(alloc, with_usage(plain, sub.usage), sub.arguments)
+    let (usage, about, after) = texts_of(sub.page);
+    let plain = command(alloc, sub.name, about, after);
+    match usage {
+        Some(usage) => with_arguments(alloc, plain.override_usage(usage), sub.arguments),
+        None => with_arguments(alloc, plain, sub.arguments),
+    }
 }
 
 /// A program with one command more.
@@ -309,7 +290,13 @@ fn with_command<'a>(
     ensures { (a : App) → HasApp a program.entry
         → IfOk result (HasApp (with_subcommand a (app_as sub.now).top)) }
 {
-    program.subcommand(command_of(alloc, sub)?)
+    match command_of(alloc, sub) {
+        Ok(command) => program.subcommand(command),
+        Err(error) => {
+            drop(program);
+            Err(error)
+        }
+    }
 }
 
 fn with_commands<'a>(
