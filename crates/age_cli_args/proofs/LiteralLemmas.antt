@@ -8,13 +8,7 @@ abbrev words : List Text
 words = codes "decrypt" ∷ codes "--pass=P" ∷ codes "--max-log" ∷ codes "9" ∷ codes "--progress" ∷ codes "A" ∷ codes "B" ∷ []
 
 abbrev parts_asked : Option (Text × List Row) → Option (Text × Option Text × Option Text × Bool × Option Text)
-parts_asked = option_map (λ p. (
-  p.0,
-  first_of (codes "OUT") p.1,
-  first_of (codes "save") p.1,
-  is_given (codes "progress") p.1,
-  one_of (codes "max-log") p.1,
-))
+parts_asked = option_map (λ p. (p.0, first_of (codes "OUT") p.1, first_of (codes "save") p.1, is_given (codes "progress") p.1, one_of (codes "max-log") p.1))
 
 pub words_are_taken : refusals words ≡ []
 unfolding refusals clap_on_literals age_tool encrypting decrypting resuming inspecting drilling

@@ -42,53 +42,29 @@ struct Argument {
     help: &'static str,
 }
 
-const PASS: Argument = Argument {
-    id: "pass",
-    given: Given::Value("FILE"),
-    help: help::PASS,
-};
+#[rattlefmt::skip]
+const PASS: Argument = Argument { id: "pass", given: Given::Value("FILE"), help: help::PASS };
 
-const FILE_KEY: Argument = Argument {
-    id: "file-key",
-    given: Given::Value("HEX"),
-    help: help::FILE_KEY,
-};
+#[rattlefmt::skip]
+const FILE_KEY: Argument = Argument { id: "file-key", given: Given::Value("HEX"), help: help::FILE_KEY };
 
-const SHARED: Argument = Argument {
-    id: "shared",
-    given: Given::Value("FILE"),
-    help: help::SHARED,
-};
+#[rattlefmt::skip]
+const SHARED: Argument = Argument { id: "shared", given: Given::Value("FILE"), help: help::SHARED };
 
-const MAX_LOG: Argument = Argument {
-    id: "max-log",
-    given: Given::Number,
-    help: help::MAX_LOG,
-};
+#[rattlefmt::skip]
+const MAX_LOG: Argument = Argument { id: "max-log", given: Given::Number, help: help::MAX_LOG };
 
-const SAVE: Argument = Argument {
-    id: "save",
-    given: Given::Value("FILE"),
-    help: help::SAVE,
-};
+#[rattlefmt::skip]
+const SAVE: Argument = Argument { id: "save", given: Given::Value("FILE"), help: help::SAVE };
 
-const NO_SYNC: Argument = Argument {
-    id: "no-sync",
-    given: Given::Flag,
-    help: help::NO_SYNC,
-};
+#[rattlefmt::skip]
+const NO_SYNC: Argument = Argument { id: "no-sync", given: Given::Flag, help: help::NO_SYNC };
 
-const NO_CLOBBER: Argument = Argument {
-    id: "no-clobber",
-    given: Given::Flag,
-    help: help::NO_CLOBBER,
-};
+#[rattlefmt::skip]
+const NO_CLOBBER: Argument = Argument { id: "no-clobber", given: Given::Flag, help: help::NO_CLOBBER };
 
-const PROGRESS: Argument = Argument {
-    id: "progress",
-    given: Given::Flag,
-    help: help::PROGRESS,
-};
+#[rattlefmt::skip]
+const PROGRESS: Argument = Argument { id: "progress", given: Given::Flag, help: help::PROGRESS };
 
 #[rattlefmt::skip]
 const ENCRYPT: &[Argument] = &[
@@ -169,8 +145,7 @@ static COMMANDS: [Subcommand; 5] = [
     Subcommand { name: "drill", arguments: DRILL, page: Page::Drill },
 ];
 
-/// How a command is used, if its arguments don't show it, and what the help says before them and
-/// after.
+/// A command's usage, if its arguments don't show it, and the texts before them and after.
 #[rattlefmt::skip]
 fn texts_of(page: Page) -> (Option<&'static str>, &'static str, &'static str) {
     match page {
