@@ -2,10 +2,10 @@
 use Rattle.std.proofs.lemmas.Grind.{common_steps}
 use Rattle.std.proofs.Common.{◌≡◌, ◌⊎◌, inl, inr, ⊎_elim, ℕ, zero, suc, ◌+◌, ◌<◌, List, [], ◌∷◌, ◌++◌, Bool, true, false, not, Option, None, length, take, drop}
 use Rattle.std.proofs.Common.{refl, sym, ◌∙◌, ap, subst, arith, rules, length-append, length-take}
-use Rattle.std.specs.Prelude.{Contains}
+use Rattle.std.specs.Prelude.{Contains, Result, Ok, Err, OnOk, OnErr, is_ok}
 use Rattle.std.proofs.lemmas.Bool.{cases_Bool}
 use Rattle.std.proofs.lemmas.List.{append-nil, take_at, drop_all}
-use Rattle.age_machine.specs.{FileCall, Made, Opened, Wrote, Broke, Synced, Unwaited, Locked, Unlockable, Removed, SyncedNames, UnwaitedNames, IsOf, Waited}
+use Rattle.age_machine.specs.{FileCall, Made, Opened, Wrote, Broke, Synced, Unwaited, Locked, Unlockable, Removed, SyncedNames, UnwaitedNames, IsOf, CountsFailure, Waited}
 use Rattle.age_machine.specs.declared.in_place.Opening.{Opening}
 use Rattle.age_machine.specs.declared.in_place.Opening.TheVariants as way
 use Rattle.age_machine.specs.declared.machine.Kind.{Kind}
@@ -253,6 +253,36 @@ module _ (path : List ℕ) (n : ℕ) (opening : Opening) (is_stale is_lost is_cl
 
   pub out_held : IsClaimed n calls → IsHeld path n call calls
   out_held claimed = record { opened = out.opened; on = out.on; claimed = claimed; locked = out.locked }
+
+  -- after it was to be claimed
+  pub out_claimed : {E : Type 0} (r : Result (Unit {0}) E) (now : ℕ) (later : List FileCall) → is_claimed ≡ false
+      → OnOk r (Waited (Locked n) (Unlockable n) calls later) → OnErr r (later ≡ calls) → CountsFailure r failed now
+      → IsOut path n call is_stale is_lost (is_ok r) written now later
+  out_claimed (Ok x) now later free waited same counted =
+      if_waited (λ (l : List FileCall). IsOut path n call is_stale is_lost true written now l) (Locked n) (Unlockable n) calls later (record {
+        opened = contains_later (Locked n) call calls out.opened;
+        on = (refl, out.on);
+        written = out.written;
+        same = out.same;
+        fresh = λ sound none. inr (inl (ap (λ (l : List FileCall). Locked n ∷ l) (out.unclaimed free)));
+        begun = λ sound disk answers. out.begun (sym counted ∙ sound) disk answers.1;
+        lost = λ is. omega (arith, out.lost is, counted);
+        locked = (λ may. absurd may, out.locked);
+        claimed = λ is. inl (contains_first (Locked n) calls);
+        unclaimed = λ is. cc;
+      }) (record {
+        opened = contains_later (Unlockable n) call calls out.opened;
+        on = (refl, out.on);
+        written = out.written;
+        same = out.same;
+        fresh = λ sound none. inr (inr (ap (λ (l : List FileCall). Unlockable n ∷ l) (out.unclaimed free)));
+        begun = λ sound disk answers. out.begun (sym counted ∙ sound) disk answers.1;
+        lost = λ is. omega (arith, out.lost is, counted);
+        locked = (λ may. absurd may, out.locked);
+        claimed = λ is. inr (contains_first (Unlockable n) calls);
+        unclaimed = λ is. cc;
+      }) waited
+  out_claimed (Err e) now later free waited same counted = grind (arith, common_steps)
 
   -- after a call that changes nothing of what was written, which is something
   pub out_after : (stale lost : Bool) (now : ℕ) (later : List FileCall) → 0 < written

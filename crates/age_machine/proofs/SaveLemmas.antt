@@ -3,7 +3,7 @@ use Rattle.std.proofs.lemmas.Grind.{common_steps}
 use Rattle.std.proofs.lemmas.Bool.Decides.{eqb_tells}
 use Rattle.std.proofs.Common.{◌≡◌, ◌⊎◌, inl, inr, ℕ, List, [], ◌∷◌, Bool, Option, Some, None, refl, sym, ◌∙◌, ap, subst, rules, ⊎_elim, ◌+◌, ◌-◌, ◌≤◌, ◌++◌}
 use Rattle.std.proofs.Common.{false, length, take, drop, not, arith, append_assoc, length-append, length-drop, take-add}
-use Rattle.std.specs.Prelude.{bytes_eq, if◌then◌else◌, Contains, Result, Ok, Err, OnOk, replicate}
+use Rattle.std.specs.Prelude.{bytes_eq, if◌then◌else◌, Contains, Result, Ok, Err, OnOk, OnErr, replicate}
 use Rattle.std.proofs.lemmas.Bool.{false_from_ne_true, eq-eqb, ne_eqb}
 use Rattle.std.proofs.lemmas.Slice.Eq.{bytes_eq-Decides}
 use Rattle.age_machine.specs.{FileCall, Made, Wrote, IsOf, Linked, Renamed, Removed, SyncedNames, at_path, for_file, changed, after_call, IsAmong, MayLead}
@@ -362,6 +362,15 @@ module _ {E : Type 0} (to : Spot) (path bytes : List ℕ) (wanted : Durability) 
   }
 
 -- ---- Calls about one file.
+
+-- where a call answers, whatever it answers
+pub either_way : {X E P Q G : Type 0} (r : Result X E) → OnOk r P → OnErr r Q → (P → G) → (Q → G) → G
+either_way (Ok x) done failed if_done if_failed = if_done done
+either_way (Err e) done failed if_done if_failed = if_failed failed
+
+pub on_ok : {X E P : Type 0} (r : Result X E) → P → OnOk r P
+on_ok (Ok x) holds = holds
+on_ok (Err e) holds = tt
 
 pub about_more : (n : ℕ) (call : FileCall) (old new later : List FileCall) → IsAbout n old new
     → later ≡ call ∷ new → IsOf n call → IsAbout n old later

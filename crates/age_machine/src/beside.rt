@@ -113,16 +113,12 @@ pub(crate) fn settle<M: Machine>(
     ensures caused { OnErr result (M.failed machine.old < M.failed machine.new) }
 {
     match durability {
-        Durability::Synced => {
-            machine.sync(file)?;
-            Ok(())
-        }
+        Durability::Synced => machine.sync(file),
         Durability::Buffered => Ok(()),
     }
 }
 
 /// Fills a new file with room for what is to be written to it.
-#[tactic(auto, using(crate::proofs::SaveLemmas::about_then))]
 fn keep_room<M: Machine>(
     machine: &mut M,
     file: &M::File,
@@ -136,8 +132,7 @@ fn keep_room<M: Machine>(
     ensures caused { OnErr result (M.failed machine.old < M.failed machine.new) }
 {
     write_all(machine, file, room)?;
-    settle(machine, file, durability)?;
-    Ok(())
+    settle(machine, file, durability)
 }
 
 /// A file beside a path with room for what is to be written to it, which is on the disk then if it

@@ -126,8 +126,7 @@ fn cut_stale<M: Machine>(
     if !is_stale {
         return Ok(());
     }
-    machine.cut(file, written)?;
-    Ok(())
+    machine.cut(file, written)
 }
 
 /// Ends what was written to a file: cuts off what is beyond it, and waits for the disk. Fails if
@@ -159,8 +158,7 @@ fn finish<M: Machine>(
     }
     cut_stale(machine, file, is_stale, shape.len)?;
     settle(machine, file, durability)?;
-    machine.check(file, shape)?;
-    Ok(())
+    machine.check(file, shape)
 }
 
 /// Waits until the name of a file has reached the disk, if it is to. Where another program made the
@@ -182,10 +180,7 @@ fn settle_name<M: Machine>(
     match opening {
         Opening::New => settle_names(machine, path, durability),
         Opening::Found { is_waited, .. } => match durability {
-            Durability::Synced if is_waited => {
-                machine.sync_readable_names(path)?;
-                Ok(())
-            }
+            Durability::Synced if is_waited => machine.sync_readable_names(path),
             _ => Ok(()),
         },
     }
@@ -317,9 +312,9 @@ impl<M: Machine + Drop> Out<M> {
         if self.is_claimed {
             return Ok(());
         }
-        self.machine.lock(&self.file)?;
-        self.is_claimed = true;
-        Ok(())
+        let locked = self.machine.lock(&self.file);
+        self.is_claimed = locked.is_ok();
+        locked
     }
 
     /// What it is to look like now.

@@ -57,13 +57,11 @@ fn cut_off<M: Machine>(machine: &mut M, file: &M::File, len: u64) -> io::Result<
     if shown <= len {
         return Ok(());
     }
-    machine.cut(file, len)?;
-    Ok(())
+    machine.cut(file, len)
 }
 
 /// Writes bytes over what a file holds, and lets the system answer as if it was closed, so that it
 /// is whole before it takes another one's place.
-#[tactic(auto, using(crate::proofs::SaveLemmas::about_then))]
 fn fill<M: Machine>(
     machine: &mut M,
     file: &M::File,
@@ -79,8 +77,7 @@ fn fill<M: Machine>(
     write_all(machine, file, bytes)?;
     cut_off(machine, file, bytes.len() as u64)?;
     settle(machine, file, durability)?;
-    machine.close(file)?;
-    Ok(())
+    machine.close(file)
 }
 
 /// Puts a new file in the place of the one at a path.
@@ -168,10 +165,7 @@ pub(crate) fn settle_names<M: Machine>(
     ensures caused { OnErr result (M.failed machine.old < M.failed machine.new) }
 {
     match durability {
-        Durability::Synced => {
-            machine.sync_names(path)?;
-            Ok(())
-        }
+        Durability::Synced => machine.sync_names(path),
         Durability::Buffered => Ok(()),
     }
 }

@@ -1,9 +1,7 @@
 use Rattle.std.proofs.Common.{refl}
-use Rattle.age_machine.proofs.{about_first, about_waited}
+use Rattle.age_machine.proofs.{about_first, about_waited, either_way}
 use Rattle.age_machine.proofs.beside.settle.Goals as goal
 
-pub returns-in_err-sync-in-Synced-clause-about : goal.returns-in_err-sync-in-Synced-clause-about
-returns-in_err-sync-in-Synced-clause-about g c = about_first _ _ _ _ c.in_err-sync-in-Synced.ensures.err refl
-
-pub returns-in_ok-sync-in-Synced-clause-about : goal.returns-in_ok-sync-in-Synced-clause-about
-returns-in_ok-sync-in-Synced-clause-about g c = about_waited _ _ _ c.in_ok-sync-in-Synced.ensures.ok
+pub returns-in-Synced-clause-about : goal.returns-in-Synced-clause-about
+returns-in-Synced-clause-about g c =
+    either_way c.sync.result c.sync.ensures.ok c.sync.ensures.err (about_waited _ _ _) (λ is. about_first _ _ _ _ is refl)

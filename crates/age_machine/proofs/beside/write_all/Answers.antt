@@ -18,7 +18,6 @@ parts-preserved g c =
       about = about_more _ _ _ _ _ c.parts.invariant.about c.in_ok-n.ensures.ok refl;
       written =
           writes_more _ at n bytes _ _ _ c.parts.invariant.bound within c.parts.invariant.written
-          (c.in_ok-n.ensures.ok ∙ ap (λ (l : List ℕ). Wrote (g.M.Machine.number c.args.file.now) at
-          (take n l) ∷ g.M.Machine.calls c.parts.machine) rest);
+          (rw rest at c.in_ok-n.ensures.ok);
       counted = c.in_ok-n.ensures.counted ∙ c.parts.invariant.counted;
     }

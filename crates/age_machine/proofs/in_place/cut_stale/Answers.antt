@@ -1,9 +1,7 @@
 use Rattle.std.proofs.Common.{refl}
-use Rattle.age_machine.proofs.{held_one}
+use Rattle.age_machine.proofs.{either_way, held_one}
 use Rattle.age_machine.proofs.in_place.cut_stale.Goals as goal
 
-pub returns-in_err-cut-clause-held : goal.returns-in_err-cut-clause-held
-returns-in_err-cut-clause-held g c = λ path opening. held_one path _ opening _ _ _ refl c.in_err-cut.ensures.err
-
 pub returns-clause-held : goal.returns-clause-held
-returns-clause-held g c = λ path opening. held_one path _ opening _ _ _ refl c.in_ok-cut.ensures.ok
+returns-clause-held g c =
+    λ path opening. either_way c.cut.result c.cut.ensures.ok c.cut.ensures.err (held_one path _ opening _ _ _ refl) (held_one path _ opening _ _ _ refl)

@@ -1,13 +1,8 @@
-use Rattle.age_machine.proofs.{held_about, begun_settled, place_waited}
+use Rattle.age_machine.proofs.{held_about, begun_settled, on_ok, place_waited}
 use Rattle.age_machine.proofs.in_place.finish.Goals as goal
 
 pub returns-in_err-settle-clause-held : goal.returns-in_err-settle-clause-held
 returns-in_err-settle-clause-held g c = λ path opening held. held_about path _ opening _ _ c.settle.ensures.about (c.cut_stale.ensures.held path opening held)
-
-pub returns-in_err-check-clause-held : goal.returns-in_err-check-clause-held
-returns-in_err-check-clause-held g c =
-    λ path opening held. rw c.check.ensures.same
-    (held_about path _ opening _ _ c.settle.ensures.about (c.cut_stale.ensures.held path opening held))
 
 pub returns-clause-held : goal.returns-clause-held
 returns-clause-held g c =
@@ -15,11 +10,11 @@ returns-clause-held g c =
     (held_about path _ opening _ _ c.settle.ensures.about (c.cut_stale.ensures.held path opening held))
 
 pub returns-clause-finished : goal.returns-clause-finished
-returns-clause-finished g c =
-    λ synced path text counted begun. rw c.check.ensures.same (place_waited path _ text _ _ (c.in_ok-settle.ensures.synced synced)
-    (c.in_ok-cut_stale.ensures.cut path text counted begun))
+returns-clause-finished g c = on_ok c.check.result
+    (λ synced path text counted begun. rw c.check.ensures.same (place_waited path _ text _ _ (c.in_ok-settle.ensures.synced synced)
+    (c.in_ok-cut_stale.ensures.cut path text counted begun)))
 
 pub returns-clause-begun : goal.returns-clause-begun
-returns-clause-begun g c =
-    λ path text counted begun. rw c.check.ensures.same (begun_settled path _ _ text _ _ c.in_ok-settle.ensures.either
-    (c.in_ok-cut_stale.ensures.cut path text counted begun))
+returns-clause-begun g c = on_ok c.check.result
+    (λ path text counted begun. rw c.check.ensures.same (begun_settled path _ _ text _ _ c.in_ok-settle.ensures.either
+    (c.in_ok-cut_stale.ensures.cut path text counted begun)))
