@@ -140,7 +140,7 @@ impl<'a> Order<'a> {
         let error = out.error();
         let (_, ended) = out.close(self.rt, self.durability);
         ended?;
-        put.map_err(|_| error)
+        put.or(Err(error))
     }
 
     /// Makes a file at a path where there is none.
