@@ -259,29 +259,9 @@ module _ (path : List ℕ) (n : ℕ) (opening : Opening) (is_stale is_lost is_cl
       → OnOk r (Waited (Locked n) (Unlockable n) calls later) → OnErr r (later ≡ calls) → CountsFailure r failed now
       → IsOut path n call is_stale is_lost (is_ok r) written now later
   out_claimed (Ok x) now later free waited same counted =
-      if_waited (λ (l : List FileCall). IsOut path n call is_stale is_lost true written now l) (Locked n) (Unlockable n) calls later (record {
-        opened = contains_later (Locked n) call calls out.opened;
-        on = (refl, out.on);
-        written = out.written;
-        same = out.same;
-        fresh = λ sound none. inr (inl (ap (λ (l : List FileCall). Locked n ∷ l) (out.unclaimed free)));
-        begun = λ sound disk answers. out.begun (sym counted ∙ sound) disk answers.1;
-        lost = λ is. omega (arith, out.lost is, counted);
-        locked = (λ may. absurd may, out.locked);
-        claimed = λ is. inl (contains_first (Locked n) calls);
-        unclaimed = λ is. cc;
-      }) (record {
-        opened = contains_later (Unlockable n) call calls out.opened;
-        on = (refl, out.on);
-        written = out.written;
-        same = out.same;
-        fresh = λ sound none. inr (inr (ap (λ (l : List FileCall). Unlockable n ∷ l) (out.unclaimed free)));
-        begun = λ sound disk answers. out.begun (sym counted ∙ sound) disk answers.1;
-        lost = λ is. omega (arith, out.lost is, counted);
-        locked = (λ may. absurd may, out.locked);
-        claimed = λ is. inr (contains_first (Unlockable n) calls);
-        unclaimed = λ is. cc;
-      }) waited
+      let opened : Contains later call = ⊎_elim (λ is. rw is (contains_later (Locked n) call calls out.opened)) (λ is. rw is (contains_later (Unlockable n) call calls out.opened)) waited in
+      let claimed : IsClaimed n later = ⊎_elim (λ is. rw is (inl (contains_first (Locked n) calls))) (λ is. rw is (inr (contains_first (Unlockable n) calls))) waited in
+      grind (arith, common_steps)
   out_claimed (Err e) now later free waited same counted = grind (arith, common_steps)
 
   -- after a call that changes nothing of what was written, which is something

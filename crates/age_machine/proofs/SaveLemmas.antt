@@ -7,9 +7,8 @@ use Rattle.std.specs.Prelude.{bytes_eq, if◌then◌else◌, Contains, Result, O
 use Rattle.std.proofs.lemmas.Bool.{false_from_ne_true, eq-eqb, ne_eqb}
 use Rattle.std.proofs.lemmas.Slice.Eq.{bytes_eq-Decides}
 use Rattle.age_machine.specs.{FileCall, Made, Wrote, IsOf, Linked, Renamed, Removed, SyncedNames, at_path, for_file, changed, after_call, IsAmong, MayLead}
-use Rattle.age_machine.specs.{MayLeaveFile, MayLeave, Synced, Unwaited, Missing, UnwaitedNames, MayHave, Waited, after_calls, sized, written, AllAnswered}
+use Rattle.age_machine.specs.{MayLeaveFile, MayLeave, Synced, Unwaited, Missing, UnwaitedNames, MayHave, Waited, after_calls, sized, written, AllAnswered, IsBeside, IsKept}
 use Rattle.age_machine.specs.{AtEachMoment, Throughout, SavesWhole, SparesFile, HasMade, IsLonger, IsWithin, AllWithin, Touches, IsSafe, Replaces, HasBeside}
-use Rattle.age_machine.specs.{IsBeside, IsKept}
 use Rattle.age_machine.specs.Disk.{Disk}
 use Rattle.age_machine.specs.inner.{Has, AllOf, IsAbout, HasTried, HasPlaced, Fills, IsInPlace, IsReady, WritesOver, CutsOff}
 use Rattle.std.proofs.lemmas.List.{append-nil, take_at, drop_at, take_all, drop-drop, length-take-le}

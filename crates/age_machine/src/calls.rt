@@ -50,8 +50,7 @@ pub fn write_at(file: &File, bytes: &[u8], at: u64) -> io::Result<usize>
 {
     match file.write_at(bytes, at) {
         Err(error) if error.kind() == io::ErrorKind::NotSeekable => {
-            let mut same = file.try_clone()?;
-            same.write(bytes)
+            file.try_clone()?.write(bytes)
         }
         written => written,
     }

@@ -141,11 +141,6 @@ fn close_copy(rt: &HostRuntime, file: &File) -> io::Result<()> {
     calls::close(rt, file.try_clone()?)
 }
 
-/// The folder that a path leads into now.
-fn folder_at(rt: &HostRuntime, path: &str) -> io::Result<Option<Folder>> {
-    Ok(Some(Folder::of(rt, path)?))
-}
-
 /// A file of the machine that is open to be written.
 #[derive(Drop)]
 pub struct HostFile {
@@ -459,7 +454,7 @@ impl Machine for HostMachine {
     }
 
     fn check_folder(&mut self, folder: Option<&Folder>, path: &str) -> io::Result<()> {
-        match check_same(folder, folder_at(&self.rt, path)) {
+        match check_same(folder, Folder::of(&self.rt, path).map(Some)) {
             Ok(()) => Ok(()),
             Err(error) => Err(self.fail(error)),
         }

@@ -238,10 +238,7 @@ fn sight_of(opening: Opening) -> u64 {
 
 /// Whether a file has this many bytes, as far as that is known.
 fn is_as_long<M: Machine>(machine: &M, file: &M::File, len: u64) -> bool {
-    match machine.look(file) {
-        Ok(now) => now.len == len,
-        Err(_) => false,
-    }
+    matches!(machine.look(file), Ok(now) if now.len == len)
 }
 
 impl<M: Machine + Drop> Out<M> {
