@@ -45,7 +45,7 @@ fn show_char<W: fmt::Write>(c: char, f: &mut Formatter<W>) -> fmt::Result {
     match c {
         '\'' => f.write_str("'"),
         '"' => f.write_str("\""),
-        _ => write!(f, "{}", c.escape_debug()),
+        _ => fmt::Display::fmt(&c.escape_debug(), f),
     }
 }
 

@@ -162,11 +162,12 @@ fn explain_refusal(rt: &HostRuntime, line: &str, failures: &Failures<'_>) {
 /// Says what is wrong with the file of a passphrase. It was read until it was too long.
 fn explain_passphrase(rt: &HostRuntime, last: Amount<'_>) {
     let name = Escaped(last.name.as_bytes());
-    let _ = match last.bytes {
-        0 => eprintln!(rt; "age_tool: {name} is empty"),
-        1 => eprintln!(rt; "age_tool: {name} holds nothing but a newline"),
-        _ => eprintln!(rt; "age_tool: {name} holds more than 65,536 bytes"),
+    let what = match last.bytes {
+        0 => "is empty",
+        1 => "holds nothing but a newline",
+        _ => "holds more than 65,536 bytes",
     };
+    let _ = eprintln!(rt; "age_tool: {name} {what}");
 }
 
 /// Says what is wrong with a file of a wanted length. It was read until it was too long.

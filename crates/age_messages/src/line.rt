@@ -1,6 +1,6 @@
 //! The line that shows how far a run is.
 
-ghost use Rattle.std.specs.Prelude.{◌≡◌, ◌+◌, ◌^◌, ◌≤◌, ◌<◌, ◌++◌, length, decimal};
+ghost use Rattle.std.specs.Prelude.{◌≡◌, ◌+◌, ◌^◌, ◌≤◌, ◌<◌, ◌++◌, length, codes, decimal};
 ghost use Rattle.age_messages.specs.{percentage, measure_of, amount, padded, count_line, progress_line, mark};
 ghost use Rattle.age_messages.specs.{line_end, covering_end, line_step, line_share};
 
@@ -86,6 +86,16 @@ fn push_padded(line: &mut Line, width: usize, text: &[u8])
     push(line, text);
 }
 
+/// Appends the name of a unit, and what ends the line.
+fn push_unit(line: &mut Line, unit: Measure, end: &[u8])
+    requires { length line.old.items + (length unit.name.now + (length end.now + 1)) ≤ 256 }
+    ensures { line.new.items ≡ line.old.items ++ (codes " " ++ (unit.name.now ++ end.now)) }
+{
+    push(line, b" ");
+    push(line, unit.name.as_bytes());
+    push(line, end);
+}
+
 /// The line for a count of bytes, with its end.
 fn count_line(end: &[u8], count: u64) -> Line
     requires { length end.now ≤ 30 }
@@ -94,9 +104,7 @@ fn count_line(end: &[u8], count: u64) -> Line
     let measure = measure_of(count);
     let mut line = Line::new();
     push_padded(&mut line, 6, amount_in(measure.size, count).as_slice());
-    push(&mut line, b" ");
-    push(&mut line, measure.name.as_bytes());
-    push(&mut line, end);
+    push_unit(&mut line, measure, end);
     line
 }
 
@@ -113,8 +121,7 @@ fn percentage(length: u64, count: u64) -> u64
 pub(crate) fn size_line(bytes: u64) -> Line {
     let measure = measure_of(bytes);
     let mut line = amount_in(measure.size, bytes);
-    push(&mut line, b" ");
-    push(&mut line, measure.name.as_bytes());
+    push_unit(&mut line, measure, b"");
     line
 }
 
@@ -157,9 +164,7 @@ fn share_line(style: LineStyle, length: u64, count: u64) -> Line
     push(&mut line, amount_in(measure.size, count).as_slice());
     push(&mut line, b" of ");
     push(&mut line, amount_in(measure.size, length).as_slice());
-    push(&mut line, b" ");
-    push(&mut line, measure.name.as_bytes());
-    push(&mut line, line_end(style));
+    push_unit(&mut line, measure, line_end(style));
     line
 }
 
