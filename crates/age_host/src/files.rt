@@ -1,6 +1,6 @@
 //! The machine's files.
 
-ghost use Rattle.std.specs.Prelude.{◌≡◌, ◌∷◌, ◌++◌, [], true, None, Some, Err, IfOk, IfErr, IsErr, Contains};
+ghost use Rattle.std.specs.Prelude.{◌≡◌, ◌∷◌, ◌++◌, [], true, None, Some, Ok, Err, IfOk, IfErr, IsErr, Contains};
 ghost use Rattle.std.specs.Prelude.{OnOk, IfSome, IsSomeAnd, ◌≢◌};
 ghost use Rattle.age_fault.specs.declared.fault.FileFault.TheVariants.{Read, Write, Memory};
 ghost use Rattle.age_fileset.specs.{IsMemoryOr, OpenFails, Opened, Created, Made, Found, FoundOrEmpty};
@@ -20,8 +20,8 @@ use age_fileset::{FileSet, Log, OpenFault};
 use age_io::{Durability, Tape};
 use age_messages::{Action, Failures, announce_rereading, announce_sync};
 use std::alloc::Global;
-use std::io;
 use std::rt::HostRuntime;
+use std::{io, mem};
 
 /// The machine's files. Contracts see what was done with them and what came of it, and of their
 /// bytes what was read and put. A name is a path; `/dev/stdin`, `/dev/stdout`, `/dev/stderr` and
@@ -78,13 +78,13 @@ impl<'r, 'w> HostFiles<'r, 'w> {
         }
     }
 
-    /// Keeps a file that was opened to be read.
+    /// Opens a file to be read, which may count as empty if it isn't there, and keeps it.
     fn admit_in(
         &mut self,
+        alloc: Global,
         name: &str,
-        opened: io::Result<HostIn>,
+        or_empty: bool,
     ) -> Result<WatchedIn<'r, 'w>, OpenFault>
-        requires { IfOk opened (IsUnread name.now) }
         ensures begun { IfOk result (λ s. IsUnread name.now s.source) }
         ensures known { IfOk result (λ s. IfSome s.source.id (Contains self.new.open.items)) }
         ensures before { HasAll self.old.open.items self.new.open.items }
@@ -92,6 +92,12 @@ impl<'r, 'w> HostFiles<'r, 'w> {
             × (self.new.saved ≡ self.old.saved) }
         ensures faults { IfErr result (OpenFails Read) }
     {
+        self.admit_stream(alloc, name)?;
+        let opened = if or_empty {
+            HostIn::open_or_empty(alloc, self.rt, name)
+        } else {
+            HostIn::open(alloc, self.rt, name)
+        };
         match opened {
             Ok(file) => {
                 keep(&mut self.open, file.id())?;
@@ -106,15 +112,22 @@ impl<'r, 'w> HostFiles<'r, 'w> {
     }
 
     /// Keeps a file that was opened to be written, under its name, and takes it for this run alone.
-    fn admit_created(&mut self, name: &str, out: HostOut) -> Result<WatchedOut<'r, 'w>, OpenFault>
-        ensures same { IfOk result (λ o. o.sink ≡ out) }
+    fn admit_created(
+        &mut self,
+        name: &str,
+        opened: io::Result<HostOut>,
+    ) -> Result<WatchedOut<'r, 'w>, OpenFault>
+        ensures same { IfOk result (λ o. opened ≡ Ok o.sink) }
         ensures named { IfOk result (λ o. o.label ≡ name.now) }
         ensures apart { IfOk result (λ o. IsApart self.old.open.items o.sink) }
         ensures kept { (self.new.log ≡ self.old.log) × (self.new.ended ≡ self.old.ended)
             × (self.new.saved ≡ self.old.saved) }
         ensures faults { IfErr result (OpenFails Write) }
     {
-        let out = WatchedOut::new(out, name, self.failures);
+        let out = match opened {
+            Ok(out) => WatchedOut::new(out, name, self.failures),
+            Err(error) => return Err(self.refusal(name, error)),
+        };
         let out = admit_out(self.rt, &mut self.open, self.prepared.as_slice(), out)?;
         match out.claim(self.rt, name) {
             Ok(out) => Ok(out),
@@ -281,16 +294,18 @@ fn keep_stream(kept: &mut Vec<StreamId>, stream: StreamId) -> Result<(), OpenFau
     Ok(kept.push(stream).map_err(|_| FileFault::Memory)?)
 }
 
+/// Whether both are streams, and the same.
+fn are_same(one: Option<StreamId>, other: Option<StreamId>) -> bool {
+    match (one, other) {
+        (Some(one), Some(other)) => one.is_same(other),
+        _ => false,
+    }
+}
+
 /// Whether two names lead to one stream.
 fn is_one_stream(alloc: Global, rt: &HostRuntime, one: &str, other: &str) -> io::Result<bool> {
-    let (one, other) = (
-        StreamId::at(alloc, rt, one)?,
-        StreamId::at(alloc, rt, other)?,
-    );
-    match (one, other) {
-        (Some(one), Some(other)) => Ok(one.is_same(other)),
-        _ => Ok(false),
-    }
+    let one = StreamId::at(alloc, rt, one)?;
+    Ok(are_same(one, StreamId::at(alloc, rt, other)?))
 }
 
 /// The name among those that are given that leads to the same stream as this one.
@@ -404,7 +419,7 @@ fn replace_apart(
         return Err(io::Error::from(io::ErrorKind::AlreadyExists));
     }
     let (own, replaced) = replace(alloc, rt, prepared, bytes, durability);
-    *saved = own;
+    drop(mem::replace(saved, own));
     replaced
 }
 
@@ -483,11 +498,7 @@ impl<'r, 'w> FileSet for HostFiles<'r, 'w> {
         ensures before { HasAll self.old.open.items self.new.open.items }
     {
         self.log.opened(name);
-        if let Err(fault) = self.admit_stream(alloc, name) {
-            self.log.refused(name, fault);
-            return Err(fault);
-        }
-        let opened = self.admit_in(name, HostIn::open(alloc, self.rt, name));
+        let opened = self.admit_in(alloc, name, false);
         match &opened {
             Ok(source) => self.log.found(name, None, source.source.length()),
             Err(fault) => self.log.refused(name, *fault),
@@ -509,11 +520,7 @@ impl<'r, 'w> FileSet for HostFiles<'r, 'w> {
         ensures before { HasAll self.old.open.items self.new.open.items }
     {
         self.log.opened(name);
-        if let Err(fault) = self.admit_stream(alloc, name) {
-            self.log.refused(name, fault);
-            return Err(fault);
-        }
-        let opened = self.admit_in(name, HostIn::open_or_empty(alloc, self.rt, name));
+        let opened = self.admit_in(alloc, name, true);
         match &opened {
             Ok(source) => self.log.found_or_empty(name, None, source.source.length()),
             Err(fault) => self.log.refused(name, *fault),
@@ -581,10 +588,8 @@ impl<'r, 'w> FileSet for HostFiles<'r, 'w> {
         ensures faults { IfErr result (OpenFails Write) }
     {
         self.log.created(name);
-        let out = match HostOut::open(alloc, self.rt, name, self.durability) {
-            Ok(out) => self.admit_created(name, out),
-            Err(error) => Err(self.refusal(name, error)),
-        };
+        let opened = HostOut::open(alloc, self.rt, name, self.durability);
+        let out = self.admit_created(name, opened);
         if let Err(fault) = out {
             self.log.refused(name, fault);
         }
@@ -604,10 +609,8 @@ impl<'r, 'w> FileSet for HostFiles<'r, 'w> {
         ensures faults { IfErr result (OpenFails Write) }
     {
         self.log.made(name);
-        let out = match HostOut::make(alloc, self.rt, name, self.durability) {
-            Ok(out) => self.admit_created(name, out),
-            Err(error) => Err(self.refusal(name, error)),
-        };
+        let opened = HostOut::make(alloc, self.rt, name, self.durability);
+        let out = self.admit_created(name, opened);
         match out {
             Ok(_) => self.log.absent(name),
             Err(fault) => self.log.refused(name, fault),
