@@ -18,11 +18,9 @@ struct Reported {
 /// The fault that a line reports, if it does.
 fn fault_in(line: &str) -> Option<Reported> {
     let (number, rest) = line.strip_prefix("age_tool: ")?.split_once(' ')?;
-    let number = number.parse::<u8>().ok()?;
-    let is_first_line = rest.ends_with(" line 1");
     Some(Reported {
-        number,
-        is_first_line,
+        number: number.parse().ok()?,
+        is_first_line: rest.ends_with(" line 1"),
     })
 }
 
@@ -83,10 +81,9 @@ fn name_file(rt: &HostRuntime, fault: Reported, failures: &Failures<'_>) {
 
 /// What to give to `--old`: where standard output went, the program can't say.
 fn old_name(output: &str) -> &str {
-    if output == "/dev/stdout" {
-        "OLD"
-    } else {
-        output
+    match output {
+        "/dev/stdout" => "OLD",
+        _ => output,
     }
 }
 
@@ -172,8 +169,7 @@ fn explain_passphrase(rt: &HostRuntime, last: Amount<'_>) {
 
 /// Says what is wrong with a file of a wanted length. It was read until it was too long.
 fn explain_length(rt: &HostRuntime, last: Amount<'_>, wanted: u64) {
-    let name = Escaped(last.name.as_bytes());
-    let bytes = last.bytes;
+    let (name, bytes) = (Escaped(last.name.as_bytes()), last.bytes);
     let _ = if bytes > wanted {
         eprintln!(rt; "age_tool: {name} holds more than {wanted} bytes")
     } else {
