@@ -7,7 +7,8 @@ use Rattle.std.specs.List.{flat_map, AllByRecursion}
 use Rattle.std.specs.Borrow.{Bor}
 use Rattle.std.proofs.lemmas.List.{append-nil, append_assoc, length-append, take-append-drop, take_more, take-append-le}
 use Rattle.std.proofs.lemmas.Bool.{cond-true, ltb-true, leb-true, and_parts}
-use Rattle.std.proofs.Math.Nat.{add-mul-div_left}
+use Rattle.std.proofs.Math.Nat.{add-mul-div_left, div-mul-le_self}
+use Rattle.std.proofs.lemmas.Nat.{mul-le}
 use Rattle.age_chunk.specs.{IsChunkBox, OpensBlock, Seals, tag_length, text_length, chunk_limit, clear_sealing, clear_opening, chunk_count, payload}
 use Rattle.age_chunk.specs.inner.{clear_valid}
 use Rattle.age_chunk.specs.declared.fault.Memory.{Memory}
@@ -275,6 +276,10 @@ room_left n h t p held (Some chunk) some none le =
     let d : (h + p) / z ≡ k / z + 1 = ap (λ (x : ℕ). x / z) e ∙ add-mul-div_left k 1 pos in
     let m : (k / z + 1) * n ≡ k / z * n + n = omega arith in
     omega (arith, some.0, ap (λ (x : ℕ). x * n) d, m)
+
+-- a part of each whole block is no more than all bytes
+pub part_within : (len size part : ℕ) → part ≤ size → len / size * part ≤ len
+part_within len size part le = omega (arith, mul-le (len / size) part (len / size) size (omega arith) le, div-mul-le_self len size)
 
 -- ---- If more room is asked for, more bytes than a tag has came.
 
