@@ -4,7 +4,7 @@ ghost use Rattle.std.specs.Prelude.{◌≡◌, ◌≢◌, ◌+◌, ◌≤◌, le
 ghost use Rattle.age_stream.specs.{fresh};
 ghost use Rattle.age_c.specs.Readers.{IsAt, HasHead, HasNoHead, HasFront, HeadRefuses, IsStarted};
 ghost use Rattle.age_c.specs.Readers.{StartRefuses, start_fault_number};
-ghost use Rattle.age_c.specs.inner.Readers.{StartCounts};
+ghost use Rattle.age_c.specs.inner.{StartCounts};
 
 use crate::MORE;
 use crate::reader::Reader;

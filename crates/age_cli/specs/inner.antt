@@ -1,6 +1,304 @@
-pub mod Endings
-pub mod Rereadings
-pub mod Openings
-unfoldable pub use Endings.*
-unfoldable pub use Rereadings.*
-unfoldable pub use Openings.*
+-- What only private code cites: how a part of the program ended, the second reading of an input,
+-- and the files of a command.
+use Rattle.std.specs.Prelude.{◌≡◌, ◌≢◌, ◌⊎◌, ℕ, ◌++◌, ◌∷◌, [], List, Option, None, Result, Ok, Err, IsErrAnd}
+use Rattle.std.specs.Prelude.{true, IsSomeAnd, length, Some, IfSome, Bool, is_some, min, IsErr, OnOk, IfErr}
+use Rattle.std.specs.Prelude.{if◌then◌else◌, IfOk}
+use Rattle.clap.specs.Words.{Text}
+use Rattle.clap.specs.declared.error.kind.ErrorKind.{ErrorKind}
+use Rattle.clap.specs.declared.error.kind.ErrorKind.TheVariants.{DisplayHelp, DisplayVersion}
+use Rattle.age_io.specs.{SinkView, Shown as ShownOne, SourceView}
+use Rattle.age_io.specs.declared.durability.Durability.{Durability}
+use Rattle.age_fault.specs.declared.fault.FileFault.{FileFault}
+use Rattle.age_fault.specs.declared.fault.FileFault.TheVariants.{Write, Read, Memory, BadPosition}
+use Rattle.age_file.specs.declared.decryption.Done.{Done}
+use Rattle.age_file.specs.declared.decryption.Stopped.{Stopped}
+use Rattle.age_file.specs.declared.encryption.Written.{Written}
+use Rattle.age_fileset.specs.{Closed, Unwritten, Entry, entry, FilesView, PutsOnly, CameSince, Outcome, Found}
+use Rattle.age_fileset.specs.{Gave, Settled, reading_of, Event, HasGiven, HasGivenAll, Does, FoundOrEmpty}
+use Rattle.age_command.specs.{Follows, replacing, is_usage, Order, HoldsOnly, IsUnread}
+use Rattle.age_command.specs.declared.ending.Ending.{Ending}
+use Rattle.age_command.specs.declared.ending.Ending.TheVariants.{Fault, Usage}
+use Rattle.age_machine.specs.{Closes, EndedFile, OutFile, TouchesItself, IsUntouched}
+use Rattle.age_cli.specs.Acts.{IsEndingOf, IsNotDue, IsStored, start_of, Engine, Finds, Paths, ShowsRun}
+use Rattle.age_cli.specs.Acts.{SparesOut, AreSame, IsUnusable, NamesOne}
+use Rattle.age_cli.specs.declared.interruption.Interruption.{Interruption}
+use Rattle.age_io.specs.Supply.{Supply}
+use Rattle.age_file.specs.{IsReport, Ports}
+use Rattle.age_file.specs.declared.report.Report.{Report}
+use Rattle.age_cli.specs.Commands.{ReportsAs, WasRead, HoldsNoPassphrase, HoldsNoRandom, HoldsNoPosition}
+use Rattle.age_file.specs.declared.position.Position.{Position}
+use Rattle.age_file.specs.declared.standing.Standing.{Standing}
+use Rattle.age_file.specs.declared.standing.Standing.TheVariants.{Skipping, InPayload}
+use Rattle.age_cli_args.specs.{option_text}
+use Rattle.age_cli_args.specs.declared.request.Decrypting.{Decrypting}
+use Rattle.age_cli_args.specs.declared.request.ProgressOption.{ProgressOption}
+use Rattle.age_cli_args.specs.declared.request.ProgressOption.TheVariants.{Silent, Shown}
+use Rattle.age_keys.specs.declared.random.FileRandom.{FileRandom}
+use Rattle.age_cli_args.specs.declared.request.Encrypting.{Encrypting}
+use Rattle.age_command.specs.declared.ending.Usage.TheVariants.{SameFile, BadPassphraseFile, BadRandomFile}
+use Rattle.age_command.specs.Orders.{writing_order}
+use Rattle.age_cli.specs.declared.encrypt_command.Material.{Material}
+use Rattle.age_cli.specs.declared.output.Content.{Content}
+use Rattle.age_cli.specs.declared.output.Content.TheVariants.{Plaintext, AgeFile}
+use Rattle.age_cli.specs.declared.output.Writing.{Writing}
+
+-- ---- How a part of the program ended, and what a report of an input says.
+
+-- a refusal that isn't one: help or the version is asked for
+abbrev pub IsForOutput : ErrorKind → Type 0
+IsForOutput kind = (kind ≡ DisplayHelp) ⊎ (kind ≡ DisplayVersion)
+
+-- how an engine ended: an encryption has no position
+abbrev pub sealing_end : Result Written FileFault → Result (Unit {0}) Interruption
+sealing_end (Ok written) = Ok tt
+sealing_end (Err fault) = Err (record { fault = fault; position = None })
+
+abbrev pub opening_end : Result Done Stopped → Result (Unit {0}) Interruption
+opening_end (Ok done) = Ok tt
+opening_end (Err s) = Err (record { fault = s.fault; position = s.position })
+
+-- what was put of an output, whose sink is this: nothing, or all that it took
+abbrev pub IsPut : SinkView → List Entry → Type 0
+IsPut sink puts = (puts ≡ [])
+    ⊎ ((puts ≡ entry sink.label sink.taken.bytes ∷ []) × (sink.taken.bytes ≢ []))
+
+-- how the file of OUT was left after a stop, whose sink is this: untouched, if nothing was taken, and closed
+-- otherwise
+pub record IsLeft (sink : SinkView) (out : EndedFile) : Type 0 where
+  pub took : out.took ≡ sink.taken.bytes
+  pub within : TouchesItself out
+  pub untouched : sink.taken.bytes ≡ [] → IsUntouched sink.failed out
+  pub kept : (sink.taken.bytes ≡ [] → ⊥) → out.is_closed ≡ true
+
+pub record LeavesOut (durability : Durability) (sink : SinkView) (old new : FilesView) : Type 0 where
+  pub outs : List Entry
+  pub puts_only : PutsOnly outs old new
+  pub out : IsPut sink outs
+  pub noted : new.events ≡ old.events ++ Closed durability ∷ []
+  pub ended : IsSomeAnd new.ended (IsLeft sink)
+
+-- OUT was closed, whose sink is this, with this result, and these were put
+pub record ClosesOut (durability : Durability) (sink : SinkView) (puts : List Entry) (old new : FilesView)
+    (result : Result (Unit {0}) FileFault) : Type 0 where
+  pub file : Option OutFile
+  pub ended : IsSomeAnd new.ended (Closes durability file sink result)
+  pub noted : new.events ≡ old.events ++ Closed durability ∷ []
+  pub puts_only : PutsOnly puts old new
+
+-- OUT was left as a stop leaves it, whose sink is this, and its position was saved, if there is one and a
+-- file for it, and if it isn't beyond these bytes
+pub record SavesStop (save : Option Text) (durability : Durability) (sink : SinkView) (settled : ℕ)
+    (stop : Interruption) (old new : FilesView) (ending : Ending) : Type 0 where
+  pub reported : IsEndingOf stop.fault ending
+  pub ended : IsSomeAnd new.ended (IsLeft sink)
+  -- OUT is closed, and the file of the position replaced, if at all.
+  pub order : Follows (Closed durability ∷ replacing save durability) old.events new.events
+  -- What was put of the output comes first.
+  pub outs : List Entry
+  pub rest : List Entry
+  pub puts_only : PutsOnly (outs ++ rest) old new
+  pub out : IsPut sink outs
+  pub saved : ((new.events ≡ old.events ++ Closed durability ∷ []) × (rest ≡ [])
+      × IsNotDue settled ending save stop.position)
+      ⊎ IsStored (CameSince old new) durability save settled stop.position ending rest new.saved
+
+-- it was closed whole, or it couldn't be, as the set of files said
+abbrev pub ClosesAll : Durability → SinkView → (old new : FilesView) → Result (Unit {0}) Ending → Type 0
+ClosesAll durability sink old new (Ok done) =
+    ClosesOut durability sink (entry sink.label sink.taken.bytes ∷ []) old new (Ok tt)
+ClosesAll durability sink old new (Err (Fault fault)) =
+    ClosesOut durability sink [] old new (Err fault) × (fault ≡ Write)
+    × CameSince old new (Unwritten sink.label)
+ClosesAll durability sink old new other = ⊥
+
+-- OUT was ended once its engine returned
+abbrev pub Concludes : Option Text → Durability → SinkView → (settled : ℕ)
+    → (engine : Result (Unit {0}) Interruption) → (old new : FilesView) → Result (Unit {0}) Ending → Type 0
+Concludes save durability sink settled (Ok done) old new result = ClosesAll durability sink old new result
+Concludes save durability sink settled (Err stop) old new result =
+    IsErrAnd result (SavesStop save durability sink settled stop old new)
+
+-- the report of an input, which was read to its end, or whose length is this
+pub record IsInspected (size : Option ℕ) (old new : Supply) (r : Report) : Type 0 where
+  pub reports : ReportsAs size old new r
+  pub whole : (bytes : List ℕ) → old.left ≡ Some bytes → IfSome size (λ n. n ≡ length bytes)
+      → IsReport bytes r
+
+-- ---- How a position is found by reading the input once more.
+
+-- what progress shows of a second reading, if there was one
+abbrev pub ShowsAgain : (old new : Option (List ShownOne)) → Type 0
+ShowsAgain old new = (new ≡ old)
+    ⊎ ((size : Option ℕ) × (coming : Supply) × (left : Supply) × ShowsRun size coming left old new)
+
+-- IN was read once more, and a position was found
+pub record IsFoundIn (Came : Outcome → Type 0) (name : Text) (from : Option Position) (key : List ℕ)
+    (written : ℕ) (p : Position) : Type 0 where
+  pub first : SourceView
+  pub last : SourceView
+  pub reading : WasRead Came (Found name) name first last
+  pub found : Finds from key first last written p
+
+-- a stop, had positions been kept
+abbrev pub stopped_at : Stopped → Position → Stopped
+stopped_at s p = record { fault = s.fault; written = s.written; position = Some p }
+
+-- the stop and the key by which the input is read once more, if that is to be done: it came to the
+-- payload
+abbrev pub again_of : Bool → Result Done Stopped → Option (List ℕ) → Option (Stopped × List ℕ)
+again_of reread (Err s) (Some key) = if reread then Some (s, key) else None
+again_of reread end key = None
+
+-- OUT was ended after a stop that dropped its position, by a sink that is this, and then the input
+-- was read once more: the position of what OUT holds for certain was found, and saved if it can be; or
+-- it wasn't found, and whatever it is, it isn't saved
+module _ (d : Decrypting) (sink : SinkView) (from : Option Position) (stopped : Stopped) (key : List ℕ)
+    (old new : FilesView) (ending : Ending) where
+  abbrev pub ConcludesAt : ℕ → Position → Type 0
+  ConcludesAt settled p = Concludes (option_text d.save) d.durability sink settled
+      (opening_end (Err (stopped_at stopped p))) old new (Err ending)
+
+  abbrev pub ConcludesFound : ℕ → Type 0
+  ConcludesFound settled = ((p : Position)
+      × IsFoundIn (CameSince old new) d.from.now (start_of settled from) key
+      (min stopped.written settled) p × ConcludesAt settled p)
+      ⊎ ((p : Position) → ConcludesAt settled p)
+
+-- OUT was ended after a decryption that ended so, and the position of a stop was saved: the one that
+-- it has, or, of a stop and a key by which the input is read once more, one that is found so. `IsCertain`
+-- says that the sink holds so many bytes for certain.
+abbrev pub ConcludesDecryption : (IsCertain : ℕ → Type 0) → Decrypting → SinkView → Option Position
+    → Result Done Stopped → Option (Stopped × List ℕ) → FilesView → FilesView
+    → Result (Unit {0}) Ending → Type 0
+ConcludesDecryption IsCertain d sink from end None old new result = (settled : ℕ)
+    × Concludes (option_text d.save) d.durability sink settled (opening_end end) old new result
+    × (IsErr end → is_some (option_text d.save) ≡ true → IsCertain settled)
+ConcludesDecryption IsCertain d sink from end (Some again) old new result =
+    IsErrAnd result (λ ending. (settled : ℕ) × IsCertain settled
+    × ConcludesFound d sink from again.0 again.1 old new ending settled)
+
+-- where a resumed one stopped, had positions been kept: in the skipped blocks it is where it began
+abbrev pub placed : Bool → Standing → Position → Result Done Stopped → Result Done Stopped
+placed true Skipping from (Err s) = Err (stopped_at s from)
+placed reread standing from end = end
+
+-- the key of the payload that it came to
+abbrev pub key_of : Standing → Option (List ℕ)
+key_of (InPayload key) = Some key
+key_of other = None
+
+-- An engine ran over a source and a sink of the files, and OUT was ended. `end` is how it ended; of a
+-- stop, it has the position that is saved, of which `settled` bytes are certain.
+pub record RunsEngine (IsPorts : Ports → Type 0) (Came : Outcome → Type 0) (engine : Engine) (p : Paths)
+    (durability : Durability) (progress : ProgressOption) (before : Ports) (old new : FilesView)
+    (Unshown : Type 0) (IsShown : Supply → Supply → Result (Unit {0}) Ending → Type 0)
+    (result : Result (Unit {0}) Ending) : Type 0 where
+  pub after : Ports
+  pub after_is : IsPorts after
+  pub over : Came (Gave (reading_of p.from after.source))
+  pub end : Result (Unit {0}) Interruption
+  pub settled : ℕ
+  pub ends : OnOk end (engine.ends before after × (after.sink.failed ≡ before.sink.failed))
+  pub stops : IfErr end (λ s. engine.stops settled s.fault s.position before after)
+  pub named : after.sink.label ≡ before.sink.label
+  pub certain : IsErr end → is_some p.save ≡ true
+      → Came (Settled durability after.sink.taken.bytes settled)
+  pub concludes : Concludes p.save durability after.sink settled end old new result
+  pub silent : progress ≡ Silent → Unshown
+  pub shown : progress ≡ Shown → IsShown before.source.supply after.source.supply result
+
+-- ---- The names of a command, how files are opened, and the random bytes of an encryption.
+
+-- ---- The names of a command.
+
+-- the order of a command that writes
+abbrev pub order_in : Writing → Order
+order_in w = writing_order (option_text w.first) (option_text w.second) (option_text w.position)
+    (option_text w.old) (Some w.from.now) w.clobber (Some w.to.now) (option_text w.save) w.durability
+
+-- these pairs of names were compared: two are the same, or they aren't
+pub record Compares (old new : FilesView) (answer : Bool) (IsPair : Text → Text → Type 0)
+    : Type 0 where
+  pub does : Does [] old new
+  pub twice : (name : Text) → IsPair name name → answer ≡ true
+  pub found : answer ≡ true → AreSame (CameSince old new) IsPair
+
+-- ---- How a command ends before its output is written.
+
+-- why: a file couldn't be read or written, memory was refused, a position is bad, or the command line
+-- is to blame
+abbrev pub IsCause : (Came : Outcome → Type 0) → (Bad : Type 0) → (Blame : Ending → Type 0) → Ending → Type 0
+IsCause Came Bad Blame (Fault Read) = IsUnread Came
+IsCause Came Bad Blame (Fault Write) = (name : Text) × Came (Unwritten name)
+IsCause Came Bad Blame (Fault Memory) = Unit {0}
+IsCause Came Bad Blame (Fault BadPosition) = Bad
+IsCause Came Bad Blame (Usage usage) = Blame (Usage usage)
+IsCause Came Bad Blame other = ⊥
+
+pub record EndsBy (Came : Outcome → Type 0) (Bad : Type 0) (Blame : Ending → Type 0) (ending : Ending)
+    : Type 0 where
+  pub cause : IsCause Came Bad Blame ending
+
+-- files can't be opened or made, the output of this name among them, if that is to be an age file
+abbrev pub IsUnopened : (age_file : Option Text) → (Outcome → Type 0) → Ending → Type 0
+IsUnopened age_file Came = EndsBy Came ⊥ (IsUnusable Came age_file)
+
+-- the file of a position can't be read, or holds none, or another file can't be opened
+abbrev pub IsUnplaced : Text → (Outcome → Type 0) → Ending → Type 0
+IsUnplaced name Came = EndsBy Came (HoldsOnly Came name HoldsNoPosition) (IsUnusable Came None)
+
+-- It ended with the files as they were. A beginning of `events` was done, by which nothing was put and no
+-- output touched; none of it, if names are equal that have to differ.
+pub record FailsEarly (events : List Event) (IsTwice : Type 0) (Why : (Outcome → Type 0) → Ending → Type 0)
+    (old new : FilesView) (ending : Ending) : Type 0 where
+  pub none : PutsOnly [] old new
+  pub spared : SparesOut old.ended new.ended
+  pub order : Follows events old.events new.events
+  pub apart : IsTwice → (new.events ≡ old.events) × (is_usage ending ≡ true)
+  pub why : Why (CameSince old new) ending
+
+-- the files of `order` were opened or made, and this holds of them; or it ended so, in `whole`
+pub record OpensFiles {A : Type 0} (order whole : List Event) (IsTwice : Type 0)
+    (Why : (Outcome → Type 0) → Ending → Type 0) (old new : FilesView) (IsNew : A → Type 0)
+    (result : Result A Ending) : Type 0 where
+  pub done : IfOk result (λ x. IsNew x × Does order old new × (IsTwice → ⊥))
+  pub fails : IfErr result (FailsEarly whole IsTwice Why old new)
+
+-- a file is found, or one that isn't there counts as empty
+abbrev pub found_by : Bool → Text → Option (List ℕ) → Option ℕ → Outcome
+found_by or_empty name left size = if or_empty then FoundOrEmpty name left size else Found name left size
+
+-- the name of an output, if that is to be an age file
+abbrev pub age_file_in : Content → Text → Option Text
+age_file_in AgeFile name = Some name
+age_file_in Plaintext name = None
+
+-- the command line is to blame: for the names of what is written and read, for what files give, or for
+-- what a name leads to
+abbrev pub IsBlamedBy : (Came : Outcome → Type 0) → Writing → (GivesNone : Ending → Type 0) → Ending → Type 0
+IsBlamedBy Came w GivesNone ending = ((ending ≡ Usage SameFile) × NamesOne Came (order_in w))
+    ⊎ (GivesNone ending ⊎ IsUnusable Came (age_file_in w.content w.to.now) ending)
+
+-- ---- The random parts of an age file in bytes.
+
+-- one after the other, each of 16 bytes
+pub record IsRandom (bytes : List ℕ) (r : FileRandom) : Type 0 where
+  pub rest : List ℕ
+  pub parts : bytes ≡ r.file_key ++ (r.salt ++ (r.payload_nonce ++ rest))
+  pub key_length : length r.file_key ≡ 16
+  pub salt_length : length r.salt ≡ 16
+  pub nonce_length : length r.payload_nonce ≡ 16
+
+-- all that the file of the passphrase gave, and what that of the random bytes gave
+pub record IsMaterialGiven (Came : Outcome → Type 0) (asked : Encrypting) (random_name : Text)
+    (m : Material) : Type 0 where
+  pub pass : HasGivenAll Came asked.pass.now m.pass.items
+  pub bytes : List ℕ
+  pub random : HasGiven Came random_name bytes
+  pub random_is : IsRandom bytes m.random
+
+-- one of these files doesn't hold what it has to
+abbrev pub LacksMaterial : (Came : Outcome → Type 0) → Encrypting → (random_name : Text) → Ending → Type 0
+LacksMaterial Came asked random_name ending =
+    ((ending ≡ Usage BadPassphraseFile) × HoldsOnly Came asked.pass.now (HoldsNoPassphrase asked.log))
+    ⊎ ((ending ≡ Usage BadRandomFile) × HoldsOnly Came random_name HoldsNoRandom)

@@ -16,8 +16,8 @@ ghost use Rattle.age_keys.specs.{IsAllowed};
 ghost use Rattle.age_command.specs.declared.ending.Ending.TheVariants.{Usage as UsageEnding};
 ghost use Rattle.age_cli.specs.Acts.{Acts, IsUnusable, PortsOf, ShowsProgress, ShowsRun};
 ghost use Rattle.age_cli.specs.Commands.{HoldsNoPassphrase, HoldsNoRandom, MakesSecret};
-ghost use Rattle.age_cli.specs.inner.Openings.{EndsBy, IsBlamedBy, IsMaterialGiven, IsRandom};
-ghost use Rattle.age_cli.specs.inner.Openings.{LacksMaterial, OpensFiles, order_in};
+ghost use Rattle.age_cli.specs.inner.{EndsBy, IsBlamedBy, IsMaterialGiven, IsRandom};
+ghost use Rattle.age_cli.specs.inner.{LacksMaterial, OpensFiles, order_in};
 
 use crate::interruption::sealing_end;
 use crate::output::{

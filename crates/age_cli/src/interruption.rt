@@ -8,7 +8,7 @@ ghost use Rattle.age_fileset.specs.{Entry, PutsOnly, CameSince, IsMemoryOr, writ
 ghost use Rattle.age_cli_args.specs.{option_text};
 ghost use Rattle.age_command.specs.{is_usage, Announces, Follows, replacing};
 ghost use Rattle.age_cli.specs.Acts.{IsEndingOf, IsNotDue, IsStored, IsUnsavable, LacksOne};
-ghost use Rattle.age_cli.specs.inner.Endings.{sealing_end, opening_end};
+ghost use Rattle.age_cli.specs.inner.{sealing_end, opening_end};
 ghost use Rattle.age_machine.specs.Saved.{Saves};
 ghost use Rattle.age_file.specs.{position_text};
 

@@ -11,9 +11,9 @@ ghost use Rattle.age_command.specs.declared.ending.Usage.TheVariants.{SameFile};
 ghost use Rattle.age_command.specs.declared.ending.Ending.TheVariants.{Usage as UsageEnding};
 ghost use Rattle.age_file.specs.{ports};
 ghost use Rattle.age_cli.specs.Acts.{AreNew, IsUnusable, NamesOne};
-ghost use Rattle.age_cli.specs.inner.Endings.{ClosesAll, Concludes, LeavesOut};
-ghost use Rattle.age_cli.specs.inner.Openings.{Compares, EndsBy, IsUnopened, OpensFiles, age_file_in};
-ghost use Rattle.age_cli.specs.inner.Openings.{found_by, order_in};
+ghost use Rattle.age_cli.specs.inner.{ClosesAll, Concludes, LeavesOut};
+ghost use Rattle.age_cli.specs.inner.{Compares, EndsBy, IsUnopened, OpensFiles, age_file_in};
+ghost use Rattle.age_cli.specs.inner.{found_by, order_in};
 ghost use Rattle.age_cli.specs.declared.output.Content.TheVariants.{AgeFile};
 
 use crate::interruption::{Interruption, end_of};
