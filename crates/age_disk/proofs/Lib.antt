@@ -1,4 +1,2 @@
-pub mod SavedLemmas
-pub mod TargetLemmas
-unfoldable pub use SavedLemmas.*
-unfoldable pub use TargetLemmas.*
+pub mod FileLemmas
+unfoldable pub use FileLemmas.*

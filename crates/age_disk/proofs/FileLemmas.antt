@@ -1,10 +1,12 @@
--- What is known of a file while puts go on, and once it was ended.
-use Rattle.std.proofs.Common.{◌≡◌, ◌<◌, ℕ, List, [], ◌∷◌, ◌++◌, Bool, true, false, Option, Some, None, arith, sym, ap, ◌∙◌, refl, subst}
-use Rattle.std.specs.Prelude.{Result, Ok, Err, IfOk, IfSome, OnOk, OnErr, MatchResult, is_ok}
+-- What is known of a file while puts go on, and once it was ended; and of a new file that was put to a path.
+use Rattle.std.proofs.Common.{◌≡◌, ◌<◌, ℕ, List, [], ◌∷◌, ◌++◌, Bool, true, false, Option, Some, None, Result, arith, sym, ap, ◌∙◌, refl, subst}
+use Rattle.std.specs.Prelude.{Ok, Err, IfOk, IfSome, OnOk, OnErr, MatchResult, is_ok}
 use Rattle.age_io.specs.{one_more}
 use Rattle.age_io.specs.declared.durability.Durability.{Durability}
 use Rattle.age_io.specs.declared.durability.Durability.TheVariants.{Synced}
 use Rattle.age_machine.specs.{FileCall, EndedFile, Closes, OutFile, OutView, TouchesFile, text_of, LeadsTo, IsSafe}
+use Rattle.age_machine.specs.{IsKept, SavedFile, PutsAtOnce}
+use Rattle.age_machine.specs.Saved.{Saves}
 use Rattle.age_disk.specs.{HasNode, sink_of, IsTaking, FileId}
 use Rattle.age_disk.specs.inner.{TargetPuts}
 
@@ -82,3 +84,19 @@ module _ (durability : Durability) (out : OutView) (failed : ℕ) (failing : Boo
         safe = λ synced. sure_of (λ t. IsSafe out.file.path t calls) r sure (safe synced);
         caused = caused;
       })
+
+-- ---- A new file that was put to a path.
+
+-- it was put there at once, by these calls, which began with none
+pub saved_at : {E : Type 0} (bytes path : List ℕ) (durability : Durability) (r : Result (Unit {0}) E) (s : SavedFile)
+    (old calls : List FileCall) → s.path ≡ Some path → s.calls ≡ calls → old ≡ [] → PutsAtOnce bytes durability r old calls path
+    → Saves bytes durability r s
+saved_at bytes path durability r s old calls at same none puts =
+    subst (λ (o : Option (List ℕ)). IfSome o (PutsAtOnce bytes durability r [] s.calls)) (sym at)
+    (subst (λ (cs : List FileCall). PutsAtOnce bytes durability r [] cs path) (sym same)
+    (subst (λ (cs : List FileCall). PutsAtOnce bytes durability r cs calls path) none puts))
+
+-- a file that was kept, by equal words
+pub kept_as : (path from p f : List ℕ) (n m : ℕ) (calls c : List FileCall) → path ≡ p → from ≡ f → n ≡ m → calls ≡ c
+    → IsKept p f m [] c → IsKept path from n [] calls
+kept_as path from p f n m calls c at beside number made kept = rw (at, beside, number, made) kept
