@@ -42,29 +42,53 @@ struct Argument {
     help: &'static str,
 }
 
-#[rattlefmt::skip]
-const PASS: Argument = Argument { id: "pass", given: Given::Value("FILE"), help: help::PASS };
+const PASS: Argument = Argument {
+    id: "pass",
+    given: Given::Value("FILE"),
+    help: help::PASS,
+};
 
-#[rattlefmt::skip]
-const FILE_KEY: Argument = Argument { id: "file-key", given: Given::Value("HEX"), help: help::FILE_KEY };
+const FILE_KEY: Argument = Argument {
+    id: "file-key",
+    given: Given::Value("HEX"),
+    help: help::FILE_KEY,
+};
 
-#[rattlefmt::skip]
-const SHARED: Argument = Argument { id: "shared", given: Given::Value("FILE"), help: help::SHARED };
+const SHARED: Argument = Argument {
+    id: "shared",
+    given: Given::Value("FILE"),
+    help: help::SHARED,
+};
 
-#[rattlefmt::skip]
-const MAX_LOG: Argument = Argument { id: "max-log", given: Given::Number, help: help::MAX_LOG };
+const MAX_LOG: Argument = Argument {
+    id: "max-log",
+    given: Given::Number,
+    help: help::MAX_LOG,
+};
 
-#[rattlefmt::skip]
-const SAVE: Argument = Argument { id: "save", given: Given::Value("FILE"), help: help::SAVE };
+const SAVE: Argument = Argument {
+    id: "save",
+    given: Given::Value("FILE"),
+    help: help::SAVE,
+};
 
-#[rattlefmt::skip]
-const NO_SYNC: Argument = Argument { id: "no-sync", given: Given::Flag, help: help::NO_SYNC };
+const NO_SYNC: Argument = Argument {
+    id: "no-sync",
+    given: Given::Flag,
+    help: help::NO_SYNC,
+};
 
-#[rattlefmt::skip]
-const NO_CLOBBER: Argument = Argument { id: "no-clobber", given: Given::Flag, help: help::NO_CLOBBER };
+const NO_CLOBBER: Argument = Argument {
+    id: "no-clobber",
+    given: Given::Flag,
+    help: help::NO_CLOBBER,
+};
 
-#[rattlefmt::skip]
-const PROGRESS: Argument = Argument { id: "progress", given: Given::Flag, help: help::PROGRESS };
+const PROGRESS: Argument = Argument {
+    id: "progress",
+    given: Given::Flag,
+    help: help::PROGRESS,
+};
 
 #[rattlefmt::skip]
 const ENCRYPT: &[Argument] = &[

@@ -20,8 +20,8 @@ use age_fileset::{FileSet, Log, OpenFault};
 use age_io::{Durability, Tape};
 use age_messages::{Action, Failures, announce_rereading, announce_sync};
 use std::alloc::Global;
+use std::io;
 use std::rt::HostRuntime;
-use std::{io, mem};
 
 /// The machine's files. Contracts see what was done with them and what came of it, and of their
 /// bytes what was read and put. A name is a path; `/dev/stdin`, `/dev/stdout`, `/dev/stderr` and
@@ -419,7 +419,7 @@ fn replace_apart(
         return Err(io::Error::from(io::ErrorKind::AlreadyExists));
     }
     let (own, replaced) = replace(alloc, rt, prepared, bytes, durability);
-    drop(mem::replace(saved, own));
+    *saved = own;
     replaced
 }
 
