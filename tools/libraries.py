@@ -3,6 +3,7 @@
 usage: python3 -m tools.libraries CRATE     makes crates/CRATE/out/libCRATE.a of a static library, unless it is there and nothing changed
        python3 -m tools.libraries --all     proves the workspace in which it is called, as `rt ci` does, in less time
 """
+import concurrent.futures
 import functools
 import os
 import pathlib
@@ -105,30 +106,27 @@ def make_static(name):
     return True
 
 
-def compiled_by_llvm(rt):
-    """The gate of a crate, but that a program is compiled in the run that proves it, and by LLVM alone. So it isn't kept for `rt ci`, which
-    runs it as two compilers make it."""
-    whole = rt.Crate.ci
+def at_once(compile_by, backends):
+    """What compiles the one program by a compiler, with all of them at work from the first call on."""
+    begun, pool = {}, concurrent.futures.ThreadPoolExecutor()
 
-    def gate(crate, flags, of_tests):
-        if of_tests or not crate.is_program:
-            return whole(crate, flags, of_tests)
-        made, words = f"out/{crate.name}", crate.words(flags, keeps=False)
-        status = crate.prove(["build", *words, "--toolchain", f"{rt.KIT}/toolchain", "--backend", "llvm", "-o", f"{made}.o"])
-        return status or crate.link(f"{made}.o", made)
+    def compiled(crate, backend, *words):
+        if not begun:
+            begun.update({it: pool.submit(compile_by, crate, it, *words) for it in backends})
+        return begun[backend].result()
 
-    return gate
+    return compiled
 
 
 def prove_all():
-    """`rt ci` in less time: in another order, with one compiler, and planned with two thirds of the memory, which is twice what most crates
-    were seen to take, so that on a small machine few would be proved side by side."""
+    """`rt ci` in less time: in another order, with both compilers of the program at work at once, and planned with two thirds of the memory,
+    which is twice what most crates were seen to take, so that on a small machine few would be proved side by side."""
     rt = command()
     if hasattr(rt, "Kept"):
         need = rt.need
         rt.need = lambda crate: need(crate) * 2 // 3
         rt.in_lanes = lambda tasks: lanes.in_lanes(tasks, rt.processors(), 0.85 * rt.free())
-        rt.Crate.ci = compiled_by_llvm(rt)
+        rt.Crate.compile_by = at_once(rt.Crate.compile_by, rt.BACKENDS)
     return rt.main(["ci"])
 
 
