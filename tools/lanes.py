@@ -1,5 +1,5 @@
 """In which order `./build` proves crates side by side, in place of that of `rt ci`, which gives a proof two processes if a second
-processor is free. Two take nearly half as much processor time again as one and are hardly quicker; four are more than twice as quick."""
+processor is free. Two take a third more processor time than one and save a quarter of the time; four save more than half of it."""
 import concurrent.futures
 
 # How many processes a proof has at most, and what each after the first adds to its memory.
