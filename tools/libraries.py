@@ -12,7 +12,7 @@ import sys
 import tempfile
 import time
 
-from tools import lanes, older_kit
+from tools import older_kit
 from tools.workspace import CRATES, TOP, loaded, with_used
 
 
@@ -119,13 +119,12 @@ def at_once(compile_by, backends):
 
 
 def prove_all():
-    """`rt ci` in less time: in another order, with both compilers of the program at work at once, and planned with two thirds of the memory,
-    which is twice what most crates were seen to take, so that on a small machine few would be proved side by side."""
+    """`rt ci` in less time: with both compilers of the program at work at once, and planned with two thirds of the memory, which is twice
+    what most crates were seen to take, so that on a small machine few would be proved side by side."""
     rt = command()
     if hasattr(rt, "Kept"):
         need = rt.need
         rt.need = lambda crate: need(crate) * 2 // 3
-        rt.in_lanes = lambda tasks: lanes.in_lanes(tasks, rt.processors(), 0.85 * rt.free())
         rt.Crate.compile_by = at_once(rt.Crate.compile_by, rt.BACKENDS)
     return rt.main(["ci"])
 

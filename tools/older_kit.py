@@ -4,7 +4,6 @@ import contextlib
 import hashlib
 import os
 import shutil
-import tempfile
 
 from tools.workspace import CRATES
 
@@ -17,14 +16,7 @@ def complete(rt):
     def crates_of(root):
         return sorted(rt.rtlib.crates_below(root), key=lambda it: len(it.below()))
 
-    def seeded(crate, flags):
-        room = tempfile.mkdtemp(prefix="age-seed-")
-        if not rt.checked(crate, {}, flags, f"{room}/seed").returncode:
-            return room
-        shutil.rmtree(room)
-        return None
-
-    rt.copy_crates, rt.crates_of, rt.seeded, rt.linked, rt.ending, rt.Kept = copy_crates, crates_of, seeded, shutil.copytree, contextlib.nullcontext, Kept
+    rt.copy_crates, rt.crates_of, rt.ending, rt.Kept = copy_crates, crates_of, contextlib.nullcontext, Kept
 
 
 def copy_crates(top, to):
@@ -92,4 +84,10 @@ class Kept:
         pass
 
     def is_built(self, crate):
+        pass
+
+    def tried(self, name):
+        return None
+
+    def keep_tried(self, name, kind, text):
         pass

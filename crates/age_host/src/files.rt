@@ -1,7 +1,7 @@
 //! The machine's files.
 
-ghost use Rattle.std.specs.Prelude.{◌≡◌, ◌∷◌, ◌++◌, [], true, None, Some, Ok, Err, IfOk, IfErr, IsErr, Contains};
-ghost use Rattle.std.specs.Prelude.{OnOk, IfSome, IsSomeAnd, ◌≢◌};
+ghost use Rattle.std.specs.Prelude.{◌≡◌, ◌≢◌, ◌∷◌, ◌++◌, [], true, None, Some, Ok, Err, IfOk, IfErr};
+ghost use Rattle.std.specs.Prelude.{IsErr, OnOk, IfSome, IsSomeAnd, Contains};
 ghost use Rattle.age_fault.specs.declared.fault.FileFault.TheVariants.{Read, Write, Memory};
 ghost use Rattle.age_fileset.specs.{IsMemoryOr, OpenFails, Opened, Created, Made, Found, FoundOrEmpty};
 ghost use Rattle.age_fileset.specs.{Absent, Put, opened_as, made_as};

@@ -48,26 +48,36 @@ fn progress_style(rt: &HostRuntime) -> LineStyle {
 }
 
 /// Runs the program on the words after its name, over the machine's files and its own standard
-/// streams.
-fn run_words<'a>(rt: &'a HostRuntime, words: &'a [&'a str]) -> ExitCode {
-    let failures = Failures::new(words);
-    let mut files = HostFiles::new(rt, &failures);
-    let mut input = Reading::new(Watched::new(rt.reader(), &failures));
-    let mut output = Writing::new(Watched::new(io::writer(rt), &failures));
-    let mut faults = Heard::new(HostOut::faults(rt));
+/// streams, and returns its status.
+fn run_over<'r, 'w>(
+    rt: &'r HostRuntime,
+    words: &[&str],
+    failures: &'r Failures<'w>,
+    faults: &mut Heard<HostOut>,
+) -> u8 {
+    let mut files = HostFiles::new(rt, failures);
+    let mut input = Reading::new(Watched::new(rt.reader(), failures));
+    let mut output = Writing::new(Watched::new(io::writer(rt), failures));
     let mut progress = ProgressLine::new(Writing::new(rt.stderr()), progress_style(rt));
-    if words.is_empty() {
-        announce_reading(rt);
-    }
-    let status = run(
+    run(
         rt.alloc(),
         words,
         &mut files,
         &mut input,
         &mut output,
-        &mut faults,
+        faults,
         &mut progress,
-    );
+    )
+}
+
+/// The same, and says what the machine answered if that is why it failed.
+fn run_words<'a>(rt: &'a HostRuntime, words: &'a [&'a str]) -> ExitCode {
+    let failures = Failures::new(words);
+    let mut faults = Heard::new(HostOut::faults(rt));
+    if words.is_empty() {
+        announce_reading(rt);
+    }
+    let status = run_over(rt, words, &failures, &mut faults);
     explain(rt, &faults, &failures);
     ExitCode::from(status)
 }
