@@ -66,9 +66,30 @@ class Libraries:
         return True
 
 
-def is_of(made, stamp, key):
-    """Whether a library was made of what this key is a checksum of."""
+def places_of(name):
+    """Where a static library and the key of what it was made of are put."""
+    out = CRATES / name / "out"
+    out.mkdir(exist_ok=True)
+    return out / f"lib{name}.a", out / f"lib{name}.key"
+
+
+def is_made(name, key):
+    """Whether a static library is there, and was made of what this key is a checksum of."""
+    made, stamp = places_of(name)
     return made.is_file() and stamp.is_file() and stamp.read_text() == key
+
+
+def make_by(rt, crate, flags, kept):
+    """Proves a static library, over others that are proved, and compiles it in the same run: the status."""
+    words = ["build", *crate.words(flags, keeps=False), "--toolchain", f"{rt.KIT}/toolchain", "--backend", "llvm"]
+    # (a workspace that is proved in place has its libraries there)
+    status = crate.prove([*words, "-o", "out/made.a"])
+    if not status:
+        made, stamp = places_of(crate.name)
+        stamp.unlink(missing_ok=True)
+        shutil.move(f"{crate.folder}/out/made.a", made)
+        stamp.write_text(kept.key(crate))
+    return status
 
 
 def make_static(name):
@@ -79,29 +100,21 @@ def make_static(name):
     with tempfile.TemporaryDirectory(prefix="age-library-") as room:
         libraries = Libraries(room)
         crate = next(it for it in libraries.crates if it.name == name)
-        to = CRATES / name / "out"
         os.makedirs(f"{crate.folder}/out", exist_ok=True)
-        to.mkdir(exist_ok=True)
         of = len(with_used(name))
-        made, stamp = to / f"lib{name}.a", to / f"lib{name}.key"
-        if isinstance(libraries.kept, older_kit.Kept) and is_of(made, stamp, libraries.kept.key(crate)):
+        if isinstance(libraries.kept, older_kit.Kept) and is_made(name, libraries.kept.key(crate)):
             return True
         for count, it in enumerate(crate.below(), 1):
             if not libraries.is_proved(it):
                 return False
             print(f"[{count}/{of}] {it.name} proved, {int((time.monotonic() - start) / 60)} min", file=sys.stderr, flush=True)
-        key = libraries.kept.key(crate)
-        if not is_of(made, stamp, key):
+        if not is_made(name, libraries.kept.key(crate)):
             jobs = os.environ.get("JOBS") or str(len(os.sched_getaffinity(0)))
-            words = ["build", *crate.words(["--jobs", jobs], keeps=False), "--toolchain", f"{kit().KIT}/toolchain", "--backend", "llvm"]
             with tempfile.TemporaryFile("w+", errors="replace") as crate.out:
-                if crate.prove([*words, "-o", f"out/lib{name}.a"]):
+                if make_by(kit(), crate, ["--jobs", jobs], libraries.kept):
                     crate.out.seek(0)
                     print(crate.out.read(), file=sys.stderr)
                     return False
-            stamp.unlink(missing_ok=True)
-            shutil.copy(f"{crate.folder}/out/lib{name}.a", made)
-            stamp.write_text(key)
         print(f"[{of}/{of}] {name} proved, {int((time.monotonic() - start) / 60)} min", file=sys.stderr, flush=True)
     return True
 
@@ -118,14 +131,30 @@ def at_once(compile_by, backends):
     return compiled
 
 
+def with_libraries(rt, prove):
+    """What proves a crate, or its tests, and makes a static library in the run that proves it, so that it isn't proved once more for that."""
+
+    def proved(crate, flags, tests):
+        if tests or not crate.is_static:
+            return prove(crate, flags, tests)
+        kept = rt.Kept([])
+        for it in crate.below():
+            kept.is_built(it)
+        return make_by(rt, crate, flags, kept)
+
+    return proved
+
+
 def prove_all():
-    """`rt ci` in less time: with both compilers of the program at work at once, and planned with two thirds of the memory, which is twice
-    what most crates were seen to take, so that on a small machine few would be proved side by side."""
+    """`rt ci` in less time: with both compilers of the program at work at once, with the static library made as it is proved, and planned
+    with two thirds of the memory, which is twice what most crates were seen to take, so that on a small machine few would be proved side
+    by side."""
     rt = command()
     if hasattr(rt, "Kept"):
         need = rt.need
         rt.need = lambda crate: need(crate) * 2 // 3
         rt.Crate.compile_by = at_once(rt.Crate.compile_by, rt.BACKENDS)
+        rt.Crate.ci = with_libraries(rt, rt.Crate.ci)
     return rt.main(["ci"])
 
 
