@@ -4,6 +4,7 @@ import contextlib
 import hashlib
 import os
 import shutil
+import tempfile
 
 from tools.workspace import CRATES
 
@@ -16,7 +17,14 @@ def complete(rt):
     def crates_of(root):
         return sorted(rt.rtlib.crates_below(root), key=lambda it: len(it.below()))
 
-    rt.copy_crates, rt.crates_of, rt.ending, rt.Kept = copy_crates, crates_of, contextlib.nullcontext, Kept
+    def seeded(crate, flags):
+        room = tempfile.mkdtemp(prefix="age-seed-")
+        if not rt.checked(crate, {}, flags, f"{room}/seed").returncode:
+            return room
+        shutil.rmtree(room)
+        return None
+
+    rt.copy_crates, rt.crates_of, rt.seeded, rt.linked, rt.ending, rt.Kept = copy_crates, crates_of, seeded, shutil.copytree, contextlib.nullcontext, Kept
 
 
 def copy_crates(top, to):
