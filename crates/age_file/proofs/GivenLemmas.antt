@@ -537,11 +537,11 @@ module _ (Allows : Header → List ℕ → Type 0) (Refused : Header → KeyFaul
         (is.wrote, is.count),
       )
 
-  pub stopped_gave_front : (result : Result Done Stopped) (run : Option Run) → IfErr result (DecryptStops keep Allows Refused old new run)
+  pub given_front : (result : Result Done Stopped) (run : Option Run) → IfErr result (DecryptStops keep Allows Refused old new run)
       → IfErr result (λ stopped. IfSome stopped.position (GivesFront stopped))
-  stopped_gave_front (Ok done) run d = tt
-  stopped_gave_front (Err stopped) None d = none_carries (GivesFront stopped) stopped.position d.0.position
-  stopped_gave_front (Err stopped) (Some r) d = given_carries keep (IsPositionOf r) (GivesFront stopped) stopped.position d.1.here
+  given_front (Ok done) run d = tt
+  given_front (Err stopped) None d = none_carries (GivesFront stopped) stopped.position d.0.position
+  given_front (Err stopped) (Some r) d = given_carries keep (IsPositionOf r) (GivesFront stopped) stopped.position d.1.here
       (λ p at. gave_front stopped r p d.0 d.1.is at)
 
 -- what was skipped and the rest are the whole payload

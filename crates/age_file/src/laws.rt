@@ -121,7 +121,7 @@ pub fn done_gave_file<U: Unlock>()
 /// [`decrypt`](crate::decrypt) gave that stopped at that position, in the same file and by the same
 /// key, and the old text was what it wrote, then the file is the age file of the text. Of the calls
 /// no more is assumed than what their contracts promise.
-#[tactic(auto, using(crate::proofs::GivenLemmas::done_gave_rest, crate::proofs::GivenLemmas::stopped_gave_front))]
+#[tactic(auto, using(crate::proofs::GivenLemmas::done_gave_rest, crate::proofs::GivenLemmas::given_front))]
 pub fn done_gave_rest<U: Unlock>()
     ensures gave { DoneGaveRest U U.allows U.refuses }
     ensures front { StoppedGaveFront U U.allows U.refuses }
