@@ -2,6 +2,7 @@
 
 usage: python3 -m tools.libraries CRATE     makes crates/CRATE/out/libCRATE.a of a static library, unless it is there and nothing changed
        python3 -m tools.libraries --all     proves the workspace in which it is called, as `rt ci` does, in less time
+       python3 -m tools.libraries --build   the same for a program that is to be used: only LLVM compiles it, and nothing of it is kept
 """
 import concurrent.futures
 import functools
@@ -79,11 +80,16 @@ def is_made(name, key):
     return made.is_file() and stamp.is_file() and stamp.read_text() == key
 
 
-def make_by(rt, crate, flags, kept):
-    """Proves a static library, over others that are proved, and compiles it in the same run: the status."""
+def prove_and_compile(rt, crate, flags, to):
+    """Proves a program or a static library, over libraries that are proved, and compiles it in the same run: the status."""
     words = ["build", *crate.words(flags, keeps=False), "--toolchain", f"{rt.KIT}/toolchain", "--backend", "llvm"]
+    return crate.prove([*words, "-o", to])
+
+
+def make_by(rt, crate, flags, kept):
+    """Makes a static library, and puts it into its place: the status."""
     # (a workspace that is proved in place has its libraries there)
-    status = crate.prove([*words, "-o", "out/made.a"])
+    status = prove_and_compile(rt, crate, flags, "out/made.a")
     if not status:
         made, stamp = places_of(crate.name)
         stamp.unlink(missing_ok=True)
@@ -131,12 +137,16 @@ def at_once(compile_by, backends):
     return compiled
 
 
-def with_libraries(rt, prove):
-    """What proves a crate, or its tests, and makes a static library in the run that proves it, so that it isn't proved once more for that."""
+def made_as_proved(rt, prove, makes_program):
+    """What proves a crate, or its tests, and makes a static library in the run that proves it, so that it isn't proved once more for that;
+    and a program, which doesn't read all libraries again then."""
 
     def proved(crate, flags, tests):
-        if tests or not crate.is_static:
+        if tests or not (crate.is_static or crate.is_program and makes_program):
             return prove(crate, flags, tests)
+        if crate.is_program:
+            program = f"out/{crate.name}"
+            return prove_and_compile(rt, crate, flags, f"{program}.o") or crate.link(f"{program}.o", program)
         kept = rt.Kept([])
         for it in crate.below():
             kept.is_built(it)
@@ -145,18 +155,19 @@ def with_libraries(rt, prove):
     return proved
 
 
-def prove_all():
+def prove_all(makes_program):
     """`rt ci` in less time: with both compilers of the program at work at once, with the static library made as it is proved, and planned
     with two thirds of the memory, which is twice what most crates were seen to take, so that on a small machine few would be proved side
-    by side."""
+    by side. `rt ci` keeps a program that both compilers made; one that is to be used is made by LLVM alone."""
     rt = command()
     if hasattr(rt, "Kept"):
         need = rt.need
         rt.need = lambda crate: need(crate) * 2 // 3
         rt.Crate.compile_by = at_once(rt.Crate.compile_by, rt.BACKENDS)
-        rt.Crate.ci = with_libraries(rt, rt.Crate.ci)
+        rt.Crate.ci = made_as_proved(rt, rt.Crate.ci, makes_program)
     return rt.main(["ci"])
 
 
 if __name__ == "__main__":
-    sys.exit(prove_all() if sys.argv[1] == "--all" else not make_static(sys.argv[1]))
+    of_all = sys.argv[1] in ("--all", "--build")
+    sys.exit(prove_all(sys.argv[1] == "--build") if of_all else not make_static(sys.argv[1]))
