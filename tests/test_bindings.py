@@ -242,6 +242,7 @@ class CTest(ProgramsCase):
         begin = len(data) - 200_000 - 4 * 16
         lost = "salvage: lost: from byte {} to before byte {}\n"
         bad = flipped(flipped(data, begin + 5), begin + 2 * BLOCK)
+        self.write("long", b"w" * 65_536 + b"\nmore")
         for what, word, given, want in (
             ("a whole file", "pw", data, (0, text, "")),
             ("two damaged chunks", "pw", bad, (1, bytes(65_536) + text[65_536:131_072] + bytes(65_536) + text[196_608:],
@@ -249,6 +250,7 @@ class CTest(ProgramsCase):
             ("a cut file", "pw", data[:begin + BLOCK + 116], (1, text[:65_536] + bytes(100), lost.format(65_536, 65_636)
                                                               + "salvage: the text may have been longer\n")),
             ("another passphrase", "other", data, (1, b"", "salvage: 13 WrongKey\n")),
+            ("a passphrase that is too long", "long", data, (1, b"", "salvage: 255 Misused\n")),
         ):
             run = subprocess.run([made, word], cwd=self.room, input=given, capture_output=True)
             self.see(f"salvage.c: {what}", (run.returncode, run.stdout, run.stderr.decode()) == want, run.returncode, run.stderr)

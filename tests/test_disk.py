@@ -377,14 +377,16 @@ class DiskTest(FilesCase):
         run.stdin.flush()
         waits_for(lambda: self.path("thin/out").stat().st_size > 13_500_000)
         seen = subprocess.run(["sync", self.path("thin/out")], capture_output=True).returncode
-        if seen == 0:
-            self.leave_out("a failure that another program saw", "the disk didn't fail")
         subprocess.run(["mount", "-o", "remount,size=300M", self.path("pool")], check=True)
         run.stdin.write(age[-1000:])
         run.stdin.close()
         run.stdin = None
         said = without_advice(run.communicate(timeout=SECONDS)[1])[0]
-        self.see("a failure that another program saw", (run.returncode, said[:18]) == (1, b"age_tool: 27 Write"), run.returncode, said)
+        what = "a failure that another program saw"
+        if seen == 0:
+            self.leave_out(what, "the disk didn't fail")
+        else:
+            self.see(what, (run.returncode, said[:18]) == (1, b"age_tool: 27 Write"), run.returncode, said)
 
     def fused(self, name, **variables):
         """A folder that is a file system of our own, whose calls fail or take time (tools/fused.c), until the test ends."""

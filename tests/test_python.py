@@ -17,6 +17,7 @@ import zipfile
 from tests import bindings
 from tests.bindings import BLOCK, CHUNK, KEY, PYTHON, BindingsCase, by_python, flipped, limited, raised, slow
 from tests.case import needs
+from tools import shim
 from tools.workspace import LIBRARY, TOP
 
 AGE = TOP / "bindings" / "tests" / "age"
@@ -356,10 +357,21 @@ class PythonTest(BindingsCase):
                 self.see(f"-m agefile {words} without a terminal", run.returncode == 1 and run.stdout == b"" and is_said, line)
         self.see("-m agefile encrypt without a passphrase made a file", not self.path("none.age").exists())
 
-    def command(self, *words, given=None, **more):
-        env = {**os.environ, "PYTHONPATH": str(PYTHON)}
+    def command(self, *words, given=None, env=os.environ, **more):
+        env = {**env, "PYTHONPATH": str(PYTHON)}
         more = more or {"input": given}
         return subprocess.run([sys.executable, "-B", "-m", "agefile", *words], cwd=self.room, env=env, capture_output=True, **more)
+
+    @needs("cc")
+    def test_syncs(self):
+        """OUT has reached the disk, and so has its name if it is new."""
+        for words, want in (
+            ("encrypt --log 1 --pass pw pw new", ["new", self.room.name]), ("encrypt --log 1 --pass pw pw new", ["new"]), ("encrypt --log 1 --pass pw pw -", []),
+            ("decrypt --pass pw new back", ["back", self.room.name]), ("salvage --pass pw new saved", ["saved", self.room.name]),
+        ):
+            self.write("synced", b"")
+            run = self.command(*words.split(), env=shim.loaded(SYNCED=self.path("synced")))
+            self.see(f"{words} waits for {want}", [os.path.basename(it) for it in self.read("synced").decode().split()] == want, run.stderr)
 
     def slow_command(self, data, *words, size=90_000):
         """The same, with a standard input that doesn't block, and to which the data comes in pieces, some after the program began."""

@@ -1,5 +1,6 @@
 """Tries the keys of age-keygen in the Python module: files that it reads by them, and files that it writes for their recipients."""
 import contextlib
+import importlib.util
 import io
 import os
 import random
@@ -13,6 +14,9 @@ from tests import bindings, test_python
 from tests.bindings import PYTHON, BindingsCase, flipped
 from tests.case import needs
 from tests.test_python import AGE, fault_of
+
+HAS_CRYPTOGRAPHY = importlib.util.find_spec("cryptography") is not None
+needs_cryptography = unittest.skipUnless(HAS_CRYPTOGRAPHY, "needs cryptography")
 
 LOW_ORDER = (0, 1, 2**255 - 20, 2**255 - 19, 2**255 - 18, 325606250916557431795983626356110631294008115727848805560023387167927233504,
              39382357235489614581723060781553021112529911719440698176882885853963445705823)
@@ -69,7 +73,12 @@ class KeysTest(BindingsCase):
         key, other = (agefile._keys.identities_in((AGE / name).read_text()) for name in ("key.txt", "other.txt"))
         public = [line.split()[-1] for line in (AGE / "key.txt").read_text().splitlines() if "public key" in line][0]
         secret, nine = agefile._keys.secret_of(key[0]), bytes([9]) + bytes(31)
-        for what, call in (("cryptography", lambda it, point: agefile._keys.x25519_of(it)(point)), ("openssl", agefile._keys.by_openssl)):
+        ways = [("openssl", agefile._keys.by_openssl)]
+        if HAS_CRYPTOGRAPHY:
+            ways.append(("cryptography", lambda it, point: agefile._keys.x25519_of(it)(point)))
+        else:
+            self.leave_out("the public key of a key, by cryptography", "needs cryptography")
+        for what, call in ways:
             self.see(f"the public key of a key, by {what}", call(secret, nine) == agefile._keys.bech32_decoded(public)[1])
             self.see(f"a point of low order, by {what}", call(secret, bytes(32)) == bytes(32))
         for name, keys, want in (
@@ -152,6 +161,7 @@ class KeysTest(BindingsCase):
         return run.stdout if run.returncode == 0 else run.stderr
 
     @needs("age", "age-keygen")
+    @needs_cryptography
     def test_recipients(self):
         """What is written for recipients, age and the module read by the key of each."""
         keys = made_keys(3)
@@ -181,6 +191,7 @@ class KeysTest(BindingsCase):
         shares = [re.findall(rb"-> X25519 (.*)\n", it) for it in data]
         self.see("each stanza has a share of its own", len({*shares[0], *shares[1]}) == 4 and data[0][-36:-20] != data[1][-36:-20], shares)
 
+    @needs_cryptography
     def test_refused_recipients(self):
         """A recipient that isn't one is refused before the file is touched, and isn't shown: it may be a secret key."""
         public = re.search(r"age1\w+", (AGE / "key.txt").read_text())[0]
@@ -215,6 +226,7 @@ class KeysTest(BindingsCase):
         self.see("a header of more than 1 MiB", type(fault) is ValueError and "10,700" in str(fault), repr(fault))
         self.see("a refused call changes the file", path.read_bytes() == b"kept")
 
+    @needs_cryptography
     def test_read_back(self):
         """What the proved library doesn't read back isn't written, nor what can't be made."""
         public = re.search(r"age1\w+", (AGE / "key.txt").read_text())[0]
@@ -232,6 +244,7 @@ class KeysTest(BindingsCase):
         self.see("without cryptography", said == "ImportError: a file for a recipient needs the package cryptography" and path.read_bytes() == b"kept", said)
 
     @needs("age", "age-keygen")
+    @needs_cryptography
     def test_recipient_commands(self):
         """python3 -m agefile encrypt for recipients."""
         keys = made_keys(200)

@@ -1,6 +1,7 @@
 """Runs the commands of docs/RECIPES.md, block after block, in a folder of their own, and compares what they print with the lines that say
 what to expect; those that ask for a passphrase at a terminal; those of README; then it decrypts the file that docs/FORMAT.md gives in
 hexadecimal."""
+import importlib.util
 import os
 import re
 import shutil
@@ -49,6 +50,8 @@ class RecipesTest(Case):
             return f"needs {' and '.join(missing)}"
         if "python3 -m agefile" in script:
             run = subprocess.run([sys.executable, "-c", "import agefile"], env=self.env, capture_output=True, text=True)
+            if "--recipient" in script and not importlib.util.find_spec("cryptography"):
+                return "needs cryptography"
             return run.stderr.splitlines()[-1] if run.returncode else ""
         return ""
 
@@ -138,4 +141,4 @@ class RecipesTest(Case):
         self.write("worked.pass", b"passphrase")
         run = self.tool("decrypt", "--pass", "worked.pass", "worked.age", "worked")
         self.assertEqual((run.returncode, run.stderr), (0, b""))
-        self.assertIn(self.read("worked"), (b"hello", b"hello\n"))
+        self.assertEqual(self.read("worked"), b"hello")

@@ -68,7 +68,7 @@ static int salvage(void) {
 }
 
 int main(int argc, char **argv) {
-    static uint8_t pass[AGE_C_PASS_MAX + 1];
+    static uint8_t pass[AGE_C_PASS_MAX + 2];
     FILE *in = argc == 2 ? fopen(argv[1], "rb") : NULL;
     size_t pass_len;
     if (in == NULL) {

@@ -79,12 +79,13 @@ def see_apart(words: argparse.Namespace) -> None:
 def sink(words: argparse.Namespace) -> Iterator[Any]:
     """What is written to, which has reached the disk at the end."""
     how = "xb" if words.no_clobber else "wb"
+    made = words.output if words.output != "-" and not os.path.exists(words.output) else None
     held: Any = contextlib.nullcontext(sys.stdout.buffer) if words.output == "-" else open(words.output, how)
     try:
         with held as out:
             yield out
             out.flush()
-            reach_disk(out)
+            reach_disk(out, made)
     except OSError as fault:
         if fault.errno in FULL and fault.filename is None:
             fault.filename = words.output

@@ -33,6 +33,7 @@ class _Out:
     def __init__(self, out: Any) -> None:
         self._out, self._file, self._size = out, None if isinstance(out, (str, bytes, os.PathLike)) else out, 0
         self._owned = self._file is None
+        self._made = out if self._owned and not os.path.exists(out) else None
 
     def put(self, at: int, text: bytes) -> None:
         """Writes a text at its place."""
@@ -53,7 +54,7 @@ class _Out:
     def close(self) -> None:
         if self._owned and self._file is not None:
             self._file.flush()
-            reach_disk(self._file)
+            reach_disk(self._file, self._made)
             self._file.close()
 
 

@@ -8,10 +8,25 @@ import stat
 from typing import Any
 
 
-def reach_disk(file: Any) -> None:
-    """Waits until what was written to a file has reached the disk, if it is a regular one."""
+def reach_disk(file: Any, made: Any = None) -> None:
+    """Waits until what was written to a file has reached the disk, if it is a regular one, and so has its name, if it was made at this path."""
     if stat.S_ISREG(os.fstat(file.fileno()).st_mode):
-        os.fsync(file.fileno())
+        _sync(file.fileno())
+        if made is not None:
+            folder = os.open(os.path.dirname(os.path.realpath(made)), os.O_RDONLY | os.O_DIRECTORY)
+            try:
+                _sync(folder)
+            finally:
+                os.close(folder)
+
+
+def _sync(descriptor: int) -> None:
+    """Waits for a file or a folder, if its file system has a way to."""
+    try:
+        os.fsync(descriptor)
+    except OSError as fault:
+        if fault.errno not in (errno.EINVAL, errno.ENOTSUP):
+            raise
 
 
 def wait(file: Any, event: int = select.POLLIN) -> None:
