@@ -37,9 +37,9 @@
  * no fault; age_c_open_at opens each chunk whose block is undamaged, whatever the others are. With
  * 17 the block with the number `fault_chunk`, or the nonce, isn't the writer's; the text before it,
  * from the last seek on, has been written by earlier calls. A file that was cut inside a block,
- * with more than 16 bytes of it left, as nearly every long file that was cut, ends with 17 too:
- * nobody can tell it from a damaged one. What a writer wrote, from age_c_seal_passphrase or
- * age_c_seal_key to an age_c_finish_text that returned 0, is the age file of the text. The pieces
+ * with more than 16 bytes of that block left, also ends with 17: nobody can tell it from a damaged
+ * one. (So do nearly all long files that were cut.) What a writer wrote, from age_c_seal_passphrase
+ * or age_c_seal_key to an age_c_finish_text that returned 0, is the age file of the text. The pieces
  * into which a payload or a text was cut change nothing of this.
  *
  * OWNERSHIP. A reader or writer is 64 bytes of plain numbers, and a stream of either holds one
@@ -142,7 +142,7 @@ extern "C" {
 /* With this many bytes of a file, an age_c_open_.. never returns AGE_C_MORE: a header has at most
  * 1,048,576 bytes, and the nonce 16. */
 #define AGE_C_FRONT_MAX 1048592u
-#define AGE_C_SEAL_FRONT 256u /* room that age_c_seal_.. ask for */
+#define AGE_C_SEAL_FRONT 256u /* room for a header; age_c_seal_key asks for stanzas_len more */
 #define AGE_C_PASS_MAX 65536u /* bytes of a passphrase; at least 1 */
 #define AGE_C_WORK_MAX 22u    /* the greatest work factor; at least 1 */
 

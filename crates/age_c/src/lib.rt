@@ -6,8 +6,8 @@
 //! passphrase, or of a file key and given stanzas, and then seals chunk after chunk.
 //!
 //! Each function may be called with any numbers in a reader or writer, and with slices of any
-//! length. What doesn't fit is answered with [`MISUSED`], and then nothing is changed.
-//! `include/age_c.h` says the same to a C programmer.
+//! length. What doesn't fit is answered with [`MISUSED`]. `include/age_c.h` says the same to a C
+//! programmer.
 #![tactic(auto)]
 
 mod again;
@@ -60,7 +60,7 @@ pub use writer::Writer;
 /// The bytes end inside the header or the payload's nonce: more of the file is needed.
 pub const MORE: u32 = 254;
 
-/// The call doesn't fit: a reader or writer that no call of this library made or that is finished,
-/// a block or chunk of another length, too little room, or a passphrase, work factor or key out of
-/// range. Nothing is changed.
+/// The call doesn't fit: a length, a work factor or the number of a chunk is out of range, there is
+/// too little room, or a reader, writer or stream holds numbers that can't be used (MISUSE in
+/// `include/age_c.h`). Nothing is changed, but each number that the call would have told is 0.
 pub const MISUSED: u32 = 255;

@@ -75,10 +75,10 @@ module _ (words : List Text) (IsPorts : Ports → Type 0) (before after : World)
     -- No progress was shown.
     pub silent : Unshown
 
-  -- `inspect` reported the input, or its file. A drill sent on what it wrote, and
-  -- wrote nothing if it is refused; with both or neither of `--clear` and `--pass` it is refused before a
-  -- file is opened. Neither puts anything under a name. Other commands write nothing to the output, and
-  -- none of them reads the input.
+  -- `inspect` reported the input, or its file. A drill sent on what it wrote, and wrote nothing if it
+  -- is refused, which it is before a file is opened if both or neither of `--clear` and `--pass` are
+  -- given. Neither command puts anything under a name. Other commands write nothing to the output. Only
+  -- `inspect` without a file reads the input.
   abbrev pub DoesOther : Request → Type 0
   DoesOther (Inspect None) = ReportedInput × (after.files ≡ before.files)
   DoesOther (Inspect (Some name)) =

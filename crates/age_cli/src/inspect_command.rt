@@ -129,7 +129,7 @@ pub(crate) fn report_file<F: FileSet, O: Sink>(
     let mut source = match files.open(alloc, name) {
         Ok(source) => source,
         Err(OpenFault::Fault(fault)) => return Err(Ending::Fault(fault)),
-        // It was opened before this command, which names one file.
+        // This command opens one file only, so one that is in use was opened before it.
         Err(OpenFault::SameFile) => return Err(Ending::Fault(FileFault::Read)),
     };
     let length = known_length(files, &source);

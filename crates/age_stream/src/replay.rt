@@ -273,7 +273,7 @@ fn push_text(text: &mut Vec<u8>, bytes: &[u8])
     ensures items { text.new.items ≡ text.old.items ++ bytes.now }
     ensures capacity { vec_capacity text.old ≤ vec_capacity text.new }
 {
-    /// within the capacity no memory is requested
+    // Within the capacity no memory is requested.
     let _ = text.extend_from_slice(bytes);
 }
 
