@@ -1,6 +1,7 @@
 """Tries the Python module: the kinds of faults and what is said of them, headers that come slowly, the command line, keys and shared
 secrets, what an argument may be, its types and names, where it finds the library, and files that are read at any place."""
 import contextlib
+import errno
 import io
 import mmap
 import os
@@ -358,20 +359,19 @@ class PythonTest(BindingsCase):
         self.see("-m agefile encrypt without a passphrase made a file", not self.path("none.age").exists())
 
     def command(self, *words, given=None, env=os.environ, **more):
-        env = {**env, "PYTHONPATH": str(PYTHON)}
-        more = more or {"input": given}
-        return subprocess.run([sys.executable, "-B", "-m", "agefile", *words], cwd=self.room, env=env, capture_output=True, **more)
+        more = {"env": {**env, "PYTHONPATH": str(PYTHON)}, **(more or {"input": given})}
+        return subprocess.run([sys.executable, "-B", "-m", "agefile", *words], cwd=self.room, capture_output=True, **more)
 
     @needs("cc")
     def test_syncs(self):
-        """OUT has reached the disk, and so has its name if it is new."""
-        for words, want in (
-            ("encrypt --log 1 --pass pw pw new", ["new", self.room.name]), ("encrypt --log 1 --pass pw pw new", ["new"]), ("encrypt --log 1 --pass pw pw -", []),
-            ("decrypt --pass pw new back", ["back", self.room.name]), ("salvage --pass pw new saved", ["saved", self.room.name]),
+        """OUT has reached the disk, and so has its name if it is new. A file system that can't wait is let be; any other failure is reported."""
+        for words, error, *want in (
+            ("encrypt --log 1 pw new", 0, 0, "new", self.room.name), ("encrypt --log 1 pw new", 0, 0, "new"), ("encrypt --log 1 pw -", 0, 0),
+            ("decrypt new back", errno.EINVAL, 0, "back", self.room.name), ("decrypt new back", errno.EIO, 1, "back"), ("salvage new a", 0, 0, "a", self.room.name),
         ):
             self.write("synced", b"")
-            run = self.command(*words.split(), env=shim.loaded(SYNCED=self.path("synced")))
-            self.see(f"{words} waits for {want}", [os.path.basename(it) for it in self.read("synced").decode().split()] == want, run.stderr)
+            run = self.command(*words.split(), "--pass", "pw", env=shim.loaded(SYNCED=self.path("synced"), **({"FSYNC": error} if error else {})))
+            self.see(f"{words}: {want}", [run.returncode, *map(os.path.basename, self.read("synced").decode().split())] == want, run.stderr)
 
     def slow_command(self, data, *words, size=90_000):
         """The same, with a standard input that doesn't block, and to which the data comes in pieces, some after the program began."""

@@ -16,7 +16,7 @@ import agefile
 from agefile import _keys, _library
 from agefile._arguments import WORK_MAX, secret
 from agefile._recipients import beginning_of
-from agefile._source import reach_disk, some
+from agefile._source import new_name, reach_disk, some
 
 FACTORS = range(1, WORK_MAX + 1)
 
@@ -79,7 +79,7 @@ def see_apart(words: argparse.Namespace) -> None:
 def sink(words: argparse.Namespace) -> Iterator[Any]:
     """What is written to, which has reached the disk at the end."""
     how = "xb" if words.no_clobber else "wb"
-    made = words.output if words.output != "-" and not os.path.exists(words.output) else None
+    made = None if words.output == "-" else new_name(words.output)
     held: Any = contextlib.nullcontext(sys.stdout.buffer) if words.output == "-" else open(words.output, how)
     try:
         with held as out:

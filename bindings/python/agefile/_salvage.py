@@ -9,7 +9,7 @@ from typing import Any, Callable, Iterable, NamedTuple
 from . import _rooms
 from ._library import BLOCK, CHUNK, C, ReaderState, fault_of
 from ._reader import header_of, opening_of
-from ._source import can_seek, filled, put, reach_disk
+from ._source import can_seek, filled, new_name, put, reach_disk
 
 LAST_SEEN = 2  # the reader's state after the last block, if that is whole
 TAG = 16
@@ -33,7 +33,7 @@ class _Out:
     def __init__(self, out: Any) -> None:
         self._out, self._file, self._size = out, None if isinstance(out, (str, bytes, os.PathLike)) else out, 0
         self._owned = self._file is None
-        self._made = out if self._owned and not os.path.exists(out) else None
+        self._made = new_name(out) if self._owned else None
 
     def put(self, at: int, text: bytes) -> None:
         """Writes a text at its place."""

@@ -8,6 +8,11 @@ import stat
 from typing import Any
 
 
+def new_name(path: Any) -> Any:
+    """The path, if nothing is there yet, so that what is made there has a name that isn't on the disk."""
+    return None if os.path.exists(path) else path
+
+
 def reach_disk(file: Any, made: Any = None) -> None:
     """Waits until what was written to a file has reached the disk, if it is a regular one, and so has its name, if it was made at this path."""
     if stat.S_ISREG(os.fstat(file.fileno()).st_mode):
