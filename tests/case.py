@@ -38,6 +38,11 @@ def without_advice(said):
     return b"".join(it for it in lines if not it.startswith(ADVICE)), b"".join(it for it in lines if it.startswith(ADVICE))
 
 
+def claim(page, phrase):
+    """Prints what a page says of the tests: `check` fails if the page doesn't have this phrase."""
+    print(f"{page} says: {phrase}")
+
+
 class Case(unittest.TestCase):
     """A test with a folder, `room`."""
 

@@ -15,7 +15,7 @@ import tempfile
 import unittest
 
 from tests import test_power_cut as cuts
-from tests.case import needs
+from tests.case import claim, needs
 from tools import definitions, shim
 from tools.workspace import CRATES
 
@@ -196,17 +196,19 @@ class CallsTest(unittest.TestCase):
         made = tempfile.TemporaryDirectory(dir=cuts.MEMORY)
         cls.addClassCleanup(made.cleanup)
         cls.room = cuts.Room(pathlib.Path(made.name).resolve())
-        cls.runs = cls.calls = 0
+        cls.runs = cls.plain = cls.calls = 0
 
     @classmethod
     def tearDownClass(cls):
-        print(f"calls: {cls.runs} runs, {cls.calls} calls")
+        claim("docs/PROVED.md", f"records {cls.runs:,} runs that wait for the disk, {cls.runs - cls.plain:,} of them with a kind of call")
+        print(f"calls: {cls.calls}")
 
     def see(self, case):
         for failing in ({}, *failures()):
             run = Run(self.room, case, failing)
             self.assertEqual(run.wrong(), [], run.ended.stderr)
             type(self).runs += 1
+            type(self).plain += not failing
             type(self).calls += len(run.record)
 
     def see_unwaited(self, case):

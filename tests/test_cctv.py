@@ -1,16 +1,18 @@
-"""Runs C2SP's test vectors for age files (https://github.com/C2SP/CCTV, the folder age/testdata) through the program and the Python module,
-which calls the C library. The variable CCTV names the folder with the vectors; without it the test is left out.
+"""Runs C2SP's test vectors for age files through the program and the Python module, which calls the C library. They stand in
+tests/cctv.tar.gz, as in the folder age/testdata of https://github.com/C2SP/CCTV (0BSD), unless the variable CCTV names another folder.
 
 A vector has lines `NAME: VALUE`, an empty line, and an age file. What an identity of this profile can open is opened by it. What needs
 another one (a post-quantum key) is opened by its file key, if it is to be opened. Armor is outside of the profile, so it is refused."""
 import hashlib
 import os
 import pathlib
-import unittest
+import tarfile
 import zlib
 
 from tests import bindings
-from tests.case import Case
+from tests.case import Case, claim
+
+ARCHIVE = pathlib.Path(__file__).with_name("cctv.tar.gz")
 
 # The faults that each outcome may have.
 FAULTS = {
@@ -22,10 +24,10 @@ FAULTS = {
 class Vector:
     """A vector: what is said of its file, and the file."""
 
-    def __init__(self, path):
-        head, _, body = path.read_bytes().partition(b"\n\n")
+    def __init__(self, name, held):
+        head, _, body = held.partition(b"\n\n")
         self.said = {name: value for name, _, value in (line.decode().partition(": ") for line in head.splitlines())}
-        self.name, self.expected = path.name, self.said["expect"]
+        self.name, self.expected = name, self.said["expect"]
         self.file = zlib.decompress(body) if "compressed" in self.said else body
         self.key = bytes.fromhex(self.said["file key"])
         self.is_armored = self.said.get("armored") == "yes"
@@ -37,13 +39,30 @@ class Vector:
         return "payload" not in self.said or hashlib.sha256(text).hexdigest() == self.said["payload"]
 
 
-@unittest.skipUnless(os.environ.get("CCTV"), "needs the folder of C2SP's vectors in CCTV")
+def vectors():
+    """The vectors, by their names."""
+    if folder := os.environ.get("CCTV"):
+        return [Vector(it.name, it.read_bytes()) for it in sorted(pathlib.Path(folder).iterdir()) if it.is_file()]
+    with tarfile.open(ARCHIVE) as archive:
+        return [Vector(it.name, archive.extractfile(it).read()) for it in archive]
+
+
 class VectorsTest(Case):
     """A check for each vector and each way to open it."""
 
+    calls = 0
+
+    @classmethod
+    def tearDownClass(cls):
+        claim("README.md", f"{cls.calls} calls")
+
     def setUp(self):
         super().setUp()
-        self.vectors = [Vector(it) for it in sorted(pathlib.Path(os.environ["CCTV"]).iterdir()) if it.is_file()]
+        self.vectors = vectors()
+
+    def see(self, *words):
+        super().see(*words)
+        type(self).calls += 1
 
     def judge(self, vector, fault, text):
         """Whether the fault (0 if it was opened) and the text that came out are those of the vector."""

@@ -209,10 +209,10 @@ class DiskTest(FilesCase):
         self.see("a file system without locks: OUT", self.read("out") == PLAIN)
 
     def sticky_folder(self, setting):
-        """A folder like /tmp, with this setting of the system on until the test ends. The test is left out if it can't be set."""
+        """A folder like /tmp, with this setting of the system on until the test ends. The test is left out if it can't be changed."""
         setting = pathlib.Path("/proc/sys/fs", setting)
         if not os.access(setting, os.W_OK):
-            self.skipTest(f"{setting} can't be set")
+            self.skipTest(f"a setting of the system can't be changed: {setting}")
         # It is only ever raised: a run that is killed leaves the system no weaker.
         if setting.read_text() == "0\n":
             self.addCleanup(setting.write_text, "0\n")

@@ -54,11 +54,15 @@ TERM = re.compile(r'(?:(\d+) \* )?(?:"((?:[^"\\]|\\.)*)"|0x([0-9a-f]+)|([\w./-]+
 WITH_BYTES = ("write", "pieces", "holds", "begins")
 
 
+# The files in tests/runs.d.
+FILES = ("commands", "drill", "machine", "parts", "program", "progress", "resumption", "shared")
+
+
 class Transcripts:
     """What stands in some files: `let` and `part` by their names, and the cases of each file."""
 
     def __init__(self, paths):
-        self.bytes, self.parts, self.cases = {}, {}, []
+        self.bytes, self.parts, self.cases = {}, {}, {}
         for path in paths:
             block = []
             for number, line in lines_of(path.read_text()):
@@ -70,8 +74,8 @@ class Transcripts:
                     self.begin(path, where, block, *line.split(maxsplit=2))
 
     def begin(self, path, where, block, kind, name, rest=""):
-        if kind == "case" and not rest:
-            self.cases.append((path, name, block))
+        if kind == "case" and not rest and (path, name) not in self.cases:
+            self.cases[path, name] = block
         elif kind == "part" and name not in self.parts:
             self.parts[name] = (rest.split(), block)
         elif kind == "let" and name not in self.bytes:
@@ -139,6 +143,8 @@ def joined(steps):
     actions = []
     for where, verb, rest in steps:
         if verb in ("|", "!", "?"):
+            if not actions or actions[-1][1] != "$":
+                raise ValueError(f"{where}: {verb} belongs to no run")
             actions[-1][3][verb].append(rest)
         else:
             actions.append((where, verb, rest, {"|": [], "!": [], "?": []}))
@@ -264,8 +270,12 @@ class RunsTest(Case):
             elif not self.prepare(verb, words):
                 with self.subTest(f"{where}: {verb} {rest}"):
                     self.compare(verb, *words)
+        self.assertEqual(self.given, {}, "what no run was given")
 
 
-TRANSCRIPTS = Transcripts(sorted(pathlib.Path(__file__).with_name("runs.d").glob("*.run")))
-for path, name, block in TRANSCRIPTS.cases:
+PATHS = sorted(pathlib.Path(__file__).with_name("runs.d").glob("*.run"))
+if tuple(it.stem for it in PATHS) != FILES:
+    raise ValueError(f"other files than {FILES}: {PATHS}")
+TRANSCRIPTS = Transcripts(PATHS)
+for (path, name), block in TRANSCRIPTS.cases.items():
     setattr(RunsTest, f"test_{path.stem}_{name}", lambda case, block=block: case.go_through(joined(TRANSCRIPTS.steps(block))))

@@ -172,6 +172,21 @@ def definition(module, name):
     return (declared[1], declared[2]) if declared else (module, name)
 
 
+def used(tree):
+    """The paths that a tree of `use` names: each ends in a name, as it was before an `as`, or in `*`."""
+    outer, path = [()], ()
+    for token in [*re.findall(r"[{},*]|\w+", re.sub(r"\bas \w+", "", tree)), ","]:
+        if token == "{":
+            outer.append(path)
+        elif token not in ("}", ","):
+            path += (token,)
+        else:
+            if path not in ((), outer[-1]):
+                yield path
+            # (what a closing brace belongs to has been told)
+            path = outer.pop() and () if token == "}" else outer[-1]
+
+
 def exported_names(crate, name=None):
     """What the crate's root makes public, or one of its modules, with what it takes from others."""
     files = [it for it in sources("src", crate) if it.name == name or name is None and it.name in ("lib", "main")]
@@ -180,11 +195,13 @@ def exported_names(crate, name=None):
     within = f"{name}." if name else ""
     for module in re.findall(r"\bpub mod (\w+);", text):
         names |= exported_names(crate, within + module)
-    for path, several in re.findall(r"pub use ([\w:]+?)(?:::(\{[^}]*\}|\*))?;", text):
-        if several == "*":
-            names |= exported_names(crate, within + path.replace("crate::", "").replace("::", "."))
+    for *path, last in (it for tree in re.findall(r"pub use ([^;]+);", text) for it in used(tree)):
+        module = ".".join(it for it in path if it not in ("crate", "self"))
+        of_root = path[:1] == ["crate"]
+        if last in ("*", "self"):
+            names |= exported_names(crate, module if of_root else within + module)
         else:
-            names |= {it.strip() for it in several[1:-1].split(",")} if several else {path.split("::")[-1]}
+            names.add(last)
     return names
 
 
