@@ -1,12 +1,14 @@
 """Runs the commands of docs/RECIPES.md, block after block, in a folder of their own, and compares what they print with the lines that say
-what to expect; those that ask for a passphrase at a terminal; those of README; then it decrypts the file that docs/FORMAT.md gives in
-hexadecimal."""
+what to expect; once more in the same folder; those of a backup twice at once, stopped, and with a clock that is behind; those that ask for
+a passphrase at a terminal; those of README; then it decrypts the file that docs/FORMAT.md gives in hexadecimal."""
 import importlib.util
 import os
 import re
 import shutil
+import signal
 import subprocess
 import sys
+import time
 
 from tests.case import Case, needs
 from tools import terminal
@@ -24,8 +26,8 @@ def blocks(language):
             yield section.splitlines()[0], script
 
 
-class RecipesTest(Case):
-    """A test for each page."""
+class PageCase(Case):
+    """A folder `work`, and one of programs, `bin`."""
 
     def setUp(self):
         super().setUp()
@@ -37,11 +39,21 @@ class RecipesTest(Case):
             "PYTHONPATH": str(TOP / "bindings" / "python"), "PYTHONDONTWRITEBYTECODE": "1",
         }
 
-    def run_script(self, script):
-        """Runs commands in the folder `work`."""
+    def begin(self, script):
+        """Begins to run commands in the folder `work`, in a group of processes of their own."""
         words = ["bash", "-euo", "pipefail", "-c", script]
         more = {"stdout": subprocess.PIPE, "stderr": subprocess.STDOUT, "text": True, "errors": "replace"}
-        return subprocess.run(words, cwd=self.path("work"), env=self.env, **more)
+        return subprocess.Popen(words, cwd=self.path("work"), env=self.env, start_new_session=True, **more)
+
+    def run_script(self, script):
+        """Runs commands in the folder `work`."""
+        run = self.begin(script)
+        said = run.communicate()[0]
+        return subprocess.CompletedProcess(run.args, run.returncode, said)
+
+
+class RecipesTest(PageCase):
+    """A test for each page."""
 
     def lacking(self, script):
         """Why a block can't run here, or nothing."""
@@ -69,6 +81,29 @@ class RecipesTest(Case):
                 run = self.run_script(script)
                 self.assertEqual(run.returncode, 0, run.stdout)
                 self.assertLessEqual({line[2:] for line in script.splitlines() if line.startswith("# ")}, set(run.stdout.splitlines()))
+        self.run_again()
+
+    def run_again(self):
+        """Runs all of them again, where all files are there: none is lost or changed but those that a command makes anew to fake a fault,
+        and the backup of the day. Each age file still opens."""
+        fakes = {"download.age", "rotten.age", "photos.asc", "recipients", "files", "caf\udce9.txt"}
+        held = {it: it.read_bytes() for it in self.path("work").rglob("*") if it.is_file() and it.name not in fakes}
+        for title, script in blocks("bash"):
+            if not self.lacking(script) and title != "Changing the passphrase":
+                self.run_script(script)
+        for path, text in held.items():
+            is_made_anew = re.fullmatch(r"photos-....-..-..\.tar\.age", path.name)
+            self.see(f"{path.name} is as it was", path.exists() and (is_made_anew or path.read_bytes() == text))
+        today = self.run_script("age_tool decrypt --pass passphrase.txt photos-????-??-??.tar.age /dev/null")
+        self.see("the backup of the day opens", today.returncode == 0, today.stdout)
+
+    def test_no_clobber(self):
+        """Each command of the page that makes a new file refuses one that is there; none writes to a file that it doesn't make."""
+        for title, script in [*blocks("bash"), *blocks("sh")]:
+            for words in re.findall(r"(?:age_tool|agefile) (?:encrypt|decrypt|resume|salvage) [^|&;]*", script.replace("\\\n", " ")):
+                *_, out = re.sub(r" \|.*| < .*|\).*$", "", words.splitlines()[0]).split()
+                is_new = out not in ("/dev/null", "/dev/stdout", "-") and not out.endswith('.part"')
+                self.see(f"{title}: {words}", not is_new or "--no-clobber" in words, out)
 
     def make_archive(self, name):
         """An age file for the passphrase `to type`, whose text is returned."""
@@ -98,10 +133,10 @@ class RecipesTest(Case):
 
     def restores_with(self, program):
         text = self.make_archive("photos.tar.age")
-        [typed] = [it for _, script in blocks("sh") for it in script.splitlines() if it.startswith(f"{program} ")]
+        [typed] = [it.split() for _, script in blocks("sh") for it in script.splitlines() if it.startswith("age ")]
         # (with a pinentry rage wouldn't ask at the terminal)
-        status = terminal.run(["env", "-C", str(self.path("work")), *typed.split()], "to type", {"PINENTRY_PROGRAM": ""})
-        self.see(f"restored with {program}", status == 0 and self.read("work/photos.tar") == text, status)
+        status = terminal.run(["env", "-C", str(self.path("work")), program, *typed[1:]], "to type", {"PINENTRY_PROGRAM": ""})
+        self.see(f"restored with {program}", status == 0 and self.read(f"work/{typed[3]}") == text, status)
 
     @needs("age")
     def test_age(self):
@@ -142,3 +177,150 @@ class RecipesTest(Case):
         run = self.tool("decrypt", "--pass", "worked.pass", "worked.age", "worked")
         self.assertEqual((run.returncode, run.stderr), (0, b""))
         self.assertEqual(self.read("worked"), b"hello")
+
+
+# Programs that stand before those of the same name, in a run that a test stops or holds at one place.
+HELD = {
+    # What tar gives first, and then nothing more.
+    "tar": """#!/bin/bash
+if [ -n "${HOLD_TAR:-}" ] && [ "$1" = -c ]; then /bin/tar "$@" | head -c 1000000; exec sleep 100; fi
+exec /bin/tar "$@"
+""",
+    # Holds a decryption until the file `on` is there, and lets an encryption of `large` get no more than its beginning.
+    "age_tool": """#!/bin/bash
+real=$(readlink -f "$0.real")
+if [ "$1" = decrypt ] && [ -n "${HOLD_READING:-}" ]; then touch reading; until [ -e on ]; do sleep 0.02; done; fi
+if [ "$1" = encrypt ] && [ -n "${HOLD_LARGE:-}" ] && [[ $* = *photos/large* ]]; then
+    words=("$@")
+    for it in "${!words[@]}"; do [ "${words[it]}" != photos/large ] || words[it]=/dev/stdin; done
+    { head -c 1000000 photos/large; exec sleep 100; } | "$real" "${words[@]}"
+    exit
+fi
+exec "$real" "$@"
+""",
+    "date": """#!/bin/bash
+exec /bin/date ${AT:+-d "$AT"} "$@"
+""",
+}
+
+
+class MishapsTest(PageCase):
+    """What happens to backups by the commands of the page: two runs at once, runs that are stopped, a clock that is behind. No age file
+    that is there afterwards, but for those whose name ends in `.part`, is cut."""
+
+    def setUp(self):
+        super().setUp()
+        self.path("bin/age_tool").rename(self.path("bin/age_tool.real"))
+        for name, script in HELD.items():
+            self.write(f"bin/{name}", script.encode(), 0o755)
+        self.path("work/photos").mkdir()
+        for name, size in (("1.jpg", 100_000), ("2.jpg", 200_000), ("large", 3_000_000)):
+            self.write(f"work/photos/{name}", os.urandom(size))
+        self.write("work/passphrase.txt", b"correct horse\n")
+        self.blocks = {title: script for title, script in blocks("bash")}
+
+    def held_at(self, script, until, **held):
+        """Begins to run commands that are held at a place, and waits until they are there, or have ended."""
+        environment, self.env = self.env, {**self.env, **held}
+        run = self.begin(script)
+        self.env = environment
+        limit = time.monotonic() + 20
+        while run.poll() is None and not until() and time.monotonic() < limit:
+            time.sleep(0.02)
+        return run
+
+    def stop(self, run):
+        """Stops a run, with all that it began."""
+        os.killpg(run.pid, signal.SIGTERM)
+        return run.communicate()[0]
+
+    def has_begun(self, pattern):
+        return lambda: any(it.stat().st_size > 70_000 for it in self.path("work").glob(pattern))
+
+    def see_whole(self, name, pattern, count=None):
+        """Checks that each of these age files opens, and how many there are."""
+        found = sorted(it.relative_to(self.path("work")) for it in self.path("work").glob(pattern))
+        cut = [it for it in found if self.run_script(f"age_tool decrypt --pass passphrase.txt '{it}' /dev/null").returncode]
+        self.see(f"{name}: no cut file", not cut, *map(str, cut))
+        self.see(f"{name}: so many files", count in (None, len(found)), *map(str, found))
+
+    def write_backup_script(self):
+        self.assertEqual(self.run_script(self.blocks["A backup tonight"].split("bash backup.sh")[0]).returncode, 0)
+
+    def test_two_backups(self):
+        """The second begins while the first reads its file back."""
+        self.write_backup_script()
+        first = self.held_at("bash backup.sh", self.path("work/reading").exists, HOLD_READING="1")
+        [made] = self.path("work").glob("*.part")
+        inode = made.stat().st_ino
+        second = self.held_at("bash backup.sh", lambda: made.exists() and made.stat().st_ino != inode and self.has_begun("*.part")(), HOLD_TAR="1")
+        self.write("work/on", b"")
+        said = first.communicate()[0]
+        self.see("two backups: the first", first.returncode == 0, said)
+        ended = second.poll()
+        said = self.stop(second) if ended is None else second.communicate()[0]
+        self.see("two backups: the second ends and says so", ended and "no new backup" in said, said)
+        self.see_whole("two backups", "photos-*.tar.age", 1)
+
+    def test_stopped_backup(self):
+        self.write_backup_script()
+        self.stop(self.held_at("bash backup.sh", self.has_begun("*.part"), HOLD_TAR="1"))
+        self.see_whole("a stopped backup", "photos-*.tar.age", 0)
+        again = self.run_script("bash backup.sh")
+        self.see("a stopped backup: the next run", again.returncode == 0, again.stdout)
+        self.see_whole("a stopped backup: after the next run", "photos-*.tar.age", 1)
+        self.see("a stopped backup: nothing is left", not [*self.path("work").glob("*.part")])
+
+    def test_no_photos(self):
+        """A folder that is empty, or a link to one: neither is a backup, and nothing is deleted."""
+        self.write_backup_script()
+        shutil.move(self.path("work/photos"), self.path("elsewhere"))
+        for kind, make in (("no folder", lambda it: None), ("an empty folder", os.mkdir), ("a link", lambda it: (it.rmdir(), it.symlink_to("../elsewhere")))):
+            make(self.path("work/photos"))
+            run = self.run_script("bash backup.sh")
+            self.see(f"{kind}: no backup", run.returncode != 0 and "no new backup" in run.stdout, run.stdout)
+            self.see_whole(kind, "photos-*.tar.age", 0)
+
+    def test_clock(self):
+        """One that is behind: the backup that was made is kept, and of the others the last six. So it is on each day."""
+        self.write_backup_script()
+        for day in range(1, 8):
+            self.write(f"work/photos-2027-01-0{day}.tar.age", b"of another night")
+        later = [f"photos-2027-01-0{day}.tar.age" for day in range(2, 8)]
+        for today, kept in (
+            ("1970-01-01", ["photos-1970-01-01.tar.age", *later]), ("1970-01-02", ["photos-1970-01-02.tar.age", *later]),
+            ("2027-01-08", [*later, "photos-2027-01-08.tar.age"]), ("2027-01-08", [*later, "photos-2027-01-08.tar.age"]),
+        ):
+            self.env["AT"] = today
+            run = self.run_script("bash backup.sh")
+            found = sorted(it.name for it in self.path("work").glob("photos-*"))
+            self.see(f"{today}: the backups that are kept", run.returncode == 0 and found == kept, run.stdout, found)
+
+    def see_encrypted(self, name):
+        """Checks that each photo's age file holds it."""
+        for photo in self.path("work/photos").iterdir():
+            run = self.run_script(f"age_tool decrypt --pass passphrase.txt encrypted/{photo.name}.age /dev/stdout | cmp - photos/{photo.name}")
+            self.see(f"{name}: {photo.name}", run.returncode == 0, run.stdout)
+
+    def test_stopped_in_parallel(self):
+        script = self.blocks["Many files in parallel"]
+        for turn in ("stopped once", "stopped twice"):
+            self.stop(self.held_at(script, self.has_begun("encrypted/large*"), HOLD_LARGE="1"))
+            self.see_whole(turn, "encrypted/*.age")
+        run = self.run_script(script)
+        self.see("after two stops the commands end well", run.returncode == 0, run.stdout)
+        self.see_encrypted("after two stops")
+        self.write("work/photos/1.jpg", b"another photo")
+        self.see("a photo that changed", self.run_script(script).returncode == 0)
+        self.see_encrypted("a photo that changed")
+
+    def test_two_in_parallel(self):
+        """The second run changes nothing of what the first one writes."""
+        script = self.blocks["Many files in parallel"]
+        first = self.held_at(script, self.has_begun("encrypted/large*"), HOLD_LARGE="1")
+        second = self.run_script(script)
+        self.see("two at once: the second fails", second.returncode != 0, second.stdout)
+        self.stop(first)
+        self.see_whole("two at once", "encrypted/*.age")
+        self.assertEqual(self.run_script(script).returncode, 0)
+        self.see_encrypted("two at once, and once more")
