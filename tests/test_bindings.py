@@ -367,6 +367,8 @@ class CTest(ProgramsCase):
         taken = subprocess.run(["nm", "-D", "--undefined-only", "-j", LIBRARY / "libage_c.so"], capture_output=True, text=True).stdout.split()
         allowed = {"malloc", "realloc", "free", "memcpy", "memmove", "memset"}
         self.see(f"the shared library calls {taken}, and age_c.h says {allowed}", {it.partition("@")[0] for it in taken} == allowed)
+        sections = subprocess.run(["objdump", "-h", LIBRARY / "libage_c.so"], capture_output=True, text=True).stdout.split()
+        self.see("memory that calls in two threads could share", ".text" in sections and not {".data", ".bss", ".tdata", ".tbss"} & {*sections}, sections)
         symbols = subprocess.run(["objdump", "-T", LIBRARY / "libage_c.so"], capture_output=True, text=True).stdout
         versions = [tuple(map(int, it.split("."))) for it in re.findall(r"\(GLIBC_([\d.]+)\)", symbols)]
         said = re.search(r"glibc (\d+)\.(\d+) or later", (TOP / "include" / "age_c.h").read_text())

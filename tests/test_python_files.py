@@ -313,6 +313,7 @@ class PythonFilesTest(BindingsCase):
             fault, got = by_python(out.getvalue(), passphrase="pw")
             self.see(f"a forgotten writer, {mode}, {len(text)}", fault[0] == 20 and len(got) < len(text), fault)
             self.see(f"its warning, {mode}", [it.category for it in found] == [ResourceWarning], found)
+            self.see(f"what the collector does to the file below, {mode}", out.flushed == 0)
         out = Sink()
         file = agefile.open(out, "wt", passphrase="pw", work=1)
         file.write("text")

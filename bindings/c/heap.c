@@ -14,10 +14,10 @@ struct tried {
     void *at;
 };
 
-static char nowhere;
+static const char nowhere;
 
 static struct tried tried(void *at) {
-    struct tried it = {at != 0, at != 0 ? at : &nowhere};
+    struct tried it = {at != 0, at != 0 ? at : (void *)&nowhere};
     return it;
 }
 

@@ -88,17 +88,14 @@ type places struct {
 	text []byte // its text, which nobody writes to
 }
 
-var blocks = sync.Pool{New: func() any { return new([C.AGE_C_BLOCK]byte) }}
-
 // open opens one chunk into a chunk's room, as the last one if it is that.
 func (r *places) open(number int64, room []byte) (int, error) {
-	held := blocks.Get().(*[C.AGE_C_BLOCK]byte)
-	defer blocks.Put(held)
 	at := int64(r.begun.payload_at) + number*C.AGE_C_BLOCK
-	block := held[:]
-	if r.end-at < int64(len(block)) {
-		block = block[:r.end-at]
+	size := int64(C.AGE_C_BLOCK)
+	if r.end-at < size {
+		size = r.end - at
 	}
+	block := make([]byte, size)
 	n, err := r.file.ReadAt(block, at)
 	if n < len(block) && err != io.EOF && err != nil {
 		return 0, err

@@ -48,7 +48,8 @@ even after an exception: what was written until then is a whole file. A write th
 interrupts makes the file one that can't be finished. What is written to gets bytes, and may keep
 them. A forked child can't go on with its parent's file.
 
-A file object that you pass in is left open. Threads may share a file; calls are serialized. Text
+A file object that you pass in is left open. Threads may share a file; calls are serialized. Two
+files share nothing, so threads with files of their own need no lock. Text
 ("rt", "wt") is for one thread at a time, as io.TextIOWrapper is. close() overwrites the key and the
 text that this module holds. That is best effort: copies that Python made, of a passphrase for
 instance, stay in memory.

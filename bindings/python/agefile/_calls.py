@@ -26,4 +26,7 @@ class OneCall:
                 self._busy = True
                 return call(*words)
             finally:
-                self._busy = False
+                try:
+                    self._busy = False
+                finally:  # (in Python 3.9 and 3.10 a signal's handler may raise on the line above)
+                    self._busy = False

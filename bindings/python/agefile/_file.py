@@ -5,7 +5,6 @@ import ctypes
 import io
 from typing import Any
 
-from . import _rooms
 from ._library import BLOCK, CHUNK, PLACED, Bytes, C, fault_of
 from ._reader import LOST, AgeReader
 from ._source import filled
@@ -46,33 +45,28 @@ class AgeFile(AgeReader):
 
     def _text_of(self, number: int) -> bytes:
         """The text of a chunk."""
-        room = _rooms.taken()
-        try:
-            count = self._open_chunk(number, room)
-            return bytes(room.text.view[:count])
-        finally:
-            _rooms.given_back(room)
+        return bytes(self._room.text.view[:self._open_chunk(number)])
 
-    def _open_chunk(self, number: int, room: _rooms.Room, out: memoryview | None = None) -> int:
-        """Opens a chunk, as the last one if it is that, into a room or another one: how long its text is."""
+    def _open_chunk(self, number: int, out: memoryview | None = None) -> int:
+        """Opens a chunk, as the last one if it is that, into the room or another one: how long its text is."""
         self._fault = OSError(LOST)
-        block, have = self._read_block(number, room)
+        block, have = self._read_block(number)
         self._to_chunk(number)
-        ended = self._opened(room, have, out, block)
-        count = room.count.value
+        ended = self._opened(have, out, block)
+        count = self._room.count.value
         if number == self._last and not ended:
-            self._opened(room, 0)
+            self._opened(0)
         self._fault = None
         return count
 
-    def _read_block(self, number: int, room: _rooms.Room) -> tuple[Any, int]:
+    def _read_block(self, number: int) -> tuple[Any, int]:
         """Reads a block, or what there is of it: where it lies, and how long it is. If the call needs the next ones too, they are read with
         it."""
         ahead = self._ahead
         if ahead is None or not ahead[0] <= number < ahead[1]:
             count = min(self._until - number, MOST)
             if count <= 1:
-                return room.block.place, filled(self._from(number), room.block.view)
+                return self._room.block.place, filled(self._from(number), self._room.block.view)
             held = Bytes(count * BLOCK) if ahead is None else ahead[2]  # (a call needs fewer and fewer)
             self._ahead = None
             have = filled(self._from(number), held.view[:count * BLOCK])
@@ -107,11 +101,8 @@ class AgeFile(AgeReader):
         return place % CHUNK == 0 and place < self._size
 
     def _next_into(self, out: memoryview) -> int:
-        number, room = self._place() // CHUNK, _rooms.taken()
-        try:
-            count = self._open_chunk(number, room, out)
-        finally:
-            _rooms.given_back(room)
+        number = self._place() // CHUNK
+        count = self._open_chunk(number, out)
         self._stand(number * CHUNK + count)
         return count
 

@@ -183,6 +183,19 @@ def wipe(*held: Any) -> None:
         ctypes.memset(ctypes.byref(it), 0, ctypes.sizeof(it))
 
 
+class Room:
+    """A block, a chunk's text, and the number of bytes that a call wrote: one object's own. Nothing that changes is shared by two objects:
+    while C works on it other threads run, and may do anything with what is theirs."""
+
+    def __init__(self) -> None:
+        self.block, self.text, self.count = Bytes(BLOCK), Bytes(CHUNK), ctypes.c_size_t()
+
+    def wipe(self) -> None:
+        """Overwrites what is held, and keeps no memory."""
+        wipe(self.block.place, self.text.place)
+        self.block = self.text = Bytes(b"")
+
+
 Opened = Callable[[Any, ReaderState], int]
 
 

@@ -6,10 +6,10 @@ import io
 import operator
 from typing import TYPE_CHECKING, Any, BinaryIO, Iterable, NoReturn, TypeVar
 
-from . import _keys, _rooms
+from . import _keys
 from ._arguments import KEY, key, pair, secret, see_one, work_factor
 from ._calls import Inside, OneCall
-from ._library import BLOCK, CHUNK, FRONT_MAX, MORE, PLACED, C, Opened, ReaderState, WrongKey, again, fault_of, opening, wipe
+from ._library import BLOCK, CHUNK, FRONT_MAX, MORE, PLACED, C, Opened, ReaderState, Room, WrongKey, again, fault_of, opening, wipe
 from ._source import can_seek, checked, filled, some
 
 if TYPE_CHECKING:
@@ -87,7 +87,7 @@ class AgeReader(Buffered):
         super().__init__()
         self._file, self._owned, self._calls = file, owned, OneCall()
         self._lock = self._calls.lock
-        self._state = ReaderState()
+        self._state, self._room = ReaderState(), Room()
         self._chunk, self._before, self._len = io.BytesIO(), 0, 0  # the text of a chunk, where it begins, and how long it is
         self._next_at = 0  # where the text begins that the library's reader opens next
         self._fault: Exception | None = None  # why it can't go on from there
@@ -131,42 +131,32 @@ class AgeReader(Buffered):
 
     def _next(self) -> None:
         """Opens the next chunk, or checks the end."""
-        self._fault = OSError(LOST)  # so that what an exception interrupts isn't read on
-        room = _rooms.taken()
-        try:
-            have = min(len(self._rest), BLOCK)
-            room.block.view[:have] = self._rest[:have]
-            self._rest = self._rest[have:]
-            ended = self._opened(room, filled(self._file, room.block.view, have))
-            text = bytes(room.text.view[:room.count.value])
-        finally:
-            _rooms.given_back(room)
-        self._hold(self._next_at, text)
+        ended = self._open_next()
+        self._hold(self._next_at, bytes(self._room.text.view[:self._room.count.value]))
         self._ended, self._fault = ended, None
 
     def _next_into(self, out: memoryview) -> int:
         """Opens the next chunk into room for a whole one, and stands after it: how long its text is. None is held, and the library's
         next one is where the file stands."""
-        self._fault = OSError(LOST)
-        room = _rooms.taken()
-        try:
-            have = min(len(self._rest), BLOCK)
-            room.block.view[:have] = self._rest[:have]
-            self._rest = self._rest[have:]
-            ended = self._opened(room, filled(self._file, room.block.view, have), out)
-            count, chunk = room.count.value, io.BytesIO()
-        finally:
-            _rooms.given_back(room)
+        ended, count, chunk = self._open_next(out), self._room.count.value, io.BytesIO()
         end = self._next_at + count
         self._before, self._len, self._chunk, self._next_at, self._ended, self._fault = end, 0, chunk, end, ended, None
         return count
 
-    def _opened(self, room: _rooms.Room, have: int, out: memoryview | None = None, block: Any = None) -> bool:
-        """Opens a block, or what is left at the end, of a room or another place, into the room or another one: whether it is the end."""
-        ended = have < BLOCK
+    def _open_next(self, out: memoryview | None = None) -> bool:
+        """Reads the next block and opens it: whether it is the end."""
+        self._fault = OSError(LOST)  # so that what an exception interrupts isn't read on
+        block, have = self._room.block.view, min(len(self._rest), BLOCK)
+        block[:have] = self._rest[:have]
+        self._rest = self._rest[have:]
+        return self._opened(filled(self._file, block, have), out)
+
+    def _opened(self, have: int, out: memoryview | None = None, block: Any = None) -> bool:
+        """Opens a block, or what is left at the end, of the room or another place, into the room or another one: whether it is the end."""
+        room, ended = self._room, have < BLOCK
         call = C.age_c_end if ended else C.age_c_block
-        place = room.text.place if out is None else WholeChunk.from_buffer(out)
-        answer = call(self._state, room.block.place if block is None else block, have, place, CHUNK, room.count)
+        text = room.text.given if out is None else (WholeChunk.from_buffer(out), CHUNK)
+        answer = call(self._state, room.block.place if block is None else block, have, *text, room.count)
         if answer != 0:
             self._fault = fault_of(answer, self._state.fault_chunk if answer in PLACED else None)
             raise again(self._fault)
@@ -237,14 +227,10 @@ class AgeReader(Buffered):
         piece = self._chunk.read(size)
         if len(piece) == size:
             return piece
-        got, room = io.BytesIO(), _rooms.taken()  # (one that grows is quicker than pieces that are joined)
-        try:
-            got.write(piece)
-            view = room.text.view
-            while (left := size - got.tell()) and (count := self._some_into(view if size < 0 else view[:left])):
-                got.write(view[:count])
-        finally:
-            _rooms.given_back(room)
+        got, view = io.BytesIO(), self._room.text.view  # (one that grows is quicker than pieces that are joined)
+        got.write(piece)
+        while (left := size - got.tell()) and (count := self._some_into(view if size < 0 else view[:left])):
+            got.write(view[:count])
         return got.getvalue()
 
     def read1(self, size: int = -1, /) -> bytes:
@@ -445,7 +431,7 @@ class AgeReader(Buffered):
         if self.closed:
             return
         wipe(self._state)
-        _rooms.wiped()
+        self._room.wipe()
         if not self._chunk.closed:  # (as it is where both are collected)
             with self._chunk.getbuffer() as text:
                 text[:] = bytes(len(text))

@@ -6,8 +6,7 @@ import io
 import os
 from typing import Any, Callable, Iterable, NamedTuple
 
-from . import _rooms
-from ._library import BLOCK, CHUNK, C, ReaderState, fault_of
+from ._library import BLOCK, CHUNK, C, ReaderState, Room, fault_of, wipe
 from ._reader import header_of, opening_of
 from ._source import can_seek, filled, new_name, put, reach_disk
 
@@ -85,7 +84,7 @@ class _Blocks:
             return have, False
 
 
-def _opened(state: ReaderState, room: _rooms.Room, number: int, have: int) -> bytes | None:
+def _opened(state: ReaderState, room: Room, number: int, have: int) -> bytes | None:
     """The text of a block, or of what is left at the end, if it opens at that place."""
     answer = C.age_c_seek(state, number)
     if answer != 0:
@@ -114,20 +113,20 @@ def salvage(file: Any, out: Any, *, passphrase: str | bytes | None = None, file_
     be whole. `out` isn't touched before a chunk opened. `progress` is told the number of chunks after each."""
     opened = opening_of(passphrase, file_key, shared, identity, max_work)
     under = builtins.open(file, "rb", buffering=0) if isinstance(file, (str, bytes, os.PathLike)) else file
-    to, room = _Out(out), _rooms.taken()
+    to, room, state = _Out(out), Room(), ReaderState()
     try:
         _see_apart(under, out)
-        state = ReaderState()
         blocks = _Blocks(under, header_of(under, opened, file_key is not None, state))
         return _saved(blocks, state, room, to, progress or (lambda _: None))
     finally:
-        _rooms.given_back(room)
+        wipe(state)
+        room.wipe()
         to.close()
         if under is not file:
             under.close()
 
 
-def _saved(blocks: _Blocks, state: ReaderState, room: _rooms.Room, out: _Out, progress: Callable[[int], None]) -> Salvage:
+def _saved(blocks: _Blocks, state: ReaderState, room: Room, out: _Out, progress: Callable[[int], None]) -> Salvage:
     lost: list[tuple[int, int]] = []
     number, size, ends, have, opens = 0, 0, False, BLOCK, False
     while have == BLOCK and not ends:

@@ -7,10 +7,9 @@ import warnings
 from types import TracebackType
 from typing import Any, NoReturn
 
-from . import _rooms
 from ._arguments import secret
 from ._calls import Inside, OneCall
-from ._library import CHUNK, SEAL_FRONT, Bytes, C, WriteStreamState, fault_of, wipe
+from ._library import BLOCK, CHUNK, SEAL_FRONT, Bytes, C, WriteStreamState, fault_of, wipe
 from ._reader import Buffered
 from ._source import put
 
@@ -54,7 +53,8 @@ class AgeWriter(Buffered):
         self._file, self._owned, self._calls, self._forks = file, owned, OneCall(), _forks
         stream, front = begun
         self._stream: Any = stream
-        self._count, self._taken = 0, ctypes.c_size_t()
+        self._block, self._written, self._taken = Bytes(BLOCK), ctypes.c_size_t(), ctypes.c_size_t()
+        self._count = 0
         self._gathered = bytearray()  # short writes that the stream hasn't got yet
         self._failed = False
         self._unfinished = False  # whether close() failed
@@ -70,15 +70,10 @@ class AgeWriter(Buffered):
 
     def _put(self, call: Any, *words: Any) -> None:
         """Makes a call that seals, and passes on what it wrote."""
-        room = _rooms.taken()
-        try:
-            answer = call(self._stream, *words, *room.block.given, room.count)
-            if answer != 0:
-                raise fault_of(answer)
-            out = bytes(room.block.view[:room.count.value])
-        finally:
-            _rooms.given_back(room)
-        put(self._file, out)
+        answer = call(self._stream, *words, *self._block.given, self._written)
+        if answer != 0:
+            raise fault_of(answer)
+        put(self._file, bytes(self._block.view[:self._written.value]))
 
     def _see_open(self) -> None:
         if self._forks != _forks:
@@ -185,16 +180,17 @@ class AgeWriter(Buffered):
         """Closes without the last chunk."""
         self._calls.make(self._leave)
 
-    def _leave(self) -> None:
+    def _leave(self, flushes: bool = True) -> None:
         if self.closed:
             return
         self._failed = True  # an exception of a signal's handler may come anywhere below: then nothing is sealed any more
         if self._stream is not None:
             wipe(self._stream)
             self._stream = None
+        self._block = Bytes(b"")
         self._forget_gathered()
         try:
-            if self._forks == _forks:
+            if self._forks == _forks and flushes:
                 self._pass_on()
         finally:
             try:
@@ -211,9 +207,10 @@ class AgeWriter(Buffered):
             self.abandon()
 
     def __del__(self) -> None:
-        # a writer that was never closed, so perhaps after an exception, isn't finished; in a forked child it is its parent's
+        # A writer that was never closed, so perhaps after an exception, isn't finished; in a forked child it is its parent's. The collector
+        # may come while another call works on the file below: it isn't touched.
         if hasattr(self, "_begun") and not self.closed and self._forks == _forks:
             try:
                 warnings.warn("an age file that was never closed isn't whole", ResourceWarning, source=self)
             finally:
-                self.abandon()
+                self._calls.make(self._leave, False)

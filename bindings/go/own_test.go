@@ -1,0 +1,74 @@
+package agefile
+
+import (
+	"bytes"
+	"fmt"
+	"io"
+	"math/rand"
+	"sync"
+	"testing"
+)
+
+// ownFiles writes and reads files of its own, in each way: what is wrong.
+func ownFiles(number int) error {
+	rnd, text := rand.New(rand.NewSource(int64(number))), textOf(150_000+number)
+	for turn := 0; turn < 15; turn++ {
+		var sealed, saved bytes.Buffer
+		w, err := Create(&sealed, []byte("pw"), 1)
+		for at := 0; err == nil && at < len(text); {
+			n := rnd.Intn(70_000)
+			if n > len(text)-at {
+				n = len(text) - at
+			}
+			_, err = w.Write(text[at : at+n])
+			at += n
+		}
+		if err == nil {
+			err = w.Close()
+		}
+		if err != nil {
+			return err
+		}
+		data := sealed.Bytes()
+		r, err := Open(bytes.NewReader(data), pw())
+		if err != nil {
+			return err
+		}
+		if got, err := io.ReadAll(r); err != nil || !bytes.Equal(got, text) {
+			return fmt.Errorf("a Reader: %w", err)
+		}
+		file, err := OpenAt(bytes.NewReader(data), int64(len(data)), pw())
+		if err != nil {
+			return err
+		}
+		at, got := rnd.Intn(100_000), make([]byte, 50_000)
+		if _, err := file.ReadAt(got, int64(at)); err != nil || !bytes.Equal(got, text[at:at+len(got)]) {
+			return fmt.Errorf("a File: %w", err)
+		}
+		data[len(data)-1] ^= 1
+		found, err := Salvage(&saved, bytes.NewReader(data), pw())
+		if err != nil || found.Ends || !bytes.Equal(saved.Bytes()[:131_072], text[:131_072]) {
+			return fmt.Errorf("Salvage: %+v, %w", found, err)
+		}
+	}
+	return nil
+}
+
+// Goroutines with files of their own. test_bindings runs it under the race detector.
+func TestFilesOfTheirOwn(t *testing.T) {
+	faults := make([]error, 8)
+	var all sync.WaitGroup
+	for i := range faults {
+		all.Add(1)
+		go func(i int) {
+			defer all.Done()
+			faults[i] = ownFiles(i)
+		}(i)
+	}
+	all.Wait()
+	for _, err := range faults {
+		if err != nil {
+			t.Error(err)
+		}
+	}
+}
