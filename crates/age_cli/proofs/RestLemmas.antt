@@ -9,15 +9,13 @@ use Rattle.age_io.specs.{SinkView, SourceView, IsAtEnd}
 use Rattle.age_io.specs.Supply.{Supply}
 use Rattle.age_fault.specs.declared.fault.FileFault.{FileFault}
 use Rattle.age_file.proofs.RunLemmas.{rest_kept, stops_kept}
-use Rattle.age_file.specs.{DecryptEnds, DecryptStops, DecryptsKeyed, FindsKey, ResumePorts, resume_ports, ResumesKeyed, ResumeStops, StandsAt, StopsInSkipped}
+use Rattle.age_file.specs.{DecryptEnds, DecryptStops, DecryptsKeyed, FindsKey, resume_ports, ResumesKeyed, ResumeStops}
 use Rattle.age_file.specs.{ResumeEnds, Ports, ports, Run, IsPositionOf}
 use Rattle.age_file.specs.declared.decryption.Done.{Done}
 use Rattle.age_file.specs.declared.decryption.Stopped.{Stopped}
 use Rattle.age_file.specs.declared.position.Position.{Position}
 use Rattle.age_file.specs.declared.position.PositionPolicy.{PositionPolicy}
 use Rattle.age_file.specs.declared.position.PositionPolicy.TheVariants.{Kept, Dropped}
-use Rattle.age_file.specs.declared.standing.Standing.{Standing}
-use Rattle.age_file.specs.declared.standing.Standing.TheVariants.{Before, Skipping, InPayload}
 use Rattle.age_fileset.specs.{FilesView, CameSince, Outcome, Found, Gave, Settled, reading_of}
 use Rattle.age_cli_args.specs.{option_text}
 use Rattle.age_cli_args.specs.declared.request.Decrypting.{Decrypting}
@@ -26,7 +24,7 @@ use Rattle.age_command.specs.{allows_by, refuses_by}
 use Rattle.age_command.specs.declared.ending.Ending.{Ending}
 use Rattle.age_command.specs.declared.identity.Identity.{Identity}
 use Rattle.age_cli.specs.{Engine, decrypt_engine, resume_engine, paths_of, kept_for, start_of, Finds, FindsAgain, StopsText, WasRead, old_found}
-use Rattle.age_cli.specs.inner.{Concludes, opening_end, again_of, key_of, placed, ConcludesDecryption, ConcludesFound, IsFoundIn, RunsEngine, stopped_at}
+use Rattle.age_cli.specs.inner.{Concludes, opening_end, again_of, ConcludesDecryption, ConcludesFound, IsFoundIn, RunsEngine, stopped_at}
 use Rattle.age_cli.proofs.EngineLemmas.{opening_ends, opening_stops, read_as, stopped_so}
 use Rattle.age_cli.proofs.PutLemmas.{concluded}
 use Rattle.age_cli.proofs.FinalLemmas.{ended_with}
@@ -167,13 +165,37 @@ module _ {IsPorts : Ports → Type 0} {Later : Outcome → Type 0} {d : Decrypti
       let so = ends_again Later Stops d after.sink from old new x.later x.run s key saves ending stops came settled certain found in
       runs_so (Err (stopped_at s so.0)) (Err ending) tt shown so.1
 
--- ---- A decryption.
+  -- what a policy changes of how it may have stopped: nothing before the payload, and in it only the
+  -- position
+  module _ (early : (keep other : PositionPolicy) (s : Stopped) → Stops keep None s → Stops other None s)
+      (late : (y : Run) (s : Stopped) (p : Position) → Stops Dropped (Some y) s → IsPositionOf y p → Stops Kept (Some y) (stopped_at s p)) where
+    unread : (keep other : PositionPolicy) (run : Option Run) (s : Stopped) → FindsKey run None → Stops keep run s → Stops other run s
+    unread keep other None s none stops = early keep other s stops
+    unread keep other (Some y) s none stops = absurd (none-some y.file.key none)
 
--- a stop before the payload has no position, kept or not
-unread : (keep other : PositionPolicy) (i : Identity) (before after : Ports) (run : Option Run) (s : Stopped) → FindsKey run None
-    → DecryptStops keep (allows_by i) (refuses_by i) before after run s → DecryptStops other (allows_by i) (refuses_by i) before after run s
-unread keep other i before after None s none stops = stops
-unread keep other i before after (Some r) s none stops = absurd (none-some r.file.key none)
+    came_so : (run : Option Run) (s : Stopped) (key : List ℕ) → FindsKey run (Some key) → IfSome run (λ y. (p : Position) × IsPositionOf y p) → Stops Dropped run s
+        → (y : Run) × (run ≡ Some y) × (key ≡ y.file.key) × (p : Position) × Stops Kept run (stopped_at s p)
+    came_so None s key finds due stops = absurd (none-some key (sym finds))
+    came_so (Some y) s key finds due stops =
+        let same : key ≡ y.file.key = cc in
+        (y, refl, same, due.0, late y s due.0 stops due.1)
+
+    -- it ran once, or came to its payload and was read again
+    runs_keyed : (reread : Bool) (end : Result Done Stopped) (key : Option (List ℕ)) (keep : PositionPolicy) (r : Result (Unit {0}) Ending)
+        → (reread ≡ true → is_some (option_text d.save) ≡ true) → (reread ≡ true → keep ≡ Dropped) → (reread ≡ false → keep ≡ kept_for (option_text d.save))
+        → FindsKey x.run key → IfSome x.run (λ y. (p : Position) × IsPositionOf y p) → IfOk end (λ done. IsSomeAnd x.run (Ends done))
+        → IfErr end (Stops keep x.run) → Shows r → Concluded r end (again_of reread end key) → Runs r
+    runs_keyed reread (Ok done) key keep r saves dropped kept found due ends stops shown concludes = once (Ok done) r ends tt shown concludes
+    runs_keyed reread (Err s) None keep r saves dropped kept found due ends stops shown concludes =
+        once (Err s) r tt (unread keep (kept_for (option_text d.save)) x.run s found stops) shown concludes
+    runs_keyed false (Err s) (Some key) keep r saves dropped kept found due ends stops shown concludes =
+        once (Err s) r tt (subst (λ (p : PositionPolicy). Stops p x.run s) (kept refl) stops) shown concludes
+    runs_keyed true (Err s) (Some key) keep (Ok y) saves dropped kept found due ends stops shown concludes = absurd concludes
+    runs_keyed true (Err s) (Some key) keep (Err e) saves dropped kept found due ends stops shown concludes =
+        let gone = subst (λ (p : PositionPolicy). Stops p x.run s) (dropped refl) stops in
+        again s key e (saves refl) gone (came_so x.run s key found due gone) shown concludes
+
+-- ---- A decryption.
 
 module _ (IsPorts : Ports → Type 0) (Later : Outcome → Type 0) (d : Decrypting) (i : Identity) (before after : Ports) (after_is : IsPorts after) (old new : FilesView)
     (later : (o : Outcome) → CameSince old new o → Later o) (over : CameSince old new (Gave (reading_of d.from.now after.source)))
@@ -197,75 +219,29 @@ module _ (IsPorts : Ports → Type 0) (Later : Outcome → Type 0) (d : Decrypti
     named = did.is.named;
   }
 
-  came_so : (run : Option Run) (s : Stopped) (key : List ℕ) → FindsKey run (Some key) → IfSome run (λ r. (p : Position) × IsPositionOf r p) → Stopping Dropped run s
-      → (r : Run) × (run ≡ Some r) × (key ≡ r.file.key) × (p : Position) × Stopping Kept run (stopped_at s p)
-  came_so None s key finds due stops = absurd (none-some key (sym finds))
-  came_so (Some r) s key finds due stops =
-      let same : key ≡ r.file.key = cc in
-      (r, refl, same, due.0, stops_kept (allows_by i) (refuses_by i) before after r s due.0 stops due.1)
-
   pub runs_opened : (reread : Bool) (end : Result Done Stopped) (key : Option (List ℕ)) (keep : PositionPolicy)
       (r : Result (Unit {0}) Ending) → (reread ≡ true → is_some (option_text d.save) ≡ true) → (reread ≡ true → keep ≡ Dropped)
       → (reread ≡ false → keep ≡ kept_for (option_text d.save)) → (did : Did keep end key) → Shows Progress (ran did) r
       → Concluded Progress (ran did) r end (again_of reread end key) → Runs Progress (ran did) r
-  runs_opened reread (Ok done) key keep r saves dropped kept did shown concludes = once Progress (ran did) (Ok done) r did.is.done tt shown concludes
-  runs_opened reread (Err s) None keep r saves dropped kept did shown concludes =
-      once Progress (ran did) (Err s) r tt (unread keep (kept_for (option_text d.save)) i before after did.is.run s did.found did.is.stopped) shown concludes
-  runs_opened false (Err s) (Some key) keep r saves dropped kept did shown concludes =
-      once Progress (ran did) (Err s) r tt (subst (λ (x : PositionPolicy). Stopping x did.is.run s) (kept refl) did.is.stopped) shown concludes
-  runs_opened true (Err s) (Some key) keep (Ok x) saves dropped kept did shown concludes = absurd concludes
-  runs_opened true (Err s) (Some key) keep (Err e) saves dropped kept did shown concludes =
-      let stops = subst (λ (x : PositionPolicy). Stopping x did.is.run s) (dropped refl) did.is.stopped in
-      again Progress (ran did) s key e (saves refl) stops (came_so did.is.run s key did.found did.due stops) shown concludes
+  runs_opened reread end key keep r saves dropped kept did shown concludes =
+      runs_keyed Progress (ran did) (λ keep other s stops. stops) (λ y s p stops is. stops_kept (allows_by i) (refuses_by i) before after y s p stops is)
+      reread end key keep r saves dropped kept did.found did.due did.is.done did.is.stopped shown concludes
 
 -- ---- A decryption that is resumed.
-
--- a stop in the skipped blocks, had positions been kept
-skipping_kept : (i : Identity) (from : Position) (before after : ResumePorts) (s : Stopped) → StopsInSkipped (allows_by i) from before after Dropped s
-    → StopsInSkipped (allows_by i) from before after Kept (stopped_at s from)
-skipping_kept i from before after s k = record {
-  file = k.file;
-  skipped = k.skipped;
-  reads = k.reads;
-  own = k.own;
-  tagged = k.tagged;
-  short = k.short;
-  copied = k.copied;
-  old_text = k.old_text;
-  writes = k.writes;
-  unfailed = k.unfailed;
-  here = record { index = refl; file_id_is = refl; chain_is = refl; tag_is = refl };
-  why = k.why;
-}
-
-module _ (i : Identity) (from : Position) (before after : ResumePorts) where
-  abbrev Stops : PositionPolicy → Option Run → Stopped → Type 0
-  Stops keep run s = ResumeStops (allows_by i) from before after keep (refuses_by i) run s
-
-  abbrev Placed : PositionPolicy → Option Run → Result Done Stopped → Standing → Type 0
-  Placed keep run end standing = StandsAt (allows_by i) from before after keep (refuses_by i) run end standing
-
-  before_as : (keep other : PositionPolicy) (run : Option Run) (s : Stopped) → Placed keep run (Err s) Before → Stops other run s
-  before_as keep other None s stands = ⊎_elim (λ early. inl early) (λ copying. inr (inl copying)) stands
-  before_as keep other (Some r) s stands = absurd stands
-
-  skipping_as : (run : Option Run) (s : Stopped) → Placed Dropped run (Err s) Skipping → Stops Kept run (stopped_at s from)
-  skipping_as None s stands = inr (inr (skipping_kept i from before after s stands))
-  skipping_as (Some r) s stands = absurd stands
 
 module _ (IsPorts : Ports → Type 0) (Later : Outcome → Type 0) (d : Decrypting) (old_name : Text) (i : Identity) (from : Position) (first last : SourceView)
     (before after : Ports) (after_is : IsPorts after) (first_is : IsPorts (ports first before.sink)) (last_is : IsPorts (ports last after.sink)) (old new : FilesView)
     (later : (o : Outcome) → CameSince old new o → Later o) (over : CameSince old new (Gave (reading_of d.from.now after.source)))
     (read : WasRead Later (old_found from old_name) old_name first last)
     (Unshown : Type 0) (Progress : Supply → Supply → Result (Unit {0}) Ending → Type 0) (silent : d.progress ≡ Silent → Unshown) where
-  abbrev ResumedDid : PositionPolicy → Result Done Stopped → Standing → Type 0
-  ResumedDid keep end standing = ResumesKeyed keep (allows_by i) (refuses_by i) from (resume_ports before first) (resume_ports after last) end standing
+  abbrev ResumedDid : PositionPolicy → Result Done Stopped → Option (List ℕ) → Type 0
+  ResumedDid keep end key = ResumesKeyed keep (allows_by i) (refuses_by i) from (resume_ports before first) (resume_ports after last) end key
 
   abbrev Halting : PositionPolicy → Option Run → Stopped → Type 0
-  Halting keep run s = Stops i from (resume_ports before first) (resume_ports after last) keep run s
+  Halting keep run s = ResumeStops (allows_by i) from (resume_ports before first) (resume_ports after last) keep (refuses_by i) run s
 
-  abbrev ran_on : {keep : PositionPolicy} {end : Result Done Stopped} {standing : Standing}
-      → ResumesKeyed keep (allows_by i) (refuses_by i) from (resume_ports before first) (resume_ports after last) end standing
+  abbrev ran_on : {keep : PositionPolicy} {end : Result Done Stopped} {key : Option (List ℕ)}
+      → ResumesKeyed keep (allows_by i) (refuses_by i) from (resume_ports before first) (resume_ports after last) end key
       → Ran IsPorts Later d (resume_engine IsPorts Later d.from.now (kept_for (option_text d.save)) i from old_name) (Some from) before after
       (ResumeEnds (allows_by i) from (resume_ports before first) (resume_ports after last)) Halting old new Unshown
   ran_on did = record {
@@ -279,52 +255,11 @@ module _ (IsPorts : Ports → Type 0) (Later : Outcome → Type 0) (d : Decrypti
     named = did.is.named;
   }
 
-  came_there : (run : Option Run) (s : Stopped) (key : List ℕ)
-      → StandsAt (allows_by i) from (resume_ports before first) (resume_ports after last) Dropped (refuses_by i) run (Err s) (InPayload key)
-      → IfSome run (λ r. (p : Position) × IsPositionOf r p) → Halting Dropped run s
-      → (r : Run) × (run ≡ Some r) × (key ≡ r.file.key) × (p : Position) × Halting Kept run (stopped_at s p)
-  came_there None s key stands due stops = absurd stands
-  came_there (Some r) s key stands due stops =
-      (r, refl, stands, due.0, rest_kept (allows_by i) (refuses_by i) from (resume_ports before first) (resume_ports after last) r s due.0 stops due.1)
-
-  as_kept : (s : Stopped) (standing : Standing) (keep : PositionPolicy) (r : Result (Unit {0}) Ending) → keep ≡ kept_for (option_text d.save)
-      → (did : ResumedDid keep (Err s) standing) → Shows Progress (ran_on did) r → Concluded Progress (ran_on did) r (Err s) None → Runs Progress (ran_on did) r
-  as_kept s standing keep r kept did shown concludes =
-      once Progress (ran_on did) (Err s) r tt (subst (λ (x : PositionPolicy). Halting x did.is.run s) kept did.is.stopped) shown concludes
-
-  by : (reread : Bool) (end : Result Done Stopped) (standing : Standing) (keep : PositionPolicy)
+  pub resumed_by : (reread : Bool) (end : Result Done Stopped) (key : Option (List ℕ)) (keep : PositionPolicy)
       (r : Result (Unit {0}) Ending) → (reread ≡ true → is_some (option_text d.save) ≡ true) → (reread ≡ true → keep ≡ Dropped)
-      → (reread ≡ false → keep ≡ kept_for (option_text d.save)) → (did : ResumedDid keep end standing) → Shows Progress (ran_on did) r
-      → Concluded Progress (ran_on did) r (placed reread standing from end) (again_of reread (placed reread standing from end) (key_of standing)) → Runs Progress (ran_on did) r
-  by false (Ok x) standing keep r saves dropped kept did shown concludes = once Progress (ran_on did) (Ok x) r did.is.done tt shown concludes
-  by true (Ok x) Before keep r saves dropped kept did shown concludes = once Progress (ran_on did) (Ok x) r did.is.done tt shown concludes
-  by true (Ok x) Skipping keep r saves dropped kept did shown concludes = once Progress (ran_on did) (Ok x) r did.is.done tt shown concludes
-  by true (Ok x) (InPayload k) keep r saves dropped kept did shown concludes = once Progress (ran_on did) (Ok x) r did.is.done tt shown concludes
-  by false (Err s) Before keep r saves dropped kept did shown concludes = as_kept s Before keep r (kept refl) did shown concludes
-  by false (Err s) Skipping keep r saves dropped kept did shown concludes = as_kept s Skipping keep r (kept refl) did shown concludes
-  by false (Err s) (InPayload k) keep r saves dropped kept did shown concludes = as_kept s (InPayload k) keep r (kept refl) did shown concludes
-  by true (Err s) Before keep r saves dropped kept did shown concludes =
-      once Progress (ran_on did) (Err s) r tt
-      (before_as i from (resume_ports before first) (resume_ports after last) keep (kept_for (option_text d.save)) did.is.run s did.stands) shown concludes
-  by true (Err s) Skipping keep r saves dropped kept did shown concludes =
-      once Progress (ran_on did) (Err (stopped_at s from)) r tt
-      (subst (λ (x : PositionPolicy). Halting x did.is.run (stopped_at s from)) (kept_some (option_text d.save) (saves refl))
-      (skipping_as i from (resume_ports before first) (resume_ports after last) did.is.run s
-      (subst (λ (x : PositionPolicy). Placed i from (resume_ports before first) (resume_ports after last) x did.is.run (Err s) Skipping) (dropped refl) did.stands)))
-      shown concludes
-  by true (Err s) (InPayload k) keep (Ok x) saves dropped kept did shown concludes = absurd concludes
-  by true (Err s) (InPayload k) keep (Err e) saves dropped kept did shown concludes =
-      let stops = subst (λ (x : PositionPolicy). Halting x did.is.run s) (dropped refl) did.is.stopped in
-      again Progress (ran_on did) s k e (saves refl) stops (came_there did.is.run s k
-      (subst (λ (x : PositionPolicy). Placed i from (resume_ports before first) (resume_ports after last) x did.is.run (Err s) (InPayload k)) (dropped refl) did.stands) did.due stops)
-      shown concludes
-
-  pub resumed_by : (reread : Bool) (end : Result Done Stopped) (standing : Standing) (keep : PositionPolicy)
-      (r : Result (Unit {0}) Ending) → (reread ≡ true → is_some (option_text d.save) ≡ true) → (reread ≡ true → keep ≡ Dropped)
-      → (reread ≡ false → keep ≡ kept_for (option_text d.save)) → (did : ResumedDid keep end standing) → Shows Progress (ran_on did) r
-      → (end' : Result Done Stopped) (key : Option (List ℕ)) → end' ≡ placed reread standing from end → key ≡ key_of standing
-      → Concluded Progress (ran_on did) r end' (again_of reread end' key) → Runs Progress (ran_on did) r
-  resumed_by reread end standing keep r saves dropped kept did shown end' key at is concludes =
-      by reread end standing keep r saves dropped kept did shown
-      (subst (λ (e : Result Done Stopped). Concluded Progress (ran_on did) r e (again_of reread e (key_of standing))) at
-      (subst (λ (k : Option (List ℕ)). Concluded Progress (ran_on did) r end' (again_of reread end' k)) is concludes))
+      → (reread ≡ false → keep ≡ kept_for (option_text d.save)) → (did : ResumedDid keep end key) → Shows Progress (ran_on did) r
+      → Concluded Progress (ran_on did) r end (again_of reread end key) → Runs Progress (ran_on did) r
+  resumed_by reread end key keep r saves dropped kept did shown concludes =
+      runs_keyed Progress (ran_on did) (λ keep other s stops. stops)
+      (λ y s p stops is. rest_kept (allows_by i) (refuses_by i) from (resume_ports before first) (resume_ports after last) y s p stops is)
+      reread end key keep r saves dropped kept did.found did.due did.is.done did.is.stopped shown concludes

@@ -27,8 +27,6 @@ use Rattle.age_file.specs.{IsReport, Ports}
 use Rattle.age_file.specs.declared.report.Report.{Report}
 use Rattle.age_cli.specs.Commands.{ReportsAs, WasRead, HoldsNoPassphrase, HoldsNoRandom, HoldsNoPosition}
 use Rattle.age_file.specs.declared.position.Position.{Position}
-use Rattle.age_file.specs.declared.standing.Standing.{Standing}
-use Rattle.age_file.specs.declared.standing.Standing.TheVariants.{Skipping, InPayload}
 use Rattle.age_cli_args.specs.{option_text}
 use Rattle.age_cli_args.specs.declared.request.Decrypting.{Decrypting}
 use Rattle.age_cli_args.specs.declared.request.ProgressOption.{ProgressOption}
@@ -176,16 +174,6 @@ ConcludesDecryption IsCertain d sink from end None old new result = (settled : �
 ConcludesDecryption IsCertain d sink from end (Some again) old new result =
     IsErrAnd result (λ ending. (settled : ℕ) × IsCertain settled
     × ConcludesFound d sink from again.0 again.1 old new ending settled)
-
--- where a resumed one stopped, had positions been kept: in the skipped blocks it is where it began
-abbrev pub placed : Bool → Standing → Position → Result Done Stopped → Result Done Stopped
-placed true Skipping from (Err s) = Err (stopped_at s from)
-placed reread standing from end = end
-
--- the key of the payload that it came to
-abbrev pub key_of : Standing → Option (List ℕ)
-key_of (InPayload key) = Some key
-key_of other = None
 
 -- An engine ran over a source and a sink of the files, and OUT was ended. `end` is how it ended; of a
 -- stop, it has the position that is saved, of which `settled` bytes are certain.

@@ -17,10 +17,9 @@ use crate::output::{Content, Writing, begin_meter, check_names, end_meter, open_
 use crate::reread::{Decrypted, can_reread, conclude_decryption, positions_at_first};
 use age_cli_args::{Decrypting, ProgressOption};
 use age_command::{Announcement, Choice, Ending, Identity};
-use age_file::{Done, PositionPolicy, Source, Stopped, decrypt_keyed, read_again};
+use age_file::{PositionPolicy, decrypt_keyed, read_again};
 use age_fileset::FileSet;
 use age_io::{Meter, Metered, Sink};
-use age_keys::KnownKey;
 use std::alloc::Global;
 
 /// What opens the input, by the options and the file that they name. Before it reads that, refuses
@@ -46,14 +45,6 @@ pub(crate) fn identify<F: FileSet>(
     Ok(choice.identity(secret)?)
 }
 
-/// How a decryption ended, with the key that opened the input and with the input.
-#[derive(Drop)]
-struct Opened<S: Source> {
-    end: Result<Done, Stopped>,
-    key: Option<KnownKey>,
-    source: S,
-}
-
 /// Decrypts the input into the output.
 fn open_text<F: FileSet, P: Meter>(
     alloc: Global,
@@ -64,7 +55,7 @@ fn open_text<F: FileSet, P: Meter>(
     mut source: F::In,
     out: &mut F::Out,
     progress: &mut P,
-) -> Opened<F::In>
+) -> Decrypted<F::In>
     ensures opened { DecryptsKeyed positions (allows_by identity) (refuses_by identity)
         (ports (F.In.view source) (F.Out.view out.old))
         (ports (F.In.view result.source) (F.Out.view out.new)) result.end result.key }
@@ -77,7 +68,7 @@ fn open_text<F: FileSet, P: Meter>(
     match asked.progress {
         ProgressOption::Silent => {
             let (end, key) = decrypt_keyed(alloc, positions, identity, &mut source, out);
-            Opened { end, key, source }
+            Decrypted { end, key, source }
         }
         ProgressOption::Shown => {
             begin_meter(files, &source, &mut *progress);
@@ -91,7 +82,7 @@ fn open_text<F: FileSet, P: Meter>(
                 meter: _meter,
             } = metered;
             end_meter(&mut *progress);
-            Opened { end, key, source }
+            Decrypted { end, key, source }
         }
     }
 }
@@ -136,15 +127,8 @@ fn decrypt_opened<F: FileSet, E: Sink, P: Meter>(
         &mut out,
         &mut *progress,
     );
-    let Opened { end, key, source } = opened;
-    let decrypted = Decrypted {
-        end,
-        key,
-        source,
-        from: None,
-    };
     conclude_decryption(
-        alloc, files, out, asked, is_reread, decrypted, faults, announced, progress,
+        alloc, files, out, asked, is_reread, None, opened, faults, announced, progress,
     )
 }
 

@@ -49,14 +49,13 @@ pub(crate) fn positions_at_first(is_reread: bool, save: Option<&str>) -> Positio
     positions_for(save)
 }
 
-/// How a decryption ended, with the input and with the key that opened it.
+/// How a decryption ended, with the key that opened the input, if it came to its payload, and with
+/// the input.
 #[derive(Drop)]
 pub(crate) struct Decrypted<S: Source> {
     pub(crate) end: Result<Done, Stopped>,
     pub(crate) key: Option<KnownKey>,
     pub(crate) source: S,
-    /// The position that it began from, if it was resumed.
-    pub(crate) from: Option<Position>,
 }
 
 /// What is read once more: the input, by the key that opened it, up to where it stopped.
@@ -247,40 +246,35 @@ fn conclude_again<F: FileSet, E: Sink, P: Meter>(
     }
 }
 
-/// Ends the output of a decryption, and saves the position of a stop, which is found by reading the
-/// input once more if that can be done.
+/// Ends the output of a decryption, which began from a position if it was resumed, and saves the
+/// position of a stop, which is found by reading the input once more if that can be done.
 pub(crate) fn conclude_decryption<F: FileSet, E: Sink, P: Meter>(
     alloc: Global,
     files: &mut F,
     out: F::Out,
     asked: &Decrypting<'_>,
     is_reread: bool,
-    decrypted: Decrypted<F::In>,
+    from: Option<Position>,
+    opened: Decrypted<F::In>,
     faults: &mut E,
     announced: &mut Announcement,
     progress: &mut P,
 ) -> Result<(), Ending>
     requires save { is_reread ≡ true → is_some (option_text asked.now.save) ≡ true }
-    requires input { F.In.began decrypted.source (Named asked.now.from.now) }
+    requires input { F.In.began opened.source (Named asked.now.from.now) }
     ensures over { CameSince (F.view files.old) (F.view files.new)
-        (Gave (reading_of asked.now.from.now (F.In.view decrypted.source))) }
+        (Gave (reading_of asked.now.from.now (F.In.view opened.source))) }
     ensures announced { Tells announced.new result (E.view faults.old) (E.view faults.new)
         (faults.new ≡ faults.old) }
     ensures concludes { ConcludesDecryption (λ settled. CameSince (F.view files.old)
         (F.view files.new) (Settled asked.now.durability (F.Out.view out).taken.bytes settled)) asked.now
-        (F.Out.view out) decrypted.from decrypted.end
-        (again_of is_reread decrypted.end decrypted.key)
+        (F.Out.view out) from opened.end (again_of is_reread opened.end opened.key)
         (F.view files.old) (F.view files.new) result }
     ensures silent { asked.now.progress ≡ Silent → progress.new ≡ progress.old }
     ensures whole { OnOk result (P.shown progress.new ≡ P.shown progress.old) }
     ensures shown { ShowsAgain (P.shown progress.old) (P.shown progress.new) }
 {
-    let Decrypted {
-        end,
-        key,
-        source,
-        from,
-    } = decrypted;
+    let Decrypted { end, key, source } = opened;
     match again_of(is_reread, &end, key) {
         Some((stopped, key)) => {
             let again = Again {

@@ -11,19 +11,16 @@ ghost use Rattle.age_command.specs.{allows_by, refuses_by, Tells};
 ghost use Rattle.age_cli.specs.Acts.{Acts};
 ghost use Rattle.age_cli.specs.{PortsOf, ShowsProgress, ShowsReadings, ShowsRun, resume_engine, kept_for};
 ghost use Rattle.age_cli.specs.{paths_of, old_found};
-ghost use Rattle.age_cli.specs.inner.{IsUnplaced, OpensFiles, RunsEngine, key_of, placed};
+ghost use Rattle.age_cli.specs.inner.{IsUnplaced, OpensFiles, RunsEngine};
 
 use crate::decrypt_command::identify;
 use crate::output::{Content, Writing, begin_meter, end_meter, open_both, open_in};
 use crate::reread::{Decrypted, can_reread, conclude_decryption, positions_at_first};
 use age_cli_args::{Decrypting, ProgressOption, Resuming};
 use age_command::{Announcement, Ending, Identity, read_file};
-use age_file::{
-    Done, FileFault, Position, PositionPolicy, Source, Standing, Stopped, read_again, resume_keyed,
-};
+use age_file::{FileFault, Position, PositionPolicy, read_again, resume_keyed};
 use age_fileset::FileSet;
 use age_io::{Meter, Metered, Sink};
-use age_keys::KnownKey;
 use std::alloc::Global;
 
 /// A position's file has fewer bytes.
@@ -64,42 +61,6 @@ fn open_earlier<F: FileSet>(
     Ok((position, old))
 }
 
-/// Where a resumed decryption stopped, had positions been kept: in the blocks that are skipped it is
-/// where it began.
-fn placed(
-    is_reread: bool,
-    standing: &Standing,
-    position: &Position,
-    end: Result<Done, Stopped>,
-) -> Result<Done, Stopped>
-    ensures { result ≡ placed is_reread standing.now position.now end }
-{
-    match (end, standing) {
-        (Err(stopped), Standing::Skipping) if is_reread => Err(Stopped {
-            position: Some(*position),
-            ..stopped
-        }),
-        (end, _) => end,
-    }
-}
-
-/// The key of the payload that a resumed decryption came to.
-fn key_of(standing: Standing) -> Option<KnownKey>
-    ensures { result ≡ key_of standing }
-{
-    match standing {
-        Standing::InPayload(key) => Some(key),
-        Standing::Before | Standing::Skipping => None,
-    }
-}
-
-/// How a resumed decryption ended and where it stood, with the input.
-#[derive(Drop)]
-struct Resumed<S: Source> {
-    ended: (Result<Done, Stopped>, Standing),
-    source: S,
-}
-
 /// Resumes the decryption of the input into the output.
 fn resume_text<F: FileSet, P: Meter>(
     alloc: Global,
@@ -112,12 +73,12 @@ fn resume_text<F: FileSet, P: Meter>(
     old: &mut F::In,
     out: &mut F::Out,
     progress: &mut P,
-) -> Resumed<F::In>
+) -> Decrypted<F::In>
     ensures resumed { ResumesKeyed positions (allows_by identity) (refuses_by identity)
         position.now
         (resume_ports (ports (F.In.view source) (F.Out.view out.old)) (F.In.view old.old))
         (resume_ports (ports (F.In.view result.source) (F.Out.view out.new)) (F.In.view old.new))
-        result.ended.0 result.ended.1 }
+        result.end result.key }
     ensures began { (name : List ℕ) → F.In.began source (Named name)
         → F.In.began result.source (Named name) }
     ensures old_began { (from : Origin) → F.In.began old.old from → F.In.began old.new from }
@@ -127,8 +88,16 @@ fn resume_text<F: FileSet, P: Meter>(
 {
     match asked.progress {
         ProgressOption::Silent => {
-            let ended = resume_keyed(alloc, positions, identity, position, &mut source, old, out);
-            Resumed { ended, source }
+            let (end, key) = resume_keyed(
+                alloc,
+                positions,
+                identity,
+                position,
+                &mut source,
+                old,
+                out,
+            );
+            Decrypted { end, key, source }
         }
         ProgressOption::Shown => {
             begin_meter(files, &source, &mut *progress);
@@ -136,13 +105,21 @@ fn resume_text<F: FileSet, P: Meter>(
                 source,
                 meter: &mut *progress,
             };
-            let ended = resume_keyed(alloc, positions, identity, position, &mut metered, old, out);
+            let (end, key) = resume_keyed(
+                alloc,
+                positions,
+                identity,
+                position,
+                &mut metered,
+                old,
+                out,
+            );
             let Metered {
                 source,
                 meter: _meter,
             } = metered;
             end_meter(&mut *progress);
-            Resumed { ended, source }
+            Decrypted { end, key, source }
         }
     }
 }
@@ -196,17 +173,10 @@ fn resume_opened<F: FileSet, E: Sink, P: Meter>(
         &mut out,
         &mut *progress,
     );
-    let Resumed { ended, source } = resumed;
-    let (end, standing) = ended;
     files.finish(old);
-    let decrypted = Decrypted {
-        end: placed(is_reread, &standing, position, end),
-        key: key_of(standing),
-        source,
-        from: Some(*position),
-    };
+    let from = Some(*position);
     conclude_decryption(
-        alloc, files, out, wanted, is_reread, decrypted, faults, announced, progress,
+        alloc, files, out, wanted, is_reread, from, resumed, faults, announced, progress,
     )
 }
 

@@ -126,7 +126,7 @@ module _ (Who : Type 0) (Allows : Who → Header → List ℕ → Type 0) (Refus
       (old_right text p old new out wrote before f.writes, none_carries (CarriesText text) s.position f.nowhere)
   call_right keep who p old new (Err s) None out wrote before (inr (inr f)) auth = (
     old_right text p old new out wrote before f.writes,
-    given_carries keep (IsSame p) (CarriesText text) s.position f.here
+    given_carries Kept (IsSame p) (CarriesText text) s.position f.here
         (λ q same. same_carries p q f.copied text f.old_text (copied_begins text p old new out wrote before f.writes) same),
   )
   call_right keep who p old new (Err s) (Some r) out wrote before f auth =

@@ -9,12 +9,12 @@ use Rattle.age_keys.specs.declared.fault.KeyFault.{KeyFault}
 use Rattle.age_fault.specs.{HasFailed}
 use Rattle.age_fault.specs.declared.fault.FileFault.{FileFault}
 use Rattle.age_fault.specs.declared.fault.FileFault.TheVariants.{ShortText, Read, Write, ReadNeverEnds, OldTextDiffers, Stream, OtherFile, PositionForged}
-use Rattle.age_file.specs.{StartFails, DecryptsKeyed, Ports, ports, NeverEnds, IsFromStart, GivesPosition, OpenedFile, pull_room, Done, Stopped, PositionPolicy}
-use Rattle.age_file.specs.{Unlocked, link, chain, ResumesKeyed, HasOpened, ResumePorts, resume_ports, WritesOld, IsFrom, IsSame, BeginsWith, StandsAt}
-use Rattle.age_file.specs.{IsOldText, NeverEndTogether, BeforeOldFails, InOldFails, StopsInOld, InSkippedFails, StopsInSkipped, ResumeStops, Standing, Before}
-use Rattle.age_file.specs.{Skipping, InPayload, Kept, Dropped, Position}
+use Rattle.age_file.specs.{StartFails, DecryptsKeyed, Ports, ports, NeverEnds, IsFromStart, OpenedFile, pull_room, Done, Stopped, PositionPolicy}
+use Rattle.age_file.specs.{Unlocked, link, chain, ResumesKeyed, HasOpened, ResumePorts, resume_ports, WritesOld, IsFrom, BeginsWith}
+use Rattle.age_file.specs.{IsOldText, NeverEndTogether, BeforeOldFails, InOldFails, StopsInOld, InSkippedFails, StopsInSkipped, ResumeStops}
+use Rattle.age_file.specs.{Position}
 use Rattle.age_file.specs.inner.{chain_if, Unread, StartsAt, Passes, NoMore, FailsInCopy, CopiesChunk, CopiesAll, TextFails, CopiesOld, TextGoes, SkipFails}
-use Rattle.age_file.specs.inner.{Uses, OpensPayload, IsPositionAt, PositionAt, EndsAs, PositionRefused, StartsFor, StartForFails, ResumesRest, Stage, ports_at}
+use Rattle.age_file.specs.inner.{Uses, OpensPayload, PositionRefused, StartsFor, StartForFails, ResumesRest, Stage, ports_at}
 use Rattle.age_file.specs.inner.{start_at, ReaderView, WriterView, Wrote, reader_view, stage, Start, Pulled, start_after, HasPlace}
 use Rattle.age_chunk.specs.{block_length, chunk_length}
 use Rattle.age_chunk.specs.declared.fault.StreamKind.TheVariants.{Truncated}
@@ -142,12 +142,11 @@ module _ (keep : PositionPolicy) (Allows : Header → List ℕ → Type 0) (Refu
   has_opened old new u unlocked s = (u.bytes, s.few, record { text = s.text; opens = s.opens; size = s.size; read = s.pulled.consumed })
 
   -- a call that came to no payload
-  stopped_with : (old new : ResumePorts) (stopped : Stopped) (standing : Standing) → ResumeStops Allows p old new keep Refused None stopped
-      → StandsAt Allows p old new keep Refused None (Err stopped) standing → new.main.sink.label ≡ old.main.sink.label
-      → ResumesKeyed keep Allows Refused p old new (Err stopped) standing
-  stopped_with old new stopped standing stops stands named = record {
+  stopped_with : (old new : ResumePorts) (stopped : Stopped) → ResumeStops Allows p old new keep Refused None stopped
+      → new.main.sink.label ≡ old.main.sink.label → ResumesKeyed keep Allows Refused p old new (Err stopped) None
+  stopped_with old new stopped stops named = record {
     is = record { run = None; done = tt; stopped = stops; settled = tt; named = named };
-    stands = stands;
+    found = refl;
     due = tt;
   }
 
@@ -165,22 +164,21 @@ module _ (keep : PositionPolicy) (Allows : Header → List ℕ → Type 0) (Refu
 
   stopped_before : (old new : ResumePorts) (fault : FileFault) → new.main.sink ≡ old.main.sink → new.old ≡ old.old
       → BeforeOldFails Allows p old new Refused fault → ResumesKeyed keep Allows Refused p old new
-      (Err (record { fault = fault; written = 0; position = None })) Before
+      (Err (record { fault = fault; written = 0; position = None })) None
   stopped_before old new fault same text f =
-      stopped_with old new (record { fault = fault; written = 0; position = None }) Before
-      (inl (record { sink = same; written = refl; position = refl }, text, f))
+      stopped_with old new (record { fault = fault; written = 0; position = None })
       (inl (record { sink = same; written = refl; position = refl }, text, f)) (ap (λ (s : SinkView). s.label) same)
 
   -- no payload came to be opened
   pub stopped_early : (old new : ResumePorts) (fault : FileFault) → new.main.sink ≡ old.main.sink → new.old ≡ old.old
       → StartFails Allows Refused old.main.source new.main.source fault → ResumesKeyed keep Allows Refused p old new
-      (Err (record { fault = fault; written = 0; position = None })) Before
+      (Err (record { fault = fault; written = 0; position = None })) None
   stopped_early old new fault same text f = stopped_before old new fault same text (before_fails old new fault f)
 
   -- or the position was refused
   pub refused : (old new : ResumePorts) (u : Unread) (fault : FileFault) → new.main.sink ≡ old.main.sink → new.old ≡ old.old
       → StartForFails Allows Refused p old.main.source (reader_view new.main.source u) fault → ResumesKeyed keep Allows Refused p old new
-      (Err (record { fault = fault; written = 0; position = None })) Before
+      (Err (record { fault = fault; written = 0; position = None })) None
   refused old new u fault same text (inl f) = stopped_early old new fault same text f
   refused old new u fault same text (inr f) = stopped_before old new fault same text (verdict_fails old new u f.0 fault f.1 f.2)
 
@@ -284,9 +282,9 @@ module _ (keep : PositionPolicy) (Allows : Header → List ℕ → Type 0) (Refu
         (goes.0, λ e. differs (goes.4 ∙ ap Some e)))
 
     pub copy_stopped : (fault : FileFault) → TextFails chunk_length p.index p.chain x z first s1.writer out fault
-        → ResumesKeyed keep Allows Refused p old (new s1.reader) (Err (stop fault None)) Before
+        → ResumesKeyed keep Allows Refused p old (new s1.reader) (Err (stop fault None)) None
     copy_stopped fault f =
-        stopped_with old (new s1.reader) (stop fault None) Before (inr (inl (text_fails_in_old fault f))) (inr (text_fails_in_old fault f)) cb.copied.wrote.named
+        stopped_with old (new s1.reader) (stop fault None) (inr (inl (text_fails_in_old fault f))) cb.copied.wrote.named
 
     -- ---- a run that went on after the old text
 
@@ -313,10 +311,10 @@ module _ (keep : PositionPolicy) (Allows : Header → List ℕ → Type 0) (Refu
       never_end now sink y h all = grind (arith, common_steps, length-append, old_used)
 
       -- the run stopped in the blocks that are skipped
-      stops_in_skipped : (m : ReaderView) (position : Option Position) (fault : FileFault) (skipped : List ℕ)
-          → GivesPosition keep (IsSame p) position → length skipped < p.index * block_length → Consumes a.supply m.source.supply (head ++ skipped)
-          → InSkippedFails Allows p old (new m) skipped fault → StopsInSkipped Allows p old (new m) keep (stop fault position)
-      stops_in_skipped m position fault skipped at short read why =
+      stops_in_skipped : (m : ReaderView) (fault : FileFault) (skipped : List ℕ)
+          → length skipped < p.index * block_length → Consumes a.supply m.source.supply (head ++ skipped)
+          → InSkippedFails Allows p old (new m) skipped fault → StopsInSkipped Allows p old (new m) (stop fault (Some p))
+      stops_in_skipped m fault skipped short read why =
           let le : length out ≤ p.index * chunk_length = omega (arith, g.0) in
           record {
             file = file;
@@ -329,7 +327,7 @@ module _ (keep : PositionPolicy) (Allows : Header → List ℕ → Type 0) (Refu
             old_text = old_text;
             writes = writes_old m old_bytes le old_used.consumed (omega (arith, le, g.6, length-append out z.unread.bytes)) (z.unread.bytes, refl);
             unfailed = g.1.unfailed;
-            here = at;
+            here = record { index = refl; file_id_is = refl; chain_is = refl; tag_is = refl };
             why = why;
           }
 
@@ -337,46 +335,31 @@ module _ (keep : PositionPolicy) (Allows : Header → List ℕ → Type 0) (Refu
           → Pulled start m.source.supply m.unread.pulls (head ++ skipped)
       dried m skipped empty uses = rw (empty, append-nil skipped) at (uses start head again)
 
-      skipped_fails : (m : ReaderView) (position : Option Position) (fault : FileFault)
-          → GivesPosition keep (IsSame p) position → SkipFails block_length p.index s1.reader m fault
-          → StopsInSkipped Allows p old (new m) keep (stop fault position)
-      skipped_fails m position fault at (skipped, short, d) = by fault d.why where
+      skipped_fails : (m : ReaderView) (fault : FileFault) → SkipFails block_length p.index s1.reader m fault
+          → StopsInSkipped Allows p old (new m) (stop fault (Some p))
+      skipped_fails m fault (skipped, short, d) = by fault d.why where
         cut : FileFault
         cut = Stream (record { kind = Truncated; chunk = length skipped / block_length })
 
         all : Pulled start m.source.supply m.unread.pulls (head ++ skipped)
         all = dried m skipped d.used d.uses
 
-        by : (fault : FileFault) → NoMore cut s1.reader m fault → StopsInSkipped Allows p old (new m) keep (stop fault position)
-        by fault (inl ended) = subst (λ (f : FileFault). StopsInSkipped Allows p old (new m) keep (stop f position)) (sym ended.0)
-            (stops_in_skipped m position cut skipped at short all.consumed (refl, refl, ended.1, (ended.2 ∙ s.unfailed, g.2)))
-        by Read (inr f) = stops_in_skipped m position Read skipped at short all.consumed
+        by : (fault : FileFault) → NoMore cut s1.reader m fault → StopsInSkipped Allows p old (new m) (stop fault (Some p))
+        by fault (inl ended) = subst (λ (f : FileFault). StopsInSkipped Allows p old (new m) (stop f (Some p))) (sym ended.0)
+            (stops_in_skipped m cut skipped short all.consumed (refl, refl, ended.1, (ended.2 ∙ s.unfailed, g.2)))
+        by Read (inr f) = stops_in_skipped m Read skipped short all.consumed
             (subst (λ (k : ℕ). HasFailed k m.source.failed m.source.failing) s.unfailed f, g.2)
         by ReadNeverEnds (inr f) =
-            stops_in_skipped m position ReadNeverEnds skipped at short all.consumed (never_end m s1.writer.sink (head ++ skipped) all f.0)
+            stops_in_skipped m ReadNeverEnds skipped short all.consumed (never_end m s1.writer.sink (head ++ skipped) all f.0)
         by other (inr f) = absurd f
-
-      -- the position is that from which the run began, if nothing was decrypted
-      same_position : (next : Position) → IsPositionAt unlocked s1.writer.tally.index (chain (first_chunks chunk_length p.index out)) next
-          → IsSame p next
-      same_position next h = grind (arith, common_steps)
-
-      same_given : (how : PositionPolicy) (position : Option Position)
-          → PositionAt unlocked s1.writer.tally.index (chain_if how (first_chunks chunk_length p.index out)) position
-          → GivesPosition how (IsSame p) position
-      same_given Kept (Some next) at = same_position next at
-      same_given Kept None at = absurd at
-      same_given Dropped position at = at
 
       -- the blocks before were not all passed over
       skip_stopped : (m : ReaderView) (fault : FileFault) (result : Result Done Stopped)
-          → EndsAs unlocked s1.writer.tally (Err fault) result → SkipFails block_length p.index s1.reader m fault
-          → ResumesKeyed keep Allows Refused p old (new m) result Skipping
-      skip_stopped m fault result (next, at, is) f =
-          let here = same_given keep next (subst (λ (c : Option (List ℕ)). PositionAt unlocked s1.writer.tally.index c next) g.4 at) in
-          let stops = skipped_fails m next fault here f in
-          subst (λ (r : Result Done Stopped). ResumesKeyed keep Allows Refused p old (new m) r Skipping) (sym is)
-          (stopped_with old (new m) (stop fault next) Skipping (inr (inr stops)) stops cb.copied.wrote.named)
+          → result ≡ Err (stop fault (Some p)) → SkipFails block_length p.index s1.reader m fault
+          → ResumesKeyed keep Allows Refused p old (new m) result None
+      skip_stopped m fault result is f =
+          subst (λ (r : Result Done Stopped). ResumesKeyed keep Allows Refused p old (new m) r None) (sym is)
+          (stopped_with old (new m) (stop fault (Some p)) (inr (inr (skipped_fails m fault f))) cb.copied.wrote.named)
 
       -- they were
       module _ (m : ReaderView) (passed : List ℕ) (size : length passed ≡ p.index * block_length) (passes : Passes s1.reader m passed) where
@@ -400,7 +383,7 @@ module _ (keep : PositionPolicy) (Allows : Header → List ℕ → Type 0) (Refu
 
         -- the whole run
         rest_ended : (s2 : Stage) (result : Result Done Stopped) → OpensPayload unlocked p.index before_rest s2 result
-            → ResumesKeyed keep Allows Refused p old (resume_ports (ports_at s2) l') result (InPayload unlocked.key)
+            → ResumesKeyed keep Allows Refused p old (resume_ports (ports_at s2) l') result (Some unlocked.key)
         rest_ended s2 result o =
             let q = o.decrypts in
             let r = run s old_bytes begins q in
@@ -417,24 +400,23 @@ module _ (keep : PositionPolicy) (Allows : Header → List ℕ → Type 0) (Refu
             let wrote = wrote_then cb.copied.wrote q.wrote in
             ended s old_bytes begins q (NeverEndTogether old (resume_ports (ports_at s2) l')) first.sink wrote.bytes (passes.unfailed ∙ s.unfailed) g.2
             (never_end s2.reader s2.writer.sink)
-            (λ e. ResumesKeyed keep Allows Refused p old (resume_ports (ports_at s2) l') e (InPayload unlocked.key))
+            (λ e. ResumesKeyed keep Allows Refused p old (resume_ports (ports_at s2) l') e (Some unlocked.key))
             (λ written d none settled. record {
               is = record { run = Some r; done = (from, g.1.unfailed, d, none); stopped = tt; settled = settled; named = wrote.named };
-              stands = refl;
+              found = refl;
               due = at;
             }) (λ stopped d. record {
               is = record { run = Some r; done = tt; stopped = (from, g.1.unfailed, d); settled = tt; named = wrote.named };
-              stands = refl;
+              found = refl;
               due = at;
             }) result o.ended
 
       -- they were, or not
-      pub rest_resumed : (s2 : Stage) (result : Result Done Stopped) (standing : Standing) → ResumesRest unlocked p.index s1 s2 result standing
-          → ResumesKeyed keep Allows Refused p old (resume_ports (ports_at s2) l') result standing
-      rest_resumed s2 result Before r = absurd r
-      rest_resumed s2 result Skipping r =
+      pub rest_resumed : (s2 : Stage) (result : Result Done Stopped) (key : Option (List ℕ)) → ResumesRest unlocked p s1 s2 result key
+          → ResumesKeyed keep Allows Refused p old (resume_ports (ports_at s2) l') result key
+      rest_resumed s2 result None r =
           subst (λ (w : WriterView). ResumesKeyed keep Allows Refused p old
-          (resume_ports (ports s2.reader.source w.sink) l') result Skipping) (sym r.same) (skip_stopped s2.reader r.fault result r.ended r.why)
-      rest_resumed s2 result (InPayload key) (given, r) =
+          (resume_ports (ports s2.reader.source w.sink) l') result None) (sym r.same) (skip_stopped s2.reader r.fault result r.ended r.why)
+      rest_resumed s2 result (Some key) (given, r) =
           subst (λ (k : List ℕ). ResumesKeyed keep Allows Refused p old (resume_ports (ports_at s2) l') result
-          (InPayload k)) (sym given) (rest_ended r.now r.passed r.size r.passes s2 result r.opened)
+          (Some k)) (sym given) (rest_ended r.now r.passed r.size r.passes s2 result r.opened)

@@ -268,20 +268,20 @@ module _ (one : OneHeader) {Allows : Header → List ℕ → Type 0} {Refused : 
   old_undamaged written copied w other f = absurd f.1
 
   -- the blocks before the position's are all there
-  skipped_undamaged : (keep : PositionPolicy) (stopped : Stopped) (s : StopsInSkipped Allows p old new keep stopped) (fault : FileFault)
+  skipped_undamaged : (stopped : Stopped) (s : StopsInSkipped Allows p old new stopped) (fault : FileFault)
       → InSkippedFails Allows p old new s.skipped fault → StopsOutside fault
-  skipped_undamaged keep stopped s (Stream x) f =
+  skipped_undamaged stopped s (Stream x) f =
       absurd (no_early_end one u.whole p.index u.below (own_authentic u.whole.key u.whole.nonce text u.whole.few u.closed p.index u.below)
       new.main.source.supply s.file s.skipped (opened_as one u.whole s.reads) s.short f.2)
-  skipped_undamaged keep stopped s Read f = tt
-  skipped_undamaged keep stopped s ReadNeverEnds f = tt
-  skipped_undamaged keep stopped s other f = absurd f
+  skipped_undamaged stopped s Read f = tt
+  skipped_undamaged stopped s ReadNeverEnds f = tt
+  skipped_undamaged stopped s other f = absurd f
 
   pub undamaged_rest : (keep : PositionPolicy) (run : Option Run) (stopped : Stopped) → ResumeStops Allows p old new keep Refused run stopped
       → StopsOutside stopped.fault
   undamaged_rest keep None stopped (inl f) = before_undamaged stopped.fault f.2
   undamaged_rest keep None stopped (inr (inl s)) = old_undamaged stopped.written s.copied s.writes stopped.fault s.why
-  undamaged_rest keep None stopped (inr (inr s)) = skipped_undamaged keep stopped s stopped.fault s.why
+  undamaged_rest keep None stopped (inr (inr s)) = skipped_undamaged stopped s stopped.fault s.why
   undamaged_rest keep (Some r) stopped f =
       payload_undamaged one u.whole u.closed (omega (arith, f.0.index, u.below)) (NeverEndTogether old new) stopped.fault f.2.is f.2.why
 

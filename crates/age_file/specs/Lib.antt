@@ -16,7 +16,7 @@ pub use Reports.{Inspects, InspectsFront, IsPlainOf, IsReport, stanza_report}
 unfoldable pub use Bindings.*
 pub use Resumes.{BeforeOldFails, BeginsWith, HasOpened, InOldFails, InSkippedFails, IsBoundTo, IsDigest}
 pub use Resumes.{IsFrom, IsOldText, IsSame, IsUndamagedRest, NeverEndTogether, NoPosition, ResumeEnds}
-pub use Resumes.{ResumePorts, ResumeStops, ResumesKeyed, ResumesText, StandsAt, StopsInOld, StopsInSkipped}
+pub use Resumes.{ResumePorts, ResumeStops, ResumesKeyed, ResumesText, StopsInOld, StopsInSkipped}
 pub use Resumes.{WritesOld, position_text, resume_ports}
 pub use Decrypts.{DecryptEnds, DecryptStops, DecryptsKeyed, FindsKey, InNonce, IsUndamagedFile, IsWhole}
 pub use Decrypts.{StartFails, StopsOutside, WritesText}
@@ -36,7 +36,5 @@ pub use Rattle.age_file.specs.declared.position.Position.{Position}
 pub use Rattle.age_file.specs.declared.position.PositionPolicy.{PositionPolicy}
 pub use Rattle.age_file.specs.declared.position.PositionPolicy.TheVariants.{Dropped, Kept}
 pub use Rattle.age_file.specs.declared.report.Report.{Report}
-pub use Rattle.age_file.specs.declared.standing.Standing.{Standing}
-pub use Rattle.age_file.specs.declared.standing.Standing.TheVariants.{Before, InPayload, Skipping}
 pub use Rattle.age_file.specs.declared.start.Unlocked.{Unlocked}
 pub use Rattle.age_file.specs.declared.tally.Tally.{Tally}

@@ -1,6 +1,6 @@
 -- What resuming at a position promises: from the text of the position to the end of the payload.
 use Rattle.std.specs.Prelude.{◌≡◌, ◌≢◌, ℕ, List, ◌++◌, length, codes, ◌*◌, ◌≤◌, take, Option, Some, ◌⊎◌, ◌/◌}
-use Rattle.std.specs.Prelude.{◌+◌, ◌<◌, None, true, Result, IfOk, IfErr, OnOk, IsSomeAnd, IfSome, Err}
+use Rattle.std.specs.Prelude.{◌+◌, ◌<◌, None, true, Result, IfOk, IfErr, OnOk, IsSomeAnd, IfSome}
 use Rattle.age_io.specs.Taken.{Appends}
 use Rattle.age_io.specs.Supply.{Supply}
 use Rattle.age_io.specs.{Consumes, IsAtEnd, SourceView}
@@ -20,14 +20,12 @@ use Rattle.age_fault.specs.declared.fault.FileFault.TheVariants.{PositionForged,
 use Rattle.age_file.specs.declared.position.Position.{Position}
 use Rattle.age_file.specs.Bindings.{position_front, chain_over, file_id}
 use Rattle.age_file.specs.Runs.{CarriesText, Ports, Run, HasId, HasTag, pull_room, IsByAllPulls, Reads}
-use Rattle.age_file.specs.Runs.{GivesPosition, WritesNone, StopsInPayload, IsDone, NoneFailed, ReadFailed}
+use Rattle.age_file.specs.Runs.{WritesNone, StopsInPayload, IsDone, NoneFailed, ReadFailed}
 use Rattle.age_file.specs.Runs.{WriteFailed, OpenedFile, IsTagged, IsPositionOf}
-use Rattle.age_file.specs.Decrypts.{StartFails, IsWhole}
+use Rattle.age_file.specs.Decrypts.{StartFails, IsWhole, FindsKey}
 use Rattle.age_file.specs.declared.position.PositionPolicy.{PositionPolicy}
 use Rattle.age_file.specs.declared.decryption.Done.{Done}
 use Rattle.age_file.specs.declared.decryption.Stopped.{Stopped}
-use Rattle.age_file.specs.declared.standing.Standing.{Standing}
-use Rattle.age_file.specs.declared.standing.Standing.TheVariants.{Before, Skipping, InPayload}
 
 -- ---- The text of a position. Not of the age format.
 
@@ -188,8 +186,8 @@ module _ (Allows : Header → List ℕ → Type 0) (p : Position) (old new : Res
   InSkippedFails skipped other = ⊥
 
   -- a stop in the blocks that are skipped has the old text written, and the position that the run
-  -- began from
-  pub record StopsInSkipped (keep : PositionPolicy) (stopped : Stopped) : Type 0 where
+  -- began from, whether positions are kept or dropped
+  pub record StopsInSkipped (stopped : Stopped) : Type 0 where
     pub file : OpenedFile
     pub skipped : List ℕ
     pub reads : Reads Allows old.main.source.supply new.main.source.supply file skipped
@@ -200,7 +198,7 @@ module _ (Allows : Header → List ℕ → Type 0) (p : Position) (old new : Res
     pub old_text : IsOldText p copied
     pub writes : WritesOld p old new stopped.written copied
     pub unfailed : new.old.failed ≡ old.old.failed
-    pub here : GivesPosition keep (IsSame p) stopped.position
+    pub here : IsSomeAnd stopped.position (IsSame p)
     pub why : InSkippedFails skipped stopped.fault
 
   -- a stop before the old text wrote nothing, and has no position
@@ -211,20 +209,10 @@ module _ (Allows : Header → List ℕ → Type 0) (p : Position) (old new : Res
   -- what it promises if it stopped: before the payload, which its run would name; or in it
   abbrev pub ResumeStops : PositionPolicy → (Header → KeyFault → Type 0) → Option Run → Stopped → Type 0
   ResumeStops keep Refused None stopped =
-      StopsBeforeOld Refused stopped ⊎ StopsInOld stopped ⊎ StopsInSkipped keep stopped
+      StopsBeforeOld Refused stopped ⊎ StopsInOld stopped ⊎ StopsInSkipped stopped
   ResumeStops keep Refused (Some r) stopped = IsFrom p old.old new.old r
       × (new.old.failed ≡ old.old.failed)
       × StopsInPayload keep Allows (NeverEndTogether old new) old.main new.main stopped r
-
-  -- where it stood at its end: without a position; in the blocks that are skipped; or in the
-  -- payload, by the key that opened the file
-  abbrev pub StandsAt : PositionPolicy → (Header → KeyFault → Type 0) → Option Run
-      → Result Done Stopped → Standing → Type 0
-  StandsAt keep Refused None (Err stopped) Before =
-      StopsBeforeOld Refused stopped ⊎ StopsInOld stopped
-  StandsAt keep Refused None (Err stopped) Skipping = StopsInSkipped keep stopped
-  StandsAt keep Refused (Some r) result (InPayload key) = key ≡ r.file.key
-  StandsAt keep Refused run result standing = ⊥
 
 -- ---- A file that is undamaged from a position on.
 
@@ -263,11 +251,11 @@ pub record ResumesText (keep : PositionPolicy) (Allows : Header → List ℕ →
   -- the sink keeps its label
   pub named : new.main.sink.label ≡ old.main.sink.label
 
--- what a resumed decryption promises that also says where it stood at its end
+-- what a resumed decryption promises that hands out the key as well
 pub record ResumesKeyed (keep : PositionPolicy) (Allows : Header → List ℕ → Type 0)
     (Refused : Header → KeyFault → Type 0) (p : Position) (old new : ResumePorts)
-    (result : Result Done Stopped) (standing : Standing) : Type 0 where
+    (result : Result Done Stopped) (key : Option (List ℕ)) : Type 0 where
   pub is : ResumesText keep Allows Refused p old new result
-  pub stands : StandsAt Allows p old new keep Refused is.run result standing
+  pub found : FindsKey is.run key
   -- if it came to its payload there is a position, whether it is kept or not
   pub due : IfSome is.run (λ r. (next : Position) × IsPositionOf r next)

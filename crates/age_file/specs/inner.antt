@@ -40,8 +40,6 @@ use Rattle.age_stream.specs.Segment.{Segment}
 use Rattle.age_cipher.specs.{sealing, opening}
 use Rattle.age_file.specs.declared.decryption.Done.{Done}
 use Rattle.age_file.specs.declared.decryption.Stopped.{Stopped}
-use Rattle.age_file.specs.declared.standing.Standing.{Standing}
-use Rattle.age_file.specs.declared.standing.Standing.TheVariants.{Skipping, InPayload}
 use Rattle.age_file.specs.Decrypts.{StartFails}
 use Rattle.age_file.specs.Encrypts.{SecretView}
 use Rattle.age_file.specs.declared.encryption.Written.{Written}
@@ -572,12 +570,16 @@ HasRoomAfter blocks at = (now : ReaderView) (passed : List ℕ) → length passe
     → Passes at.reader now passed → HasPlace (stage now at.writer)
 
 -- not all of the blocks were passed over, and nothing was written
-pub record StopsInBlocks (unlocked : Unlocked) (blocks : ℕ) (old new : Stage)
-    (result : Result Done Stopped) : Type 0 where
-  pub fault : FileFault
-  pub why : SkipFails block_length blocks old.reader new.reader fault
-  pub ended : EndsAs unlocked old.writer.tally (Err fault) result
-  pub same : new.writer ≡ old.writer
+pub record StopsInBlocks (p : Position) (old new : Stage) (result : Result Done Stopped) : Type 0
+  where
+    pub fault : FileFault
+    pub why : SkipFails block_length p.index old.reader new.reader fault
+    pub ended : result ≡ Err (record {
+      fault = fault;
+      written = old.writer.tally.written;
+      position = Some p;
+    })
+    pub same : new.writer ≡ old.writer
 
 -- they were, and the payload was opened from there on
 pub record OpensRest (unlocked : Unlocked) (blocks : ℕ) (old new : Stage)
@@ -588,13 +590,12 @@ pub record OpensRest (unlocked : Unlocked) (blocks : ℕ) (old new : Stage)
   pub passes : Passes old.reader now passed
   pub opened : OpensPayload unlocked blocks (stage now old.writer) new result
 
--- how it ended, and where it stood
-abbrev pub ResumesRest : Unlocked → ℕ → Stage → Stage → Result Done Stopped → Standing → Type 0
-ResumesRest unlocked blocks old new result Skipping =
-    StopsInBlocks unlocked blocks old new result
-ResumesRest unlocked blocks old new result (InPayload key) = (key ≡ unlocked.key)
-    × OpensRest unlocked blocks old new result
-ResumesRest unlocked blocks old new result other = ⊥
+-- how it ended, with the key if it came to the payload
+abbrev pub ResumesRest : Unlocked → Position → Stage → Stage → Result Done Stopped
+    → Option (List ℕ) → Type 0
+ResumesRest unlocked p old new result None = StopsInBlocks p old new result
+ResumesRest unlocked p old new result (Some key) = (key ≡ unlocked.key)
+    × OpensRest unlocked p.index old new result
 
 -- ---- Whether a position is a file's, and was made under its key.
 

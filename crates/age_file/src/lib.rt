@@ -28,7 +28,6 @@ mod report;
 mod resumption;
 mod sealing;
 mod secret;
-mod standing;
 mod start;
 mod tally;
 
@@ -46,4 +45,3 @@ pub use position::{Position, PositionPolicy};
 pub use report::{Report, StanzaReport, StanzaReports};
 pub use resumption::{resume, resume_keyed, resume_with};
 pub use secret::Secret;
-pub use standing::Standing;

@@ -9,11 +9,10 @@ ghost use Rattle.age_file.specs.{ports, resume_ports, ResumesText, ResumesKeyed}
 ghost use Rattle.age_file.specs.declared.position.PositionPolicy.TheVariants.{Kept};
 
 use crate::copy::copy_chunks;
-use crate::decryption::{Done, Stopped, ended, open_payload};
+use crate::decryption::{Done, Stopped, open_payload};
 use crate::intake::Intake;
 use crate::position::{Position, PositionPolicy, tag_of};
 use crate::reader::{Reader, Writer};
-use crate::standing::Standing;
 use crate::start::{Lent, Unlocked, skip_blocks, start};
 use crate::tally::Tally;
 use age_fault::FileFault;
@@ -88,15 +87,16 @@ fn copy_old<L: Source, O: Sink>(
     Ok(())
 }
 
-/// Skips the blocks of the old text, and decrypts the payload from there on.
+/// Skips the blocks of the old text, and decrypts the payload from there on. A stop in these blocks
+/// hands out the position itself; past them the key that opened the file is returned too.
 fn resume_rest<S: Source, O: Sink>(
     unlocked: &Unlocked,
     position: &Position,
     reader: &mut Reader<'_, S>,
     writer: &mut Writer<'_, O>,
-) -> (Result<Done, Stopped>, Standing)
+) -> (Result<Done, Stopped>, Option<KnownKey>)
     requires { HasRoomAfter position.now.index (stage_of S.view O.view reader.old writer.old) }
-    ensures resumes { ResumesRest unlocked.now position.now.index
+    ensures resumes { ResumesRest unlocked.now position.now
         (stage_of S.view O.view reader.old writer.old)
         (stage_of S.view O.view reader.new writer.new) result.0 result.1 }
     ensures same_reader { SameReader S.began reader.old reader.new }
@@ -105,13 +105,13 @@ fn resume_rest<S: Source, O: Sink>(
     match skip_blocks(reader, position.index) {
         Ok(()) => {}
         Err(fault) => {
-            let stopped = ended(Err(fault), unlocked, &writer.tally);
-            return (stopped, Standing::Skipping);
+            let stopped = Stopped::after(fault, &writer.tally, Some(*position));
+            return (Err(stopped), None);
         }
     }
     let result = open_payload(unlocked, position.index, reader, writer);
     let key = KnownKey::new(*unlocked.key.bytes());
-    (result, Standing::InPayload(key))
+    (result, Some(key))
 }
 
 /// Continues a decryption that stopped, and hands out the position of a stop: [`resume_with`], with
@@ -154,7 +154,8 @@ pub fn resume<U: Unlock, S: Source, L: Source, O: Sink>(
 /// that the position was made for; what was copied stays. `Truncated` (20), with its chunk, means
 /// that the source ends in the blocks that are skipped. Otherwise it stops as `decrypt_with` does.
 /// A position is handed out once the earlier output was found to be the position's, if positions
-/// are kept. All memory is taken before the payload nonce is read.
+/// are kept; of a stop in the blocks that are skipped it is `position`, kept or not. All memory is
+/// taken before the payload nonce is read.
 pub fn resume_with<U: Unlock, S: Source, L: Source, O: Sink>(
     alloc: Global,
     positions: PositionPolicy,
@@ -179,9 +180,9 @@ pub fn resume_with<U: Unlock, S: Source, L: Source, O: Sink>(
     .0
 }
 
-/// Resumes as [`resume_with`] does, and also returns where it stood at its end. By this
-/// [`position_after`](crate::position_after) can find a position that was dropped. What opens the
-/// file is dropped before the earlier output is copied.
+/// Resumes as [`resume_with`] does, and also returns the key that opened the file, if the payload
+/// was reached. By this key [`position_after`](crate::position_after) can read the file again. What
+/// opens the file is dropped before the earlier output is copied.
 pub fn resume_keyed<U: Unlock + Drop, S: Source, L: Source, O: Sink>(
     alloc: Global,
     positions: PositionPolicy,
@@ -190,7 +191,7 @@ pub fn resume_keyed<U: Unlock + Drop, S: Source, L: Source, O: Sink>(
     reader: &mut S,
     old_reader: &mut L,
     writer: &mut O,
-) -> (Result<Done, Stopped>, Standing)
+) -> (Result<Done, Stopped>, Option<KnownKey>)
     ensures resumes { ResumesKeyed positions (U.allows unlock) (U.refuses unlock) position.now
         (resume_ports (ports (S.view reader.old) (O.view writer.old)) (L.view old_reader.old))
         (resume_ports (ports (S.view reader.new) (O.view writer.new)) (L.view old_reader.new))
@@ -200,7 +201,7 @@ pub fn resume_keyed<U: Unlock + Drop, S: Source, L: Source, O: Sink>(
         → L.began old_reader.new from }
 {
     let (Ok(mut intake), Ok(old_intake)) = (Intake::new(alloc), Intake::new(alloc)) else {
-        return (Err(Stopped::early(FileFault::Memory)), Standing::Before);
+        return (Err(Stopped::early(FileFault::Memory)), None);
     };
     let mut reader = Reader {
         source: reader,
@@ -208,7 +209,7 @@ pub fn resume_keyed<U: Unlock + Drop, S: Source, L: Source, O: Sink>(
     };
     let unlocked = match start_for(alloc, unlock, position, &mut reader) {
         Ok(unlocked) => unlocked,
-        Err(fault) => return (Err(Stopped::early(fault)), Standing::Before),
+        Err(fault) => return (Err(Stopped::early(fault)), None),
     };
     let tally = Tally::new(PositionPolicy::Kept);
     let mut writer = Writer {
@@ -226,7 +227,7 @@ pub fn resume_keyed<U: Unlock + Drop, S: Source, L: Source, O: Sink>(
         Ok(()) => {}
         Err(fault) => {
             let stopped = Stopped::after(fault, &writer.tally, None);
-            return (Err(stopped), Standing::Before);
+            return (Err(stopped), None);
         }
     }
     resume_rest(&unlocked, position, &mut reader, &mut writer)

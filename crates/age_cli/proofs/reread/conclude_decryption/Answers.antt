@@ -10,13 +10,13 @@ pub returns-in-None-clause-concludes : goal.returns-in-None-clause-concludes
 returns-in-None-clause-concludes g c =
     let view = g.F.FileSet.view in
     let d = c.args.asked.now in
-    let did = c.args.decrypted in
+    let did = c.args.opened in
     let sink = g.F.Out.Sink.view c.args.out in
     let old = view c.args.files.now in
     let mid = view c.finish.new.self in
     let new = view c.conclude.new.files in
     let gave = reading_of d.from.now (g.F.In.Source.view did.source) in
-    not_again (λ settled. CameSince old new (Settled d.durability sink.taken.bytes settled)) d sink did.from did.end (again_of c.args.is_reread did.end did.key)
+    not_again (λ settled. CameSince old new (Settled d.durability sink.taken.bytes settled)) d sink c.args.from did.end (again_of c.args.is_reread did.end did.key)
     old new
     c.conclude.result c.again_of.result c.again_of.ensures c.in-None.is
     (concluded_once (option_text d.save) d.durability sink did.end old mid new c.conclude.result
@@ -28,7 +28,7 @@ pub returns-in-None-clause-over : goal.returns-in-None-clause-over
 returns-in-None-clause-over g c =
     let view = g.F.FileSet.view in
     let d = c.args.asked.now in
-    let did = c.args.decrypted in
+    let did = c.args.opened in
     let ended = c.conclude.ensures.concludes in
     let gave = Gave (reading_of d.from.now (g.F.In.Source.view did.source)) in
     let facts = concluded (option_text d.save) d.durability (g.F.Out.Sink.view c.args.out) ended.0 c.opening_end.result (view c.finish.new.self) (view c.conclude.new.files)

@@ -41,7 +41,7 @@ returns-clause-opened g c = λ begin later unread found.
     let is = c.finish.ensures.over r.old.now (once.ensures.old_began (Named r.old.now) c.requires.old) in
     let did = does_only first mid (Gave gave ∷ []) is (gave_puts gave) in
     let from = Some c.args.position.now in
-    let again = again_of c.can_reread-is_reread.result c.placed.result c.key_of.result in
+    let again = again_of c.can_reread-is_reread.result once.result.end once.result.key in
     let over = ended.ensures.over in
     let read = Gave (reading_of d.from.now (In once.result.source)) in
     let more = over.before ++ read ∷ over.later in
@@ -56,11 +56,10 @@ returns-clause-opened g c = λ begin later unread found.
     (record { unread = unread; size = g.F.FileSet.size c.args.old; found = found; over = later (Gave gave) came })
     (now ≡ was) (λ coming left r. ShowsReadings size coming left (shown was) (shown now) r)
     (λ silent. ended.ensures.silent silent ∙ once.ensures.silent silent) c.can_reread-is_reread.result
-    once.result.ended.0 once.result.ended.1
+    once.result.end once.result.key
     c.positions_at_first.result ended.result c.can_reread-is_reread.ensures c.positions_at_first.ensures.dropped c.positions_at_first.ensures.kept
     once.ensures.resumed
     (λ asked whole. shown_with size (In c.args.source).supply (In once.result.source).supply (shown was) (shown once.new.progress) (shown now) ended.result
     (once.ensures.shown asked) ended.ensures.whole ended.ensures.shown whole)
-    c.placed.result c.key_of.result c.placed.ensures c.key_of.ensures
-    (decryption_since d (Out once.new.out) from first mid last did (Out once.new.out).taken.bytes c.placed.result again ended.result
+    (decryption_since d (Out once.new.out) from first mid last did (Out once.new.out).taken.bytes once.result.end again ended.result
     ended.ensures.concludes)

@@ -1,7 +1,7 @@
 use Rattle.std.proofs.Common.{None, refl, rules, Err}
 use Rattle.age_fault.specs.declared.fault.FileFault.TheVariants.{Memory}
 use Rattle.age_file.specs.inner.{reader_view, stage, view_of_writer, stage_of}
-use Rattle.age_file.specs.{ports, resume_ports, ResumesKeyed, Before}
+use Rattle.age_file.specs.{ports, resume_ports, ResumesKeyed}
 use Rattle.age_file.proofs.{read_last, ports_last, stops_unread, place_after, stopped_early, refused, copy_stopped, rest_resumed}
 use Rattle.age_file.proofs.resumption.resume_keyed.Goals as goal
 
@@ -13,7 +13,7 @@ returns-in-Err-clause-resumes g c =
     let old = resume_ports (ports (g.S.Source.view c.args.reader.now) (g.O.Sink.view c.args.writer.now)) (g.L.Source.view c.args.old_reader.now) in
     rw c.early-in-Err.ensures (read_last g.S.Source.view (λ v. ResumesKeyed c.args.positions (g.U.Unlock.allows c.args.unlock)
     (g.U.Unlock.refuses c.args.unlock) c.args.position.now old (resume_ports (ports v old.main.sink) old.old)
-    (Err (record { fault = c.in-Err.fault; written = 0; position = None })) Before) _ c.start_for.new.reader.source.now (search rules)
+    (Err (record { fault = c.in-Err.fault; written = 0; position = None })) None) _ c.start_for.new.reader.source.now (search rules)
     (refused _ _ _ _ _ _ c.start_for.new.reader.intake.now _ refl refl c.in-Err.ensures.fails))
 
 pub returns-in-Err-copy_old-clause-resumes : goal.returns-in-Err-copy_old-clause-resumes
@@ -32,7 +32,7 @@ returns-in-Err-copy_old-clause-resumes g c =
       fault = c.in-Err-copy_old.fault;
       written = c.copy_old.new.writer.tally.written;
       position = None;
-    })) Before) _ c.start_for.new.reader.source.now _ c.copy_old.new.writer.sink.now (search rules) (search rules) stops)
+    })) None) _ c.start_for.new.reader.source.now _ c.copy_old.new.writer.sink.now (search rules) (search rules) stops)
 
 pub resume_rest-requires : goal.resume_rest-requires
 resume_rest-requires g c =
