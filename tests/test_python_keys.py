@@ -1,8 +1,11 @@
-"""Tries the keys of age-keygen in the Python module: files that it reads by them, and files that it writes for their recipients."""
+"""Tries the keys of age-keygen in the Python module: files that it reads by them, and files that it writes for their recipients; typed
+passphrases; and arguments of text."""
+import base64
 import contextlib
 import importlib.util
 import io
 import os
+import pickle
 import random
 import re
 import shutil
@@ -14,6 +17,7 @@ from tests import bindings, test_python
 from tests.bindings import PYTHON, BindingsCase, flipped
 from tests.case import needs
 from tests.test_python import AGE, fault_of
+from tools import terminal
 
 HAS_CRYPTOGRAPHY = importlib.util.find_spec("cryptography") is not None
 needs_cryptography = unittest.skipUnless(HAS_CRYPTOGRAPHY, "needs cryptography")
@@ -139,6 +143,70 @@ class KeysTest(BindingsCase):
             got = agefile.open(io.BytesIO(data), identity=keys[0]).read()
         self.see(f"{looked[0]} bytes of a header of {len(data)} are looked at", got == b"text" and looked[0] < 7 * len(data))
         self.see("its stanzas", [it.type for it in agefile.inspect(io.BytesIO(data)).stanzas] == ["X25519"] * 10_001)
+
+    def test_many_tries(self):
+        """A stranger's header costs a bounded number of tries, which without cryptography are processes; then a fault says so."""
+        key, other = (agefile.identities_in((AGE / name).read_text()) for name in ("key.txt", "other.txt"))
+        stanza = b"-> X25519 " + base64.b64encode(bytes([9]) + bytes(31)).rstrip(b"=") + b"\n" + b"A" * 43 + b"\n"
+        mac, nonce = b"--- " + b"A" * 43 + b"\n", bytes(16)
+        of_age = (AGE / "one.age").read_bytes().split(b"\n")[1:3]
+        tries = []
+
+        def x25519_of(secret):
+            return lambda point: tries.append(point) or real(secret)(point)
+
+        real = agefile._keys.x25519_of
+        for what, most, name in (("openssl", 64, "TRIES_BY_OPENSSL"), ("cryptography", 100, "TRIES")):
+            limits = {"TRIES": 100, "_most_tries": lambda name=name: getattr(agefile._keys, name)}
+            with unittest.mock.patch.multiple(agefile._keys, x25519_of=x25519_of, **limits):
+                tries.clear()
+                fault = fault_of(agefile.open, io.BytesIO(b"age-encryption.org/v1\n" + stanza * 500 + mac + nonce), identity=key + other)
+                self.see(f"{what}: {len(tries)} tries", len(tries) <= most + 2 and type(fault) is agefile.TooManyStanzas, fault)
+                self.see(f"{what}: what is said", fault.number == 13 and f"{most} pairs" in str(fault) and "13 WrongKey" in str(fault), fault)
+                self.see("a fault that is pickled", str(pickle.loads(pickle.dumps(fault))) == str(fault))
+                front = b"age-encryption.org/v1\n" + stanza * (most - 1) + b"\n".join(of_age) + b"\n" + mac + nonce
+                fault = fault_of(agefile.open, io.BytesIO(front), identity=key)
+                self.see(f"{what}: the last stanza that is tried opens, and its header was altered", getattr(fault, "number", 0) == 14, fault)
+
+    def test_text_that_cannot_be(self):
+        """An encoding or a newline that there is none of is noticed before the file is touched; a byte order mark is written and read."""
+        for more, kind in (({"encoding": "nonsense"}, LookupError), ({"newline": "zz"}, ValueError)):
+            for mode in ("wt", "xt", "rt"):
+                self.write("kept.age", b"as it was")
+                fault = fault_of(agefile.open, self.path("kept.age"), mode, passphrase="pw", **more)
+                self.see(f"{more}, {mode}", isinstance(fault, kind) and self.read("kept.age") == b"as it was", fault)
+        for encoding in ("utf-16", "UTF32", "utf-16-le", "utf-8-sig", "utf-8"):
+            with agefile.open(self.path("text.age"), "wt", passphrase="pw", work=1, encoding=encoding) as file:
+                file.write("täxt\n")
+            got = agefile.decrypt(self.read("text.age"), passphrase="pw")
+            self.see(f"text in {encoding}", got == "täxt\n".encode(encoding), got)
+            with agefile.open(self.path("text.age"), "rt", passphrase="pw", encoding=encoding) as file:
+                self.see(f"text in {encoding}, read", file.read() == "täxt\n")
+
+    def typed(self, *words, answers):
+        """The status of `python3 -m agefile` at a terminal of its own, and what is seen there, if one of these answers is typed to each
+        question."""
+        env = {"PYTHONPATH": str(PYTHON), "PYTHONDONTWRITEBYTECODE": "1"}
+        child, tty = terminal.start(["env", "-C", str(self.room), sys.executable, "-m", "agefile", *words], env)
+        seen = b""
+        for answer in answers:
+            seen += terminal.output(tty, b": ", 10)
+            os.write(tty, answer.encode() + b"\n")
+        seen += terminal.output(tty, None, 10)
+        os.close(tty)
+        return os.waitstatus_to_exitcode(os.waitpid(child, 0)[1]), seen
+
+    def test_typed_passphrase(self):
+        """encrypt asks twice, and refuses answers that differ; decrypt asks once. Nothing that is typed is shown."""
+        self.write("plain", b"text")
+        status, seen = self.typed("encrypt", "--log", "1", "plain", "typed.age", answers=("secret one", "secret two"))
+        self.see("another word the second time", status == 1 and b"the passphrases differ" in seen and not self.is_there("typed.age"), seen)
+        status, seen = self.typed("encrypt", "--log", "1", "plain", "typed.age", answers=("secret one", "secret one"))
+        self.see("the same word twice", status == 0 and b"secret" not in seen, seen)
+        self.write("word", b"secret one")
+        self.see("what was typed", self.judged(self.read("typed.age"), "word") == ((0, None), b"text"))
+        status, seen = self.typed("decrypt", "typed.age", "back", answers=("secret one",))
+        self.see("decrypt", status == 0 and b"secret" not in seen and self.read("back") == b"text", seen)
 
     @needs("age", "age-keygen")
     def test_files_of_age(self):

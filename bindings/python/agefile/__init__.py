@@ -57,6 +57,7 @@ instance, stay in memory.
 from __future__ import annotations
 
 import builtins
+import codecs
 import contextlib
 import io
 import os
@@ -67,7 +68,7 @@ from ._arguments import see_one, work_factor
 from ._file import AgeFile
 from ._inspection import Inspection, Stanza, inspect
 from ._keys import identities_in, identities_of
-from ._library import VERSION, AgeError, Damaged, OutOfMemory, Truncated, WrongKey
+from ._library import VERSION, AgeError, Damaged, OutOfMemory, TooManyStanzas, Truncated, WrongKey
 from ._memory import decrypt, encrypt
 from ._reader import AgeReader, opening_of
 from ._recipients import beginning_of
@@ -75,11 +76,11 @@ from ._salvage import Salvage, salvage
 from ._writer import AgeWriter
 
 __all__ = ["open", "encrypt", "decrypt", "inspect", "Inspection", "Stanza", "salvage", "Salvage", "identities_in", "AgeError", "WrongKey",
-           "Truncated", "Damaged", "OutOfMemory", "AgeReader", "AgeFile", "AgeWriter"]
+           "TooManyStanzas", "Truncated", "Damaged", "OutOfMemory", "AgeReader", "AgeFile", "AgeWriter"]
 __version__ = f"{VERSION // 10_000}.{VERSION // 100 % 100}.{VERSION % 100}"
 
-for _it in (encrypt, decrypt, inspect, Inspection, Stanza, salvage, Salvage, identities_in, AgeError, WrongKey, Truncated, Damaged,
-            OutOfMemory, AgeReader, AgeFile, AgeWriter):
+for _it in (encrypt, decrypt, inspect, Inspection, Stanza, salvage, Salvage, identities_in, AgeError, WrongKey, TooManyStanzas,
+            Truncated, Damaged, OutOfMemory, AgeReader, AgeFile, AgeWriter):
     _it.__module__ = __name__
 
 Path = Union[str, bytes, "os.PathLike[str]", "os.PathLike[bytes]"]
@@ -97,6 +98,10 @@ class Sink(Protocol):
 
     def write(self, data: bytes, /) -> int | None:
         ...
+
+
+# What io.TextIOWrapper leaves out where it can't seek, and wants when it reads.
+_MARKS = {"utf-16": codecs.BOM_UTF16, "utf-32": codecs.BOM_UTF32}
 
 
 class _Text(io.TextIOWrapper):
@@ -235,6 +240,8 @@ def open(file: Path | Source | Sink, mode: str = "rb", *, passphrase: str | byte
         raise ValueError(f"mode is rb, wb, xb, rt, wt or xt, not {mode!r}")
     if not mode.endswith("t") and (encoding, errors, newline) != (None, None, None):
         raise ValueError("encoding, errors and newline are for text alone")
+    if mode.endswith("t"):
+        io.TextIOWrapper(io.BytesIO(), encoding, errors, newline)  # which says what of these can't be
     if mode[0] != "r" and random_access:
         raise ValueError("random_access is for reading alone")
     if mode[0] == "r" and recipient is not None:
@@ -257,6 +264,8 @@ def open(file: Path | Source | Sink, mode: str = "rb", *, passphrase: str | byte
             made = kind(under, passphrase, file_key, shared, max_work, owned, identity)
         else:
             made = AgeWriter(under, beginning, owned)
+            if encoding is not None:
+                made.write(_MARKS.get(codecs.lookup(encoding).name, b""))
         return _Text(made, encoding, errors, newline) if mode.endswith("t") else made
     except BaseException:
         if owned:

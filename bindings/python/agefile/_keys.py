@@ -8,12 +8,15 @@ import subprocess
 from collections.abc import Callable, Iterable, Iterator
 from typing import Tuple
 
-from ._library import Bytes, C, Opened, ReaderState
+from ._library import Bytes, C, Opened, ReaderState, TooManyStanzas
 from ._stanzas import base64_of, told_of
 
 Pair = Tuple[bytes, bytes]  # a shared secret, and the recipient that it is for
 
 WRONG_KEY = 13
+# How many pairs of a key and a stanza are tried: about a second. A header has room for 10,480 such stanzas, so one key is tried on each.
+TRIES = 16_384
+TRIES_BY_OPENSSL = 64  # each of which takes a process
 NOTHING = bytes([1]) * 32, bytes(32)
 NINE = bytes([9]) + bytes(31)  # the point whose X25519 with a secret is the recipient, or the share
 LETTERS = "qpzry9x8gf2tvdw0s3jn54khce6mua7l"
@@ -134,14 +137,26 @@ def by_openssl(secret: bytes, point: bytes) -> bytes:
     raise OSError(f"openssl: {run.stderr.decode(errors='replace').strip()}")
 
 
+def _most_tries() -> int:
+    try:
+        import cryptography  # noqa: F401
+    except ImportError:
+        return TRIES_BY_OPENSSL
+    return TRIES
+
+
 def _pairs(identities: Iterable[str], front: bytes) -> Iterator[tuple[Pair, bytes]]:
     """The shared secret and the recipient of each X25519 stanza of a header, for each key, and a header of that stanza alone."""
+    count, most = 0, _most_tries()
     found = [(base64.b64decode(args[len(KIND):] + b"="), b"age-encryption.org/v1\n-> %b\n%b\n--- %b\n%b" % (args, base64_of(body), b"A" * 43, bytes(16)))
              for args, body in told_of(front).stanzas if args.startswith(KIND)]
     for identity in identities:
         exchanged = x25519_of(secret_of(identity))
         recipient = exchanged(NINE)
         for share, alone in found:
+            if count == most:
+                raise TooManyStanzas(most)
+            count += 1
             yield (exchanged(share), recipient), alone
 
 

@@ -38,6 +38,18 @@ class WrongKey(AgeError):
     """The key isn't the file's: another passphrase or secret (13), another file key (14), or another kind of key (12)."""
 
 
+class TooManyStanzas(WrongKey):
+    """None of the first `tries` pairs of an identity and an X25519 stanza opens the file (13), and there are more. They aren't tried, since
+    a stranger's header may have ten thousand. Without the package cryptography each pair starts a process, and fewer are."""
+
+    def __init__(self, tries: int) -> None:
+        super().__init__(13)
+        self.args, self.tries = (tries,), tries
+
+    def __str__(self) -> str:
+        return f"the file has too many X25519 stanzas: none of the {self.tries:,} pairs of a key and a stanza that were tried opens it ({self.number} {self.name})"
+
+
 class Truncated(AgeError):
     """The file ends too early: in its header (254), before a chunk (20), or in the first bytes of one (18). Most files that were cut end
     later in a chunk. That can't be told from damage: it is Damaged."""
