@@ -509,9 +509,7 @@ class PythonFilesTest(BindingsCase):
                 file.close()
                 file.close()
                 for it in files:
-                    names = ["tell", "flush", "read" if mode[0] == "r" else "writable", "readable" if mode[0] == "r" else "writable"]
-                    names += ["seekable"] if mode[0] == "r" else []
-                    for name in names:
+                    for name in ("tell", "flush", "readable", "writable", "seekable", *(["read"] if mode[0] == "r" else [])):
                         self.see(f"{name} of a closed {type(it).__name__}, {mode}", raised(ValueError, getattr(it, name)))
         under = io.BytesIO(data)
         with agefile.open(under, file_key=KEY) as file:

@@ -7,6 +7,7 @@ import (
 	"math/rand"
 	"sync"
 	"testing"
+	"testing/iotest"
 )
 
 // ownFiles writes and reads files of its own, in each way: what is wrong.
@@ -69,6 +70,38 @@ func TestFilesOfTheirOwn(t *testing.T) {
 	for _, err := range faults {
 		if err != nil {
 			t.Error(err)
+		}
+	}
+}
+
+// testing/iotest's rules for readers, over sources that return in each way that io.Reader allows.
+func TestIotest(t *testing.T) {
+	for _, n := range lengths {
+		text := textOf(n)
+		data := sealed(t, text)
+		for name, wrap := range map[string]func(io.Reader) io.Reader{
+			"plain": func(r io.Reader) io.Reader { return r }, "half": iotest.HalfReader, "dataerr": iotest.DataErrReader,
+			"one": iotest.OneByteReader, "timeout": iotest.TimeoutReader,
+		} {
+			r, err := Open(wrap(bytes.NewReader(data)), pw())
+			if name == "timeout" {
+				if err == nil {
+					_, err = io.ReadAll(r)
+				}
+				if n > 65_536 && err != iotest.ErrTimeout {
+					t.Errorf("%d bytes: %v", n, err)
+				}
+				continue
+			}
+			if err != nil {
+				t.Fatal(err)
+			}
+			if err := iotest.TestReader(r, text); err != nil {
+				t.Errorf("%d bytes, %s: %v", n, name, err)
+			}
+		}
+		if err := iotest.TestReader(opened(t, data), text); err != nil {
+			t.Errorf("a File of %d bytes: %v", n, err)
 		}
 	}
 }

@@ -353,7 +353,7 @@ class AgeReader(Buffered):
         self._see_open()
         return self._can_seek
 
-    def seek(self, offset: int, whence: int = io.SEEK_SET, /) -> int:
+    def seek(self, offset: int, whence: int = io.SEEK_SET) -> int:
         """Reads on to that place, or from the beginning if it lies before. Nothing is skipped unchecked. A place after the end is the
         end. A seek that fails leaves the file where it stood."""
         if whence not in (io.SEEK_SET, io.SEEK_CUR, io.SEEK_END):
@@ -405,6 +405,10 @@ class AgeReader(Buffered):
     def readable(self) -> bool:
         self._see_open()
         return True
+
+    def writable(self) -> bool:
+        self._see_open()
+        return False
 
     @property
     def name(self) -> Any:

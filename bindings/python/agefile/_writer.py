@@ -85,6 +85,12 @@ class AgeWriter(Buffered):
         self._see_open()
         return True
 
+    def readable(self) -> bool:
+        self._see_open()
+        return False
+
+    seekable = readable
+
     @property
     def name(self) -> Any:
         """The name of the file that is written, if it has one."""
