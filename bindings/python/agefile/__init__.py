@@ -48,6 +48,9 @@ even after an exception: what was written until then is a whole file. A write th
 interrupts makes the file one that can't be finished. What is written to gets bytes, and may keep
 them. A forked child can't go on with its parent's file.
 
+Decryptor and Encryptor take bytes that come by themselves, as in an asynchronous server, and need no
+file.
+
 A file object that you pass in is left open. Threads may share a file; calls are serialized. Two
 files share nothing, so threads with files of their own need no lock. Text
 ("rt", "wt") is for one thread at a time, as io.TextIOWrapper is. close() overwrites the key and the
@@ -70,17 +73,18 @@ from ._inspection import Inspection, Stanza, inspect
 from ._keys import identities_in, identities_of
 from ._library import VERSION, AgeError, Damaged, OutOfMemory, TooManyStanzas, Truncated, WrongKey
 from ._memory import decrypt, encrypt
+from ._push import Decryptor, Encryptor
 from ._reader import AgeReader, opening_of
 from ._recipients import beginning_of
 from ._salvage import Salvage, salvage
 from ._writer import AgeWriter
 
 __all__ = ["open", "encrypt", "decrypt", "inspect", "Inspection", "Stanza", "salvage", "Salvage", "identities_in", "AgeError", "WrongKey",
-           "TooManyStanzas", "Truncated", "Damaged", "OutOfMemory", "AgeReader", "AgeFile", "AgeWriter"]
+           "TooManyStanzas", "Truncated", "Damaged", "OutOfMemory", "AgeReader", "AgeFile", "AgeWriter", "Decryptor", "Encryptor"]
 __version__ = f"{VERSION // 10_000}.{VERSION // 100 % 100}.{VERSION % 100}"
 
 for _it in (encrypt, decrypt, inspect, Inspection, Stanza, salvage, Salvage, identities_in, AgeError, WrongKey, TooManyStanzas,
-            Truncated, Damaged, OutOfMemory, AgeReader, AgeFile, AgeWriter):
+            Truncated, Damaged, OutOfMemory, AgeReader, AgeFile, AgeWriter, Decryptor, Encryptor):
     _it.__module__ = __name__
 
 Path = Union[str, bytes, "os.PathLike[str]", "os.PathLike[bytes]"]

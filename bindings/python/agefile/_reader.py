@@ -40,7 +40,7 @@ def header_of(file: Any, opened: Opened, by_key: bool, state: ReaderState) -> by
         seen = len(front)
         piece = _some(file, min(CHUNK, FRONT_MAX - seen))
         front += piece
-        if not piece or _may_open(front, seen):
+        if not piece or may_open(front, seen):
             answer = opened(front, state)
             if answer != 0 and (answer != MORE or not piece):
                 raise WrongKey(answer) if by_key and answer == 14 else fault_of(answer)
@@ -54,7 +54,7 @@ def _some(file: Any, most: int) -> Any:
     return (checked(read1(most), most) if read1 is not None else None) or some(file, most)
 
 
-def _may_open(front: bytearray, seen: int) -> bool:
+def may_open(front: bytearray, seen: int) -> bool:
     """Whether the header is worth a try, now that there are more than this many bytes."""
     answer: int = C.age_c_may_open(ctypes.addressof(ctypes.c_uint8.from_buffer(front)), len(front), seen)
     return answer == 0

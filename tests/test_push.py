@@ -1,0 +1,191 @@
+"""Tries what decrypts and encrypts bytes that come by themselves, in Python: the same faults and text as a reader finds, whatever the pieces
+are; calls after a fault, an interruption, a fork; two threads on one object; and the handler in bindings/README.md."""
+import copy
+import importlib.util
+import io
+import os
+import pathlib
+import random
+import subprocess
+import sys
+
+from tests import bindings
+from tests.bindings import LENGTHS, PYTHON, BindingsCase, plain_of, raised
+from tests.test_bindings import sample_of
+from tests.test_python_files import interrupted_at, together
+from tools.workspace import LIBRARY
+
+FILES = 300
+# What the handler is tried with: a server, and what it answers to a whole file and to a cut one.
+SERVED = """
+import aiohttp, asyncio, sys
+
+async def main():
+    runner = web.AppRunner(app)
+    await runner.setup()
+    site = web.TCPSite(runner, "127.0.0.1", 0)
+    await site.start()
+    place = f"http://127.0.0.1:{site._server.sockets[0].getsockname()[1]}"
+    data = open("notes.age", "rb").read()
+    async def pieces(end):
+        for at in range(0, end, 30_000):
+            yield data[at:min(at + 30_000, end)]
+    async with aiohttp.ClientSession() as session:
+        for end in (len(data), len(data) - 1):
+            async with session.post(place + "/decrypt", data=pieces(end)) as answer:
+                print(answer.status)
+        async with session.post(place + "/encrypt", data=b"a text of mine" * 10_000) as answer:
+            open("sent.age", "wb").write(await answer.read())
+    await runner.cleanup()
+
+asyncio.run(main())
+"""
+
+
+def setUpModule():
+    global agefile
+    agefile = bindings.module()
+
+
+def sealed(text):
+    return agefile.encrypt(text, passphrase="pw", work=1)
+
+
+def pushed(rnd, data, most):
+    """The fault and the text of a file that comes in random pieces, and whether a later call says the same again."""
+    it, text, at = agefile.Decryptor(passphrase="pw"), b"", 0
+    try:
+        while at < len(data):
+            size = 1 if at < 200 and most == 1_000 else rnd.randrange(1, most)
+            text += it.update(memoryview(data)[at:at + size])
+            at += size
+        return None, text + it.finish(), True
+    except agefile.AgeError as fault:
+        try:
+            it.finish()
+        except agefile.AgeError as again:
+            return (fault.number, fault.place), text, again.args == fault.args
+        return fault, text, False
+
+
+def read(data):
+    """The same by a reader."""
+    text = b""
+    try:
+        with agefile.open(io.BytesIO(data), passphrase="pw") as file:
+            while piece := file.read1():
+                text += piece
+    except agefile.AgeError as fault:
+        return (fault.number, fault.place), text, True
+    return None, text, True
+
+
+def changed(rnd, data):
+    """A file that was cut, damaged, lengthened or left as it is."""
+    held, how = bytearray(data), rnd.randrange(4)
+    if how == 1:
+        del held[rnd.randrange(len(held)):]
+    elif how == 2:
+        held[rnd.randrange(len(held))] ^= 1
+    elif how == 3:
+        held += b"x" * rnd.choice([1, 70_000])
+    return bytes(held)
+
+
+def encrypted(text, size):
+    file = agefile.Encryptor(passphrase="pw", work=1)
+    return b"".join([file.update(text[at:at + size]) for at in range(0, len(text), size)] + [file.finish()])
+
+
+class PushTest(BindingsCase):
+    def test_as_a_reader(self):
+        seed = int(os.environ.get("AGE_SEED") or random.randrange(1 << 30))
+        rnd, whole = random.Random(seed), {it: sealed(plain_of(it)) for it in LENGTHS}
+        for turn in range(FILES):
+            data = changed(rnd, whole[rnd.choice(LENGTHS)])
+            want, got = read(data), pushed(rnd, data, rnd.choice([1_000, 70_000, 300_000]))
+            if got != want:
+                self.see(f"seed {seed}, file {turn}: {got[0]}, not {want[0]}", False, len(got[1]), len(want[1]), got[2])
+        for length in LENGTHS:
+            self.see(f"{length} bytes", pushed(rnd, whole[length], 70_000) == (None, plain_of(length), True))
+        self.see("no bytes", read(b"") == pushed(rnd, b"", 7))
+
+    def test_headers(self):
+        data = sealed(b"text")
+        it = agefile.Decryptor(passphrase="pw")
+        self.see("before the header is there", it.update(b"") == it.update(data[:100]) == b"" and not it.opened)
+        self.see("once it is", it.update(data[100:]) == b"" and it.opened and it.finish() == b"text")
+        self.see("after the end", raised(ValueError, it.finish) and raised(ValueError, it.update, b""))
+        self.see("another passphrase", raised(agefile.WrongKey, agefile.Decryptor(passphrase="other").update, data))
+        self.see("what is no age file", raised(agefile.AgeError, agefile.Decryptor(passphrase="pw").update, b"x\n"))
+        self.see("no bytes of it", raised(TypeError, agefile.Decryptor(passphrase="pw").update, "text"))
+        endless = agefile.Decryptor(passphrase="pw")
+        endless.update(b"age-encryption.org/v1\n")
+        self.see("a header without an end", raised(agefile.Damaged, lambda: [endless.update(b"-> x\n" * 20_000) for _ in range(40)]))
+
+    def test_encryptor(self):
+        for length in LENGTHS:
+            for size in (7_000, 65_536, 300_000):
+                text = plain_of(length)
+                self.see(f"{length} bytes in pieces of {size}", self.judged(encrypted(text, size)) == ((0, None), text))
+        file = agefile.Encryptor(passphrase="pw", work=1)
+        begin = file.update(b"text")
+        self.see("the header comes first", begin.startswith(b"age-encryption.org/v1\n"))
+        self.see("what is no bytes", raised(TypeError, file.update, "text"))
+        child = os.fork()
+        if child == 0:
+            os._exit(0 if raised(ValueError, file.update, b"text") and raised(ValueError, file.finish) else 1)
+        self.see("a forked child", os.waitpid(child, 0)[1] == 0)
+        self.see("after that", self.judged(begin + file.finish()) == ((0, None), b"text"))
+        self.see("after the end", raised(ValueError, file.update, b"x") and raised(ValueError, file.finish))
+        self.see("copies", raised(TypeError, copy.copy, file) and raised(TypeError, copy.deepcopy, agefile.Decryptor(passphrase="pw")))
+
+    def test_interrupted(self):
+        """An exception at each place where Python runs a signal's handler, and the same call again: it is refused, or the result is right."""
+        package, text = str(PYTHON / "agefile"), plain_of(200_000)
+        data = sealed(text)
+        for made, given, right in (
+            (lambda: agefile.Decryptor(passphrase="pw"), data, lambda got: got == text),
+            (lambda: agefile.Encryptor(passphrase="pw", work=1), text, lambda got: agefile.decrypt(got, passphrase="pw") == text),
+        ):
+            turn, wrong = 0, []
+            while turn < 200:
+                it = made()
+                begin = it.update(given[:100_000])
+                if not interrupted_at(turn, package, lambda: it.update(given[100_000:])):
+                    break
+                try:
+                    wrong += [] if right(begin + it.update(given[100_000:]) + it.finish()) else [turn]
+                except (OSError, ValueError):
+                    pass
+                turn += 1
+            self.see(f"{type(it).__name__}: {turn} interruptions", wrong == [] and turn > 10, wrong)
+
+    def test_two_threads(self):
+        """Calls of two threads on one object are whole."""
+        file, pieces = agefile.Encryptor(passphrase="pw", work=1), []
+        faults = together([lambda it=it: [pieces.append(file.update(bytes([it]) * 1_000)) for _ in range(200)] for it in (1, 2)])
+        made = b"".join(pieces) + file.finish()
+        try:
+            text = agefile.decrypt(made, passphrase="pw")
+            self.see("one text", faults == [] and {text[at:at + 1_000] for at in range(0, len(text), 1_000)} == {b"\1" * 1_000, b"\2" * 1_000})
+        except agefile.AgeError as fault:  # the threads may have taken turns with what they got
+            self.see("pieces in another order", fault.number == 17, fault)
+
+    def test_handler(self):
+        """The handler in bindings/README.md, by a Python that has aiohttp."""
+        found = "import importlib.util; raise SystemExit(importlib.util.find_spec('aiohttp') is None)"
+        python = next((it for it in (sys.executable, "/usr/bin/python3") if pathlib.Path(it).exists() and subprocess.run([it, "-c", found]).returncode == 0), None)
+        if python is None:
+            self.skipTest("needs aiohttp")
+        text = plain_of(200_000)
+        self.write("in", text)
+        self.write("horse", b"correct horse")
+        self.tool(*"encrypt --pass horse --log 1 --no-sync in notes.age".split(), check=True)
+        self.path("served.py").write_text(sample_of("python", 3) + SERVED)
+        env = {**os.environ, "PYTHONPATH": str(PYTHON), "PYTHONDONTWRITEBYTECODE": "1", "AGE_C_LIBRARY": str(LIBRARY / "libage_c.so")}
+        run = subprocess.run([python, "served.py"], cwd=self.room, env=env, capture_output=True, text=True, timeout=120)
+        self.see("a whole upload, and a cut one", run.returncode == 0 and run.stdout == "200\n400\n", run.stdout, run.stderr[-2000:])
+        self.see("what was restored", self.read("restored") == text[:196_608])
+        run = self.tool(*"decrypt --pass horse --no-sync sent.age sent".split())
+        self.see("what was sent", run.returncode == 0 and self.read("sent") == b"a text of mine" * 10_000, run.stderr)
