@@ -509,11 +509,17 @@ class LanguagesTest(ProgramsCase):
         pkg-config finds."""
         program, user = self.path("decrypt-go"), self.path("user")
         user.mkdir()
+        # (Go takes no folder whose name has a space, neither from a go.mod nor from pkg-config)
+        found = (LIBRARY / "pkgconfig" / "age_c.pc").read_text()
+        for name, folder in (("module", TOP / "bindings" / "go"), ("library", LIBRARY), ("include", TOP / "include")):
+            self.path(name).symlink_to(folder)
+            found = found.replace(str(folder).replace(" ", "\\ "), str(self.path(name)))
+        self.write("age_c.pc", found.encode())
         (user / "go.mod").write_text(
-            f"module user\n\ngo 1.19\n\nrequire kudebafon.example/agefile v0.0.0\n\nreplace kudebafon.example/agefile => {TOP / 'bindings' / 'go'}\n")
+            "module user\n\ngo 1.19\n\nrequire kudebafon.example/agefile v0.0.0\n\nreplace kudebafon.example/agefile => ../module\n")
         (user / "main.go").write_text(sample_of("go"))
         env = {
-            "GOCACHE": str(LIBRARY / "gocache"), "GOPROXY": "off", "GOFLAGS": "-buildvcs=false", "PKG_CONFIG_PATH": str(LIBRARY / "pkgconfig"),
+            "GOCACHE": str(LIBRARY / "gocache"), "GOPROXY": "off", "GOFLAGS": "-buildvcs=false", "PKG_CONFIG_PATH": str(self.room),
             "LD_LIBRARY_PATH": str(LIBRARY),
         }
         commands = [

@@ -32,7 +32,7 @@ class CompletionsTest(Case):
     def in_zsh(self, typed):
         """It shows its completions at a terminal alone."""
         child, tty = terminal.start(["env", "-C", str(FOLDER), "zsh", "-f", "-i"], {"TERM": "dumb"})
-        begin = f"PS1='% '; fpath=({FOLDER} $fpath); autoload -Uz compinit; compinit -u -D; LISTMAX=1000; bindkey '^I' list-choices; echo rea''dy\n"
+        begin = f"PS1='% '; fpath=('{FOLDER}' $fpath); autoload -Uz compinit; compinit -u -D; LISTMAX=1000; bindkey '^I' list-choices; echo rea''dy\n"
         os.write(tty, begin.encode())
         terminal.output(tty, b"ready\r\n", 10)
         os.write(tty, typed.encode() + b"\t")

@@ -63,15 +63,6 @@ with agefile.open("a", passphrase="pw", random_access=True) as at, at.reopen(ope
         archive.read("name")
 """
 
-# What release/packages takes of a release, beside the module.
-RELEASED = (
-    "bin/age_tool", "lib/libage_c.so.0", "lib/libage_c.a", "include/age_c.h", "share/man/man1/age_tool.1",
-    "share/man/man7/age_tool-faults.7", "share/age_tool/decrypt.c",
-    "share/age_tool/salvage.c",
-    "share/bash-completion/completions/age_tool", "share/zsh/site-functions/_age_tool", "share/fish/vendor_completions.d/age_tool.fish",
-    "share/doc/age_tool/CHANGELOG.md", "share/doc/age_tool/docs/LIBRARY.md", "lib/pkgconfig/age_c.pc", "lib/cmake/age_c/age_cConfig.cmake",
-)
-
 
 def setUpModule():
     global agefile
@@ -498,35 +489,6 @@ class PythonTest(BindingsCase):
         key = shutil.copy(AGE / "key.txt", self.path("key.txt"))
         run = self.command("salvage", "--identity", key, AGE / "one.age", "out")
         self.see("salvage by a key", run.returncode == 0 and self.path("out").read_bytes() == b"hello, recipient\n", run.stderr)
-
-    @needs("dpkg-deb")
-    def test_upgrade(self):
-        """A package that is unpacked over an earlier one is what Python runs, also where the module's files are as long as they were."""
-        place = self.path("root/usr/lib/python3/dist-packages")
-        program = "import importlib.metadata as it, agefile._writer as module; held = it.distribution('agefile'); " \
-            "print(module.GATHERED, held.version, held.read_text('INSTALLER'))"
-        env = {**os.environ, "PYTHONPATH": str(place), "AGE_C_LIBRARY": str(LIBRARY / "libage_c.so"), "PYTHONDONTWRITEBYTECODE": ""}
-        for epoch, number in ((1_800_000_000, "16_384"), (1_800_000_100, "16_383")):
-            release, out = self.path(number), self.path(f"packages-{number}")
-            out.mkdir()
-            for name in RELEASED:
-                (release / name).parent.mkdir(parents=True, exist_ok=True)
-                (release / name).write_text("prefix=\n")
-            shutil.copy(TOP / "CHANGELOG.md", release / "share/doc/age_tool/CHANGELOG.md")
-            module = release / "share/age_tool/agefile"
-            shutil.copytree(PYTHON / "agefile", module, ignore=shutil.ignore_patterns("__pycache__"))
-            text = (module / "_writer.py").read_text()
-            (module / "_writer.py").write_text(text.replace("GATHERED = 16_384", f"GATHERED = {number}"))
-            words = [TOP / "release" / "packages", release, "1.2.0", out]
-            subprocess.run(words, env={**os.environ, "SOURCE_DATE_EPOCH": str(epoch)}, check=True, capture_output=True)
-            package = out / "python3-agefile_1.2.0-1_amd64.deb"
-            subprocess.run(["dpkg-deb", "-x", package, self.path("root")], check=True)
-            run = subprocess.run([sys.executable, "-c", program], env=env, capture_output=True, text=True)
-            self.see(f"the module with {number}", run.stdout.split() == [number.replace("_", ""), "1.2.0", "debian"], run.stdout, run.stderr[-300:])
-        self.see("the module was compiled", any((place / "agefile" / "__pycache__").iterdir()))
-        if shutil.which("lintian"):
-            run = subprocess.run(["lintian", "--no-cfg", "--profile", "debian", package], capture_output=True, text=True)
-            self.see("lintian", [it.split()[2] for it in run.stdout.splitlines()] == ["no-copyright-file"], run.stdout)
 
     def test_unlike_files(self):
         """Sources that can seek but have no `seekable`, or whose seek returns nothing, that overstate their length, and that lie."""

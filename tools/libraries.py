@@ -1,6 +1,7 @@
-"""The libraries of the workspace as `rt ci` proves and keeps them; and a static library over them.
+"""The libraries of the workspace as `rt ci` proves and keeps them; and a static library, or a program's object, over them.
 
-usage: python3 -m tools.libraries CRATE     makes crates/CRATE/out/libCRATE.a of a static library, unless it is there and nothing changed
+usage: python3 -m tools.libraries CRATE     makes crates/CRATE/out/libCRATE.a of a static library, or CRATE.o of a program, unless it is
+                                            there and nothing changed; for another processor, as TARGET says, lib.PROCESSOR.a
        python3 -m tools.libraries --all     proves the workspace in which it is called, as `rt ci` does, in less time
        python3 -m tools.libraries --build   the same for a program that is to be used: only LLVM compiles it, and nothing of it is kept
 """
@@ -15,6 +16,10 @@ import time
 
 from tools import older_kit
 from tools.workspace import CRATES, TOP, loaded, with_used
+
+# What a static library or an object is made for.
+OWN_TARGET = "x86_64-unknown-linux-gnu"
+TARGET = os.environ.get("TARGET") or OWN_TARGET
 
 
 def command():
@@ -67,39 +72,41 @@ class Libraries:
         return True
 
 
-def places_of(name):
-    """Where a static library and the key of what it was made of are put."""
-    out = CRATES / name / "out"
+def places_of(crate):
+    """Where what is made of a crate, and the key of what it was made of, are put."""
+    out = CRATES / crate.name / "out"
     out.mkdir(exist_ok=True)
-    return out / f"lib{name}.a", out / f"lib{name}.key"
+    name = f"lib{crate.name}" if crate.is_static else crate.name
+    name += "" if TARGET == OWN_TARGET else f".{TARGET.partition('-')[0]}"
+    return out / f"{name}{'.a' if crate.is_static else '.o'}", out / f"{name}.key"
 
 
-def is_made(name, key):
-    """Whether a static library is there, and was made of what this key is a checksum of."""
-    made, stamp = places_of(name)
+def is_made(crate, key):
+    """Whether it is there, and was made of what this key is a checksum of."""
+    made, stamp = places_of(crate)
     return made.is_file() and stamp.is_file() and stamp.read_text() == key
 
 
 def prove_and_compile(rt, crate, flags, to):
     """Proves a program or a static library, over libraries that are proved, and compiles it in the same run: the status."""
-    words = ["build", *crate.words(flags, keeps=False), "--toolchain", f"{rt.KIT}/toolchain", "--backend", "llvm"]
+    words = ["build", *crate.words(flags, keeps=False), "--toolchain", f"{rt.KIT}/toolchain", "--target", TARGET, "--backend", "llvm"]
     return crate.prove([*words, "-o", to])
 
 
 def make_by(rt, crate, flags, kept):
-    """Makes a static library, and puts it into its place: the status."""
+    """Makes a static library or an object, and puts it into its place: the status."""
     # (a workspace that is proved in place has its libraries there)
     status = prove_and_compile(rt, crate, flags, "out/made.a")
     if not status:
-        made, stamp = places_of(crate.name)
+        made, stamp = places_of(crate)
         stamp.unlink(missing_ok=True)
         shutil.move(f"{crate.folder}/out/made.a", made)
         stamp.write_text(kept.key(crate))
     return status
 
 
-def make_static(name):
-    """Proves what a static library uses, or takes what `rt ci` kept of it, and then proves and compiles it: whether that went well."""
+def make(name):
+    """Proves what a crate uses, or takes what `rt ci` kept of it, and then proves and compiles it: whether that went well."""
     start = time.monotonic()
     # Its first call sets the handler of a signal, which only the main thread may.
     kit().rtlib.guarded()
@@ -108,13 +115,13 @@ def make_static(name):
         crate = next(it for it in libraries.crates if it.name == name)
         os.makedirs(f"{crate.folder}/out", exist_ok=True)
         of = len(with_used(name))
-        if isinstance(libraries.kept, older_kit.Kept) and is_made(name, libraries.kept.key(crate)):
+        if isinstance(libraries.kept, older_kit.Kept) and is_made(crate, libraries.kept.key(crate)):
             return True
         for count, it in enumerate(crate.below(), 1):
             if not libraries.is_proved(it):
                 return False
             print(f"[{count}/{of}] {it.name} proved, {int((time.monotonic() - start) / 60)} min", file=sys.stderr, flush=True)
-        if not is_made(name, libraries.kept.key(crate)):
+        if not is_made(crate, libraries.kept.key(crate)):
             jobs = os.environ.get("JOBS") or str(len(os.sched_getaffinity(0)))
             with tempfile.TemporaryFile("w+", errors="replace") as crate.out:
                 if make_by(kit(), crate, ["--jobs", jobs], libraries.kept):
@@ -139,14 +146,14 @@ def at_once(compile_by, backends):
 
 def made_as_proved(rt, prove, makes_program):
     """What proves a crate, or its tests, and makes a static library in the run that proves it, so that it isn't proved once more for that;
-    and a program, which doesn't read all libraries again then."""
+    and a program, which doesn't read all libraries again then. The program's object stays in the folder of the workspace."""
 
     def proved(crate, flags, tests):
         if tests or not (crate.is_static or crate.is_program and makes_program):
             return prove(crate, flags, tests)
         if crate.is_program:
-            program = f"out/{crate.name}"
-            return prove_and_compile(rt, crate, flags, f"{program}.o") or crate.link(f"{program}.o", program)
+            program, made = f"out/{crate.name}", f"{os.getcwd()}/{crate.name}.o"
+            return prove_and_compile(rt, crate, flags, made) or crate.link(made, program)
         kept = rt.Kept([])
         for it in crate.below():
             kept.is_built(it)
@@ -170,4 +177,4 @@ def prove_all(makes_program):
 
 if __name__ == "__main__":
     of_all = sys.argv[1] in ("--all", "--build")
-    sys.exit(prove_all(sys.argv[1] == "--build") if of_all else not make_static(sys.argv[1]))
+    sys.exit(prove_all(sys.argv[1] == "--build") if of_all else not make(sys.argv[1]))

@@ -1,0 +1,93 @@
+"""Tries what the gate, the build and the library do in a checkout that was used before, and in a folder with a space in its name."""
+import os
+import shutil
+import subprocess
+import sys
+import time
+
+from tests.case import Case, needs
+from tools.workspace import CRATES, TOP, library
+
+# What `rt ci` refuses of a checkout before it proves anything.
+REFUSALS = """
+import os
+from tools.libraries import command
+rt = command()
+every = rt.crates_of(os.getcwd())
+for name in sorted(os.listdir()):
+    if name != ".git" and os.path.isdir(name):
+        rt.rtlib.stop_on_unread(f"{os.getcwd()}/{name}", every)
+"""
+
+
+class CheckoutTest(Case):
+    """A test for each thing that was left from before."""
+
+    def refusals(self, folder):
+        run = subprocess.run([sys.executable, "-B", "-c", REFUSALS], cwd=folder, env={**os.environ, "PYTHONPATH": str(TOP)}, capture_output=True, text=True)
+        return run.stderr if run.returncode else ""
+
+    def copy_of_sources(self, name):
+        """A copy of this checkout, without what was built."""
+        to = self.path(name)
+        shutil.copytree(TOP, to, ignore=shutil.ignore_patterns("out", ".git", "target", "__pycache__", "libage_c.a"))
+        (to / ".git").mkdir()
+        return to
+
+    @needs("cc")
+    def test_used_checkout(self):
+        """After `bindings/build` and all other tests the gate still begins."""
+        library()
+        said = self.refusals(TOP)
+        self.see("rt ci takes a checkout that was built and used", not said, said)
+
+    @needs("cc")
+    def test_space(self):
+        """The library that was proved here is taken in a folder with a space; a C program links it by what pkg-config says."""
+        library()
+        top = self.copy_of_sources("a b/shal low")
+        (top / "crates/age_c/out").mkdir()
+        for name in ("libage_c.a", "libage_c.key"):
+            shutil.copy(CRATES / "age_c/out" / name, top / "crates/age_c/out")
+        for turn in ("once", "twice"):
+            run = subprocess.run([top / "bindings/build"], capture_output=True, text=True)
+            self.see(f"bindings/build, {turn}", run.returncode == 0, run.stderr[-2000:])
+            said = self.refusals(top)
+            self.see(f"rt ci takes it, {turn}", not said, said)
+        if not shutil.which("pkg-config"):
+            return self.leave_out("pkg-config", "needs pkg-config")
+        words = "eval cc -o user \\'bindings/c/decrypt.c\\' $(pkg-config --cflags --libs age_c)"
+        run = subprocess.run(["sh", "-c", words], cwd=top, env={**os.environ, "PKG_CONFIG_PATH": str(top / "bindings/out/pkgconfig")}, capture_output=True, text=True)
+        self.see("a program by pkg-config", run.returncode == 0, run.stderr)
+
+    def test_variables(self):
+        """`check` tests what it proved, and not what a variable names."""
+        words = "import runpy, sys; runpy.run_path('check'); it = sys.modules['tools.workspace']; print(it.PROGRAM, it.LIBRARY, sep='\\n')"
+        env = {**os.environ, "AGE_TOOL": "/usr/bin/false", "AGE_C_DIR": "/nowhere"}
+        run = subprocess.run([sys.executable, "-B", "-c", words], cwd=TOP, env=env, capture_output=True, text=True)
+        self.see("check tests what it proved", run.stdout.splitlines() == [str(CRATES / "age_tool/out/age_tool"), str(TOP / "bindings/out")], run)
+
+    def test_stale_program(self):
+        """`age_tool` builds again what was changed, also by a file that is older than the program, and what is gone."""
+        top = self.copy_of_sources("c d")
+        (top / "build").write_text('#!/bin/sh\necho built\n')
+        program = top / "crates/age_tool/out/age_tool"
+        program.parent.mkdir()
+        source = top / "crates/age_kdf/src/lib.rt"
+
+        def has_built(name, wanted):
+            said = subprocess.run([top / "age_tool"], capture_output=True, text=True)
+            self.see(name, ("built" in said.stdout) == wanted, said)
+            shutil.copy("/usr/bin/true", program)
+            later = time.time() + 0.01
+            os.utime(program, (later, later))
+            time.sleep(0.02)
+
+        has_built("no program", True)
+        has_built("nothing changed", False)
+        os.utime(source, (1, 1))
+        has_built("a source of an older time", True)
+        has_built("nothing changed since", False)
+        next((top / "crates/age_kdf/proofs").rglob("*.antt")).unlink()
+        has_built("a removed file", True)
+        has_built("nothing is gone since", False)
