@@ -147,8 +147,7 @@ func FileKey(key []byte) Key {
 // ("Files for an X25519 key").
 func SharedSecret(secret, recipient []byte) Key {
 	return Key{open: func(front []byte, reader *C.age_c_reader) C.uint32_t {
-		return C.age_c_open_shared(place(front), length(front), place(secret), length(secret),
-			place(recipient), length(recipient), reader)
+		return openShared(front, secret, recipient, reader)
 	}}
 }
 

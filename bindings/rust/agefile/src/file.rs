@@ -99,6 +99,16 @@ impl<R: Read + Seek> AgeFile<R> {
         Ok(made)
     }
 
+    /// Opens the same age file once more, over a file of its own, for another thread, say: without
+    /// its key, and without the work of a passphrase. Another file is refused.
+    ///
+    /// # Errors
+    ///
+    /// Those of [`AgeFile::open`].
+    pub fn reopen<S: Read + Seek>(&self, file: S) -> io::Result<AgeFile<S>> {
+        AgeFile::open(file, Key::FileKey(&self.reader.file_key))
+    }
+
     /// The length of the text.
     pub fn len(&self) -> u64 {
         self.len

@@ -58,7 +58,7 @@ impl Header {
     }
 
     /// Takes what the header says that these bytes begin with.
-    fn look(&mut self, front: &[u8]) -> u32 {
+    pub(crate) fn look(&mut self, front: &[u8]) -> u32 {
         let (at, len, mut count) = (front.as_ptr(), front.len(), 0);
         // SAFETY: the slice is as long as it says, and not null; nothing overlaps.
         let answer = unsafe { age_c_header(at, len, &mut self.len, &mut count, &mut self.work) };

@@ -1,5 +1,6 @@
 //! What opens a header.
 
+use crate::x25519::{self, Exchange, Identity};
 use crate::MAX_WORK;
 use age_c_sys::{age_c_open_key, age_c_open_passphrase, age_c_open_shared, AgeCReader};
 use std::fmt;
@@ -25,6 +26,34 @@ pub enum Key<'a> {
         /// X25519(identity, 9), 32 bytes.
         recipient: &'a [u8],
     },
+    /// Keys of age-keygen, of which any may open the file.
+    X25519 {
+        /// X25519 of a secret and a point.
+        exchange: Exchange<'a>,
+        /// The keys, as [`Identity::parse`] takes them from a key file.
+        identities: &'a [Identity],
+    },
+}
+
+/// Opens a header by an X25519 shared secret and the recipient that it was computed for.
+pub(crate) fn open_shared(
+    front: &[u8],
+    secret: &[u8],
+    recipient: &[u8],
+    reader: &mut AgeCReader,
+) -> u32 {
+    // SAFETY: each slice is as long as it says, and none is null; nothing overlaps.
+    unsafe {
+        age_c_open_shared(
+            front.as_ptr(),
+            front.len(),
+            secret.as_ptr(),
+            secret.len(),
+            recipient.as_ptr(),
+            recipient.len(),
+            reader,
+        )
+    }
 }
 
 impl fmt::Debug for Key<'_> {
@@ -33,6 +62,7 @@ impl fmt::Debug for Key<'_> {
             Key::Passphrase { .. } => "Key::Passphrase",
             Key::FileKey(_) => "Key::FileKey",
             Key::Shared { .. } => "Key::Shared",
+            Key::X25519 { .. } => "Key::X25519",
         })
     }
 }
@@ -70,17 +100,11 @@ impl<'a> Key<'a> {
             Key::FileKey(key) => unsafe {
                 age_c_open_key(front.as_ptr(), front.len(), key.as_ptr(), key.len(), reader)
             },
-            Key::Shared { secret, recipient } => unsafe {
-                age_c_open_shared(
-                    front.as_ptr(),
-                    front.len(),
-                    secret.as_ptr(),
-                    secret.len(),
-                    recipient.as_ptr(),
-                    recipient.len(),
-                    reader,
-                )
-            },
+            Key::Shared { secret, recipient } => open_shared(front, secret, recipient, reader),
+            Key::X25519 {
+                exchange,
+                identities,
+            } => x25519::open(exchange, identities, front, reader),
         }
     }
 }

@@ -31,6 +31,7 @@ mod reader;
 mod salvage;
 mod state;
 mod writer;
+mod x25519;
 
 pub use error::AgeError;
 pub use file::AgeFile;
@@ -39,6 +40,7 @@ pub use key::Key;
 pub use reader::{AgeReader, Opening};
 pub use salvage::{salvage, Salvaged};
 pub use writer::AgeWriter;
+pub use x25519::{parse_recipient, Exchange, Identity, MAX_TRIES};
 
 /// The greatest work factor.
 pub const MAX_WORK: u32 = age_c_sys::AGE_C_WORK_MAX;
