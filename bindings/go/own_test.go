@@ -74,6 +74,48 @@ func TestFilesOfTheirOwn(t *testing.T) {
 	}
 }
 
+// A sink that fails once it has got this many bytes.
+type failingSink int
+
+func (s *failingSink) Write(p []byte) (int, error) {
+	if *s -= failingSink(len(p)); *s < 0 {
+		return 0, io.ErrClosedPipe
+	}
+	return len(p), nil
+}
+
+// Short writes are held: they are sealed in their order, and wiped, and a sink that fails is seen by
+// a later call.
+func TestShortWrites(t *testing.T) {
+	text := textOf(300_000)
+	for _, size := range []int{1, 100, 9_000, 16_384, 16_385, 70_000} {
+		var out bytes.Buffer
+		w, err := Create(&out, []byte("pw"), 1)
+		for at := 0; err == nil && at < len(text); at += size {
+			end := at + size
+			if end > len(text) {
+				end = len(text)
+			}
+			_, err = w.Write(text[at:end])
+		}
+		if err == nil {
+			err = w.Close()
+		}
+		got, fault := Decrypt(out.Bytes(), pw())
+		if err != nil || fault != nil || !bytes.Equal(got, text) || !bytes.Equal(w.held[:cap(w.held)], make([]byte, cap(w.held))) {
+			t.Errorf("writes of %d: %v, %v", size, err, fault)
+		}
+		sink := failingSink(100_000)
+		w, err = Create(&sink, []byte("pw"), 1)
+		for i := 0; err == nil && i < 300_000/size+2; i++ {
+			_, err = w.Write(text[:size])
+		}
+		if err != io.ErrClosedPipe || w.Close() != io.ErrClosedPipe {
+			t.Errorf("a sink that fails, writes of %d: %v", size, err)
+		}
+	}
+}
+
 // testing/iotest's rules for readers, over sources that return in each way that io.Reader allows.
 func TestIotest(t *testing.T) {
 	for _, n := range lengths {
@@ -102,6 +144,31 @@ func TestIotest(t *testing.T) {
 		}
 		if err := iotest.TestReader(opened(t, data), text); err != nil {
 			t.Errorf("a File of %d bytes: %v", n, err)
+		}
+	}
+}
+
+// Files in memory: whole, cut, and with arguments that aren't allowed.
+func TestOnce(t *testing.T) {
+	for _, n := range lengths {
+		text := textOf(n)
+		data, err := Encrypt(text, []byte("pw"), 1)
+		if err != nil {
+			t.Fatal(err)
+		}
+		if got, err := Decrypt(data, pw()); err != nil || !bytes.Equal(got, text) {
+			t.Errorf("%d bytes: %v", n, err)
+		}
+		if got, err := Decrypt(data[:len(data)-1], pw()); err == nil || got != nil {
+			t.Errorf("%d bytes, cut: %v", n, err)
+		}
+	}
+	for _, it := range []struct {
+		pass   string
+		factor int
+	}{{"", 1}, {"pw", 0}, {"pw", 23}, {"pw", -1}} {
+		if data, err := Encrypt(nil, []byte(it.pass), it.factor); data != nil || err == nil {
+			t.Error(it, err)
 		}
 	}
 }

@@ -17,12 +17,19 @@ import (
 //
 // Close seals what was written so far as the whole text. So never call it after what gives the text
 // failed: call Abandon, or defer Abandon instead of Close, which does nothing after a Close.
+//
+// Short writes are held and sealed together: what is written to may fail in a later call.
 type Writer struct {
 	out    io.Writer
 	stream C.age_c_write_stream
+	held   []byte // short writes that the stream hasn't got yet
 	block  []byte // where a block goes
 	err    error  // why nothing more can be written
 }
+
+// gathered is how many bytes of short writes are sealed together: a call of C takes as long as
+// sealing some hundred bytes.
+const gathered = 16_384
 
 var errClosed = errors.New("agefile: the file is closed")
 
@@ -54,7 +61,7 @@ func CreateKey(out io.Writer, fileKey, stanzas []byte) (*Writer, error) {
 // random bytes, the first of which are the key.
 func begin(out io.Writer, key []byte, size int, front []byte,
 	call func(w *Writer, random []byte, n *C.size_t) C.uint32_t) (*Writer, error) {
-	w := &Writer{out: out, block: make([]byte, C.AGE_C_BLOCK)}
+	w := &Writer{out: out, held: make([]byte, 0, gathered), block: make([]byte, C.AGE_C_BLOCK)}
 	random := make([]byte, size)
 	if _, err := rand.Read(random); err != nil {
 		return nil, err
@@ -110,6 +117,25 @@ func (w *Writer) Write(text []byte) (int, error) {
 	if w.err != nil {
 		return 0, w.err
 	}
+	if len(w.held)+len(text) <= gathered {
+		w.held = append(w.held, text...)
+		return len(text), nil
+	}
+	if err := w.feedHeld(); err != nil {
+		return 0, err
+	}
+	return w.feed(text)
+}
+
+// feedHeld gives the stream the short writes.
+func (w *Writer) feedHeld() error {
+	_, err := w.feed(w.held)
+	w.held = w.held[:0]
+	return err
+}
+
+// feed gives the stream bytes, and passes on the blocks that it seals.
+func (w *Writer) feed(text []byte) (int, error) {
 	done := 0
 	for done < len(text) {
 		var taken, written C.size_t
@@ -134,9 +160,12 @@ func (w *Writer) Close() error {
 		w.wipe()
 		return w.err
 	}
-	var written C.size_t
-	answer := C.age_c_finish_text(&w.stream, place(w.block), length(w.block), &written)
-	err := w.wrote(answer, written)
+	err := w.feedHeld()
+	if err == nil {
+		var written C.size_t
+		answer := C.age_c_finish_text(&w.stream, place(w.block), length(w.block), &written)
+		err = w.wrote(answer, written)
+	}
 	if err == nil {
 		w.err = errClosed
 	}
@@ -153,7 +182,13 @@ func (w *Writer) Abandon() {
 	w.wipe()
 }
 
-// wipe overwrites the file key and the open chunk. w.err is set, so that no call follows.
+// wipe overwrites the file key, the open chunk and the short writes. w.err is set, so that no call
+// follows.
 func (w *Writer) wipe() {
 	w.stream = C.age_c_write_stream{}
+	held := w.held[:cap(w.held)]
+	for i := range held {
+		held[i] = 0
+	}
+	w.held = held[:0]
 }

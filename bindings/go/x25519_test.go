@@ -94,7 +94,7 @@ func TestX25519(t *testing.T) {
 		if err != nil {
 			t.Fatal(err)
 		}
-		got, err := readBy(data, it.key)
+		got, err := Decrypt(data, it.key)
 		var fault *Fault
 		if errors.As(err, &fault) {
 			got = []byte(fmt.Sprint(fault.Number))
@@ -102,18 +102,10 @@ func TestX25519(t *testing.T) {
 		if string(got) != it.want {
 			t.Errorf("%s: %q, %v", it.name, got, err)
 		}
-		if _, err = readBy(data[:90], it.key); !errors.Is(err, io.ErrUnexpectedEOF) {
+		if _, err = Decrypt(data[:90], it.key); !errors.Is(err, io.ErrUnexpectedEOF) {
 			t.Errorf("%s, cut: %v", it.name, err)
 		}
 	}
-}
-
-func readBy(data []byte, key Key) ([]byte, error) {
-	r, err := Open(bytes.NewReader(data), key)
-	if err != nil {
-		return nil, err
-	}
-	return io.ReadAll(r)
 }
 
 func TestKeysThatAreNone(t *testing.T) {

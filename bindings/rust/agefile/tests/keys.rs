@@ -1,7 +1,7 @@
-//! Keys of age-keygen, and readers that are opened once more.
+//! Keys of age-keygen, files in memory, and readers that are opened once more.
 
-use agefile::{parse_recipient, AgeError, AgeFile, AgeReader, AgeWriter, Identity, Key, MAX_TRIES};
-use std::io::{self, Cursor, Read, Seek, SeekFrom, Write};
+use agefile::{decrypt, encrypt, parse_recipient, AgeError, AgeFile, Identity, Key, MAX_TRIES};
+use std::io::{self, Cursor, Read, Seek, SeekFrom};
 use std::sync::atomic::{AtomicUsize, Ordering};
 
 /// What age made, beside this folder; nothing if it stands alone.
@@ -33,12 +33,6 @@ fn exchange(_: &[u8; 32], point: &[u8; 32]) -> [u8; 32] {
     }
 }
 
-fn text_in(data: &[u8], key: Key) -> io::Result<Vec<u8>> {
-    let mut text = Vec::new();
-    AgeReader::open(data, key)?.read_to_end(&mut text)?;
-    Ok(text)
-}
-
 fn number(found: io::Result<Vec<u8>>) -> u32 {
     AgeError::of(&found.unwrap_err()).unwrap().number
 }
@@ -64,20 +58,20 @@ fn reads_files_for_keys() {
         identities: &identities,
     };
     let data = of_age("one.age").unwrap();
-    assert_eq!(text_in(&data, key).unwrap(), b"hello, recipient\n");
-    assert_eq!(number(text_in(&of_age("other.age").unwrap(), key)), 13);
-    assert_eq!(number(text_in(&of_age("passphrase.age").unwrap(), key)), 12);
-    assert_eq!(number(text_in(&data[..90], key)), 254);
+    assert_eq!(decrypt(&data, key).unwrap(), b"hello, recipient\n");
+    assert_eq!(number(decrypt(&of_age("other.age").unwrap(), key)), 13);
+    assert_eq!(number(decrypt(&of_age("passphrase.age").unwrap(), key)), 12);
+    assert_eq!(number(decrypt(&data[..90], key)), 254);
     let none = Key::X25519 {
         exchange: &exchange,
         identities: &[],
     };
-    assert_eq!(number(text_in(&data, none)), 13);
+    assert_eq!(number(decrypt(&data, none)), 13);
     let zero = Key::X25519 {
         exchange: &|_, _| [0; 32],
         identities: &identities,
     };
-    assert_eq!(number(text_in(&data, zero)), 13);
+    assert_eq!(number(decrypt(&data, zero)), 13);
     assert_eq!(format!("{key:?} {identities:?}"), "Key::X25519 [Identity]");
 }
 
@@ -96,7 +90,7 @@ fn gives_the_share_of_a_stanza() {
         exchange: &exchange,
         identities: &identities,
     };
-    assert_eq!(number(text_in(&data, key)), 13);
+    assert_eq!(number(decrypt(&data, key)), 13);
     assert_eq!(seen.lock().unwrap()[1], bytes_of(SHARE));
 }
 
@@ -154,7 +148,7 @@ fn stops_after_many_tries() {
         exchange: &exchange,
         identities: &two,
     };
-    assert_eq!(number(text_in(data.as_bytes(), key)), 13);
+    assert_eq!(number(decrypt(data.as_bytes(), key)), 13);
     assert_eq!(tries.load(Ordering::Relaxed), MAX_TRIES + 2);
 }
 
@@ -163,11 +157,7 @@ fn reopens_without_a_key() {
     let text: Vec<u8> = (0..200_000u32)
         .map(|it| (it.wrapping_mul(2_654_435_761) >> 13) as u8)
         .collect();
-    let sealed = |text: &[u8]| {
-        let mut writer = AgeWriter::create(Vec::new(), b"pw", 1).unwrap();
-        writer.write_all(text).unwrap();
-        writer.finish().unwrap()
-    };
+    let sealed = |text: &[u8]| encrypt(text, b"pw", 1).unwrap();
     let (data, another) = (sealed(&text), sealed(b"another"));
     let file = AgeFile::open(Cursor::new(&data[..]), Key::passphrase(b"pw")).unwrap();
     std::thread::scope(|scope| {
@@ -184,4 +174,20 @@ fn reopens_without_a_key() {
     });
     let error = file.reopen(Cursor::new(&another[..])).unwrap_err();
     assert!(AgeError::of(&error).is_some_and(|it| it.is_wrong_key()));
+}
+
+#[test]
+fn files_in_memory() {
+    for len in [0, 1, 65_536, 200_000] {
+        let text = vec![7; len];
+        let data = encrypt(&text, b"pw", 1).unwrap();
+        assert_eq!(decrypt(&data, Key::passphrase(b"pw")).unwrap(), text);
+        assert_eq!(
+            number(decrypt(&data[..data.len() - 1], Key::passphrase(b"pw"))),
+            if len == 0 { 18 } else { 17 }
+        );
+        assert_eq!(number(decrypt(&data, Key::passphrase(b"other"))), 13);
+    }
+    assert_eq!(number(encrypt(b"text", b"", 1)), 255);
+    assert_eq!(number(encrypt(b"text", b"pw", 23)), 255);
 }
