@@ -90,8 +90,9 @@
  * isn't. This is looked at before anything else, but the room for stanzas after the header was
  * read.
  *
- * The library is for x86-64 Linux: glibc 2.14 or later, or musl, and a processor with the
- * instructions of x86-64-v2. Link libage_c.so, or libage_c.a, which needs the C library alone.
+ * The library is for Linux on x86-64 with the instructions of x86-64-v2 (glibc 2.14 or later, or
+ * musl), and on 64-bit ARM (glibc 2.17 or later, or musl). Link libage_c.so, or libage_c.a, which
+ * needs the C library alone.
  * Versions follow semantic versioning: from 1.2.0 on, a later 1.x runs what was built with an
  * earlier one, and an incompatible one has another soname than libage_c.so.0.
  */
