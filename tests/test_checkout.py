@@ -6,6 +6,7 @@ import sys
 import time
 
 from tests.case import Case, needs
+from tools.libraries import MADE
 from tools.workspace import CRATES, TOP, library
 
 # What `rt ci` refuses of a checkout before it proves anything.
@@ -46,9 +47,7 @@ class CheckoutTest(Case):
         """The library that was proved here is taken in a folder with a space; a C program links it by what pkg-config says."""
         library()
         top = self.copy_of_sources("a b/shal low")
-        (top / "crates/age_c/out").mkdir()
-        for name in ("libage_c.a", "libage_c.key"):
-            shutil.copy(CRATES / "age_c/out" / name, top / "crates/age_c/out")
+        shutil.copytree(MADE, top / "bindings/out/made")
         for turn in ("once", "twice"):
             run = subprocess.run([top / "bindings/build"], capture_output=True, text=True)
             self.see(f"bindings/build, {turn}", run.returncode == 0, run.stderr[-2000:])

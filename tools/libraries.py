@@ -1,7 +1,7 @@
 """The libraries of the workspace as `rt ci` proves and keeps them; and a static library, or a program's object, over them.
 
-usage: python3 -m tools.libraries CRATE     makes crates/CRATE/out/libCRATE.a of a static library, or CRATE.o of a program, unless it is
-                                            there and nothing changed; for another processor, as TARGET says, lib.PROCESSOR.a
+usage: python3 -m tools.libraries CRATE     makes bindings/out/made/libCRATE.a of a static library, or CRATE.o of a program, unless it is
+                                            there and nothing changed; for another processor, as TARGET says, libCRATE.PROCESSOR.a
        python3 -m tools.libraries --all     proves the workspace in which it is called, as `rt ci` does, in less time
        python3 -m tools.libraries --build   the same for a program that is to be used: only LLVM compiles it, and nothing of it is kept
 """
@@ -15,11 +15,13 @@ import tempfile
 import time
 
 from tools import older_kit
-from tools.workspace import CRATES, TOP, loaded, with_used
+from tools.workspace import TOP, loaded, with_used
 
 # What a static library or an object is made for.
 OWN_TARGET = "x86_64-unknown-linux-gnu"
 TARGET = os.environ.get("TARGET") or OWN_TARGET
+# Where it is put: apart from the crates' folders, which `rt ci` empties.
+MADE = TOP / "bindings" / "out" / "made"
 
 
 def command():
@@ -74,11 +76,10 @@ class Libraries:
 
 def places_of(crate):
     """Where what is made of a crate, and the key of what it was made of, are put."""
-    out = CRATES / crate.name / "out"
-    out.mkdir(exist_ok=True)
+    MADE.mkdir(parents=True, exist_ok=True)
     name = f"lib{crate.name}" if crate.is_static else crate.name
     name += "" if TARGET == OWN_TARGET else f".{TARGET.partition('-')[0]}"
-    return out / f"{name}{'.a' if crate.is_static else '.o'}", out / f"{name}.key"
+    return MADE / f"{name}{'.a' if crate.is_static else '.o'}", MADE / f"{name}.key"
 
 
 def is_made(crate, key):
