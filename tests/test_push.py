@@ -172,6 +172,34 @@ class PushTest(BindingsCase):
         except agefile.AgeError as fault:  # the threads may have taken turns with what they got
             self.see("pieces in another order", fault.number == 17, fault)
 
+    def test_small_things(self):
+        """A fault's chunk by its other name; a passphrase that can't be encoded isn't in what is raised."""
+        fault = agefile.AgeError(17, 3)
+        self.see("the chunk", (fault.chunk, fault.place, agefile.AgeError(13).chunk) == (3, 3, None))
+        try:
+            agefile.encrypt(b"", passphrase="secret \ud800", work=1)
+        except ValueError as it:
+            held = repr((it, it.args, vars(it), it.__cause__)) + ("" if it.__suppress_context__ else repr(it.__context__))
+            self.see("half of a surrogate pair", type(it) is ValueError and "secret" not in held, held)
+
+    def test_what_was_cut_off(self):
+        """What `python3 -m agefile salvage` says of files that end between two chunks, or in one, and of what was appended."""
+        data = sealed(plain_of(200_000))
+        begin = len(data) - 200_000 - 4 * 16
+        env = {**os.environ, "PYTHONPATH": str(PYTHON), "PYTHONDONTWRITEBYTECODE": "1"}
+        longer = b"agefile: the last chunk is damaged or was cut off: the text may have been longer\n"
+        for end, said in (
+            (begin + 2 * 65_552, b"agefile: lost: from byte 131072 on, if there was more\n" + longer),
+            (begin + 2 * 65_552 + 116, b"agefile: lost: from byte 131072 to before byte 131172\n" + longer),
+            (len(data), b""), (begin, longer + b"agefile: no chunk opens: out is as it was\n"),
+        ):
+            self.write("cut.age", data[:end])
+            run = subprocess.run([sys.executable, "-m", "agefile", *"salvage --pass pw cut.age out".split()], cwd=self.room, env=env, capture_output=True)
+            self.see(f"cut at {end}", (run.returncode, run.stderr) == (bool(said), said), run.stderr)
+        self.write("longer.age", sealed(plain_of(131_072)) + b"more")
+        run = subprocess.run([sys.executable, "-m", "agefile", *"salvage --pass pw longer.age out".split()], cwd=self.room, env=env, capture_output=True)
+        self.see("something that was appended", run.stderr == b"agefile: something was appended to the file, and is left out\n", run.stderr)
+
     def test_handler(self):
         """The handler in bindings/README.md, by a Python that has aiohttp."""
         found = "import importlib.util; raise SystemExit(importlib.util.find_spec('aiohttp') is None)"

@@ -649,6 +649,19 @@ class PythonFilesTest(BindingsCase):
                     turn += 1
                 self.see(f"{what}, at any place {any_place}: {turn} interruptions", wrong == [] and turn > 3, wrong[:5])
 
+    def test_impossible_lengths(self):
+        """At which chunk a file is refused at any place, if no payload has its length; and lines of no byte and of one."""
+        data = self.sealed(plain_of(200_000))
+        begin = len(data) - 200_000 - 4 * 16
+        for end, want in ((begin + 65_552 + 5, (18, 1)), (begin + 3 * 65_552 + 16, (19, 3)), (begin + 15, (18, 0))):
+            try:
+                agefile.open(io.BytesIO(data[:end]), file_key=KEY, random_access=True)
+            except agefile.AgeError as fault:
+                self.see(f"a file cut at {end}", (fault.number, fault.place) == want, fault)
+        with bindings.limited(60), agefile.open(io.BytesIO(self.sealed(b"abc\nd")), file_key=KEY) as file:
+            found = [file.readline(it) for it in (0, 1, 0, 2, 5, 1, 1)]
+            self.see("short lines", found == [b"", b"a", b"", b"bc", b"\n", b"d", b""], found)
+
     def test_waiting(self):
         """A source that doesn't block: what isn't there yet is neither the end nor a fault."""
         text = plain_of(70_000)

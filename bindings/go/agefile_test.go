@@ -769,7 +769,7 @@ func TestSalvage(t *testing.T) {
 			var out bytes.Buffer
 			found, err := Salvage(&out, iotest.HalfReader(bytes.NewReader(file)), pw())
 			if err != nil || !bytes.Equal(out.Bytes(), want) || found.Size != int64(len(want)) ||
-				fmt.Sprint(found.Lost) != fmt.Sprint(lost) || found.Ends == (turn>>(chunks-1) == 1) || found.Followed {
+				fmt.Sprint(found.Lost) != fmt.Sprint(lost) || found.Ends == (turn>>(chunks-1) == 1) || found.Followed || found.Whole() != (turn == 0) {
 				t.Fatalf("%d bytes, damage %b: %+v, %v, not %v", n, turn, found, err, lost)
 			}
 		}
@@ -777,7 +777,7 @@ func TestSalvage(t *testing.T) {
 			var out bytes.Buffer
 			found, err := Salvage(&out, bytes.NewReader(data[:end]), pw())
 			whole := (end - begin) / 65552 * 65536
-			if err != nil || found.Ends || out.Len() < whole || !bytes.Equal(out.Bytes()[:whole], text[:whole]) {
+			if err != nil || found.Ends || found.Whole() || out.Len() < whole || !bytes.Equal(out.Bytes()[:whole], text[:whole]) {
 				t.Fatalf("%d bytes, cut at %d: %+v, %v", n, end-begin, found, err)
 			}
 		}

@@ -20,6 +20,38 @@ type File struct {
 	*io.SectionReader
 }
 
+// Read implements io.Reader.
+func (f *File) Read(into []byte) (int, error) {
+	if f.SectionReader == nil {
+		return 0, errNotOpen
+	}
+	return f.SectionReader.Read(into)
+}
+
+// ReadAt implements io.ReaderAt.
+func (f *File) ReadAt(into []byte, at int64) (int, error) {
+	if f.SectionReader == nil {
+		return 0, errNotOpen
+	}
+	return f.SectionReader.ReadAt(into, at)
+}
+
+// Seek implements io.Seeker.
+func (f *File) Seek(offset int64, whence int) (int64, error) {
+	if f.SectionReader == nil {
+		return 0, errNotOpen
+	}
+	return f.SectionReader.Seek(offset, whence)
+}
+
+// Size is the length of the text, 0 of a File that wasn't opened.
+func (f *File) Size() int64 {
+	if f.SectionReader == nil {
+		return 0
+	}
+	return f.SectionReader.Size()
+}
+
 // WriteTo implements io.WriterTo: io.Copy gets a chunk at a time.
 func (f *File) WriteTo(out io.Writer) (int64, error) {
 	room := make([]byte, C.AGE_C_CHUNK)
@@ -55,6 +87,9 @@ func (f *File) Format(state fmt.State, _ rune) { io.WriteString(state, f.String(
 // OpenAt opens the header of a file of this many bytes, and its last chunk, which proves the length
 // of the text: a wrong size is an error, or changes nothing if it is a few bytes too great.
 func OpenAt(file io.ReaderAt, size int64, key Key) (*File, error) {
+	if file == nil {
+		return nil, errNil
+	}
 	head, err := Open(io.NewSectionReader(file, 0, size), key)
 	if err != nil {
 		return nil, err

@@ -172,3 +172,71 @@ func TestOnce(t *testing.T) {
 		}
 	}
 }
+
+// A reader whose count is out of range.
+type miscounting int
+
+func (n miscounting) Read(room []byte) (int, error) {
+	if n < 0 {
+		return -1, nil
+	}
+	return len(room) + 1, nil
+}
+
+func TestWrongCounts(t *testing.T) {
+	for _, n := range []miscounting{-1, 1} {
+		if _, err := Open(n, pw()); err != errRead {
+			t.Error(n, err)
+		}
+	}
+}
+
+// What was never opened, or can't be, is an error.
+func TestNothing(t *testing.T) {
+	var file File
+	if n, err := file.Read(make([]byte, 1)); n != 0 || err != errNotOpen {
+		t.Error(n, err)
+	}
+	if n, err := file.ReadAt(make([]byte, 1), 0); n != 0 || err != errNotOpen {
+		t.Error(n, err)
+	}
+	if _, err := file.Seek(0, io.SeekStart); err != errNotOpen {
+		t.Error(err)
+	}
+	if n, err := file.WriteTo(io.Discard); n != 0 || err != errNotOpen {
+		t.Error(n, err)
+	}
+	if n := file.Size(); n != 0 {
+		t.Error(n)
+	}
+	for what, err := range map[string]error{
+		"Open": second(Open(nil, pw())), "OpenAt": second(OpenAt(nil, 5, pw())), "Create": second(Create(nil, []byte("pw"), 1)),
+	} {
+		if err == nil {
+			t.Error(what)
+		}
+	}
+}
+
+func second[T any](_ T, err error) error { return err }
+
+// A file that has become shorter: each read ends.
+func TestShorter(t *testing.T) {
+	text := textOf(200_000)
+	data := sealed(t, text)
+	for _, end := range []int{0, 300, len(data) - 70_000, len(data) - 1} {
+		under := &shrinking{data}
+		file, err := OpenAt(under, int64(len(data)), pw())
+		if err != nil {
+			t.Fatal(err)
+		}
+		under.data = data[:end]
+		got := make([]byte, len(text))
+		if n, err := file.ReadAt(got, 0); err == nil || err == io.EOF || !bytes.Equal(got[:n], text[:n]) {
+			t.Error(end, n, err)
+		}
+		if n, err := file.ReadAt(got[:10], 150_000); n == 10 != (end == len(data)-1) {
+			t.Error(end, n, err)
+		}
+	}
+}

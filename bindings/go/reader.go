@@ -29,6 +29,9 @@ func Open(file io.Reader, key Key) (*Reader, error) {
 	if key.open == nil {
 		return nil, errors.New("agefile: a Key that is none: make one by Passphrase, FileKey or SharedSecret")
 	}
+	if file == nil {
+		return nil, errNil
+	}
 	r := &Reader{file: file, piece: make([]byte, C.AGE_C_BLOCK), chunk: make([]byte, C.AGE_C_CHUNK)}
 	if err := r.begin(key); err != nil {
 		return nil, err
@@ -88,7 +91,9 @@ func readSome(file io.Reader, room []byte) (int, error) {
 	return 0, io.ErrNoProgress
 }
 
-var errNotOpen = errors.New("agefile: a Reader or Writer that wasn't opened by Open or Create")
+var errNotOpen = errors.New("agefile: a Reader, File or Writer that wasn't opened by Open, OpenAt or Create")
+
+var errNil = errors.New("agefile: the file is nil")
 
 var errRead = errors.New("agefile: a Read returned a count that is out of range")
 

@@ -61,6 +61,9 @@ func CreateKey(out io.Writer, fileKey, stanzas []byte) (*Writer, error) {
 // random bytes, the first of which are the key.
 func begin(out io.Writer, key []byte, size int, front []byte,
 	call func(w *Writer, random []byte, n *C.size_t) C.uint32_t) (*Writer, error) {
+	if out == nil {
+		return nil, errNil
+	}
 	w := &Writer{out: out, held: make([]byte, 0, gathered), block: make([]byte, C.AGE_C_BLOCK)}
 	random := make([]byte, size)
 	if _, err := rand.Read(random); err != nil {

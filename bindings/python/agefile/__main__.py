@@ -141,6 +141,8 @@ def salvage(words: argparse.Namespace) -> int:
     sys.stdout.buffer.flush()
     for first, after in found.lost:
         print(f"agefile: lost: from byte {first} to before byte {after}", file=sys.stderr)
+    if not found.ends and found.size and (not found.lost or found.lost[-1][1] < found.size):
+        print(f"agefile: lost: from byte {found.size} on, if there was more", file=sys.stderr)
     if not found.ends:
         print("agefile: the last chunk is damaged or was cut off: the text may have been longer", file=sys.stderr)
     if found.followed:

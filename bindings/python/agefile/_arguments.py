@@ -37,7 +37,10 @@ def raw(name: str, given: Any, kind: str = "bytes") -> bytes:
 
 def secret(passphrase: Any) -> bytes:
     """The bytes of a passphrase: those of a str are its UTF-8."""
-    held = passphrase.encode() if isinstance(passphrase, str) else raw("passphrase", passphrase, "a str or bytes")
+    try:
+        held = passphrase.encode() if isinstance(passphrase, str) else raw("passphrase", passphrase, "a str or bytes")
+    except UnicodeEncodeError:  # which would hold the passphrase
+        raise ValueError("passphrase has half of a surrogate pair, which no UTF-8 has") from None
     if not 1 <= len(held) <= PASSPHRASE_MAX:
         raise ValueError(f"passphrase has 1 to {PASSPHRASE_MAX:,} bytes, not {len(held):,}")
     return held

@@ -28,6 +28,11 @@ class AgeError(Exception):
         self.name: str = C.age_c_fault_name(number).decode()
         self.place = place
 
+    @property
+    def chunk(self) -> int | None:
+        """The place, by the name that it has in Go, Rust and C."""
+        return self.place
+
     def __str__(self) -> str:
         meaning = _MEANINGS.get(self.number, "the file can't be read")
         chunk = "" if self.place is None else f" chunk {self.place}"
