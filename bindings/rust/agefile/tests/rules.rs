@@ -1,0 +1,122 @@
+//! What `std::io` says of readers and writers.
+
+use agefile::{decrypt, encrypt, AgeFile, AgeReader, AgeWriter, Key};
+use std::io::{self, BufRead, Cursor, ErrorKind, Read, Seek, SeekFrom, Write};
+
+const LENGTHS: [usize; 7] = [0, 1, 65_535, 65_536, 65_537, 131_072, 200_000];
+
+fn text_of(len: usize) -> Vec<u8> {
+    let byte = |at: usize| (at.wrapping_mul(2_654_435_761) >> 13) as u8;
+    (0..len).map(byte).collect()
+}
+
+fn key() -> Key<'static> {
+    Key::passphrase(b"pw")
+}
+
+/// A source that gives at most this many bytes, and is interrupted before each.
+struct Pieces<R>(R, usize, bool);
+
+impl<R: Read> Read for Pieces<R> {
+    fn read(&mut self, room: &mut [u8]) -> io::Result<usize> {
+        self.2 = !self.2;
+        if self.2 {
+            return Err(ErrorKind::Interrupted.into());
+        }
+        let most = room.len().min(self.1);
+        self.0.read(&mut room[..most])
+    }
+}
+
+/// `Read` and `BufRead`: no byte for no room, nothing beyond the count, all of what `fill_buf` shows
+/// stays until it is consumed, and the end stays the end.
+fn see_reader(mut file: impl BufRead, text: &[u8]) {
+    let (mut got, mut room, mut turn) = (Vec::new(), vec![0xaa; 70_000], 0);
+    loop {
+        assert_eq!(file.read(&mut []).unwrap(), 0);
+        let seen = file.fill_buf().unwrap().to_vec();
+        assert_eq!(file.fill_buf().unwrap(), seen);
+        file.consume(0);
+        let most = [1, 100, 65_536, 70_000][turn % 4];
+        let n = file.read(&mut room[..most]).unwrap();
+        assert!(room[n..].iter().all(|&it| it == 0xaa));
+        assert_eq!(
+            (n == 0, &room[..n]),
+            (seen.is_empty(), &seen[..n.min(seen.len())])
+        );
+        got.extend_from_slice(&room[..n]);
+        room[..n].fill(0xaa);
+        if n == 0 {
+            break;
+        }
+        let rest = file.fill_buf().unwrap();
+        let some = rest.len().min(7);
+        got.extend_from_slice(&rest[..some]);
+        file.consume(some);
+        turn += 1;
+    }
+    assert_eq!(got, text);
+    assert_eq!(file.read(&mut room).unwrap(), 0);
+    assert!(file.fill_buf().unwrap().is_empty());
+    assert_eq!(file.read_to_end(&mut got).unwrap(), 0);
+    let error = file.read_exact(&mut room[..1]).unwrap_err();
+    assert_eq!(error.kind(), ErrorKind::UnexpectedEof);
+}
+
+#[test]
+fn readers() {
+    for len in LENGTHS {
+        let text = text_of(len);
+        let data = encrypt(&text, b"pw", 1).unwrap();
+        for size in [1, 9_999, 1 << 20] {
+            if size > 1 || len < 70_000 {
+                see_reader(
+                    AgeReader::open(Pieces(&data[..], size, false), key()).unwrap(),
+                    &text,
+                );
+            }
+        }
+        see_reader(AgeFile::open(Cursor::new(&data[..]), key()).unwrap(), &text);
+    }
+}
+
+/// `Seek`: a place before the beginning is refused and moves nothing; one after the end is the end.
+#[test]
+fn seeks() {
+    let text = text_of(200_000);
+    let data = encrypt(&text, b"pw", 1).unwrap();
+    let mut file = AgeFile::open(Cursor::new(&data[..]), key()).unwrap();
+    let mut memory = Cursor::new(&text[..]);
+    let (mut one, mut other) = ([0; 5_000], [0; 5_000]);
+    for turn in 0..300i64 {
+        let to = match turn % 3 {
+            0 => SeekFrom::Start((turn as u64 * 41_233) % 210_000),
+            1 => SeekFrom::Current((turn * 7_919) % 90_000 - 60_000),
+            _ => SeekFrom::End(-((turn * 30_011) % 205_000)),
+        };
+        let (got, want) = (file.seek(to), memory.seek(to));
+        assert_eq!(got.map_err(|it| it.kind()), want.map_err(|it| it.kind()));
+        let n = memory.read(&mut other).unwrap();
+        file.read_exact(&mut one[..n]).unwrap();
+        assert_eq!(
+            (&one[..n], file.stream_position().unwrap()),
+            (&other[..n], memory.position())
+        );
+    }
+}
+
+/// `Write`: a count says how many bytes were taken, none for none, and `flush` seals nothing.
+#[test]
+fn writers() {
+    let text = text_of(200_000);
+    let mut file = AgeWriter::create(Vec::new(), b"pw", 1).unwrap();
+    let mut left = &text[..];
+    while !left.is_empty() {
+        assert_eq!(file.write(&[]).unwrap(), 0);
+        let n = file.write(&left[..left.len().min(70_000)]).unwrap();
+        assert!(n > 0);
+        file.flush().unwrap();
+        left = &left[n..];
+    }
+    assert_eq!(decrypt(&file.finish().unwrap(), key()).unwrap(), text);
+}
