@@ -29,7 +29,10 @@ def twice(one, other):
 
 
 # How the lines begin that are advice for people: they may change, and have tests of their own (tests/test_program.py).
-ADVICE = (b"age_tool: hint: ", b"age_tool: the file is ", b"age_tool: position saved in ", b"age_tool: no position was saved")
+ADVICE = (
+    b"age_tool: hint: ", b"age_tool: the file is ", b"age_tool: position saved in ", b"age_tool: no position was saved",
+    b"age_tool: - is a file ", b"age_tool: --max-log does nothing ", b"age_tool: the passphrase in ", b"age_tool: work factor ",
+)
 
 
 def without_advice(said):

@@ -10,7 +10,7 @@ from tests.case import SECONDS, Case, without_advice
 from tools import shim, workspace
 
 WRITE = b"age_tool: 27 Write\n"
-OTHER_RUN = "another run writes to it"
+LOCKED = "another program holds its lock"
 NOBODY = 65534
 PLAIN = bytes(range(1, 251)) * 800
 

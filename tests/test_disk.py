@@ -12,7 +12,7 @@ import threading
 import time
 
 from tests.case import SECONDS, needs, twice, without_advice
-from tests.files import NOBODY, OTHER_RUN, PLAIN, WRITE, Feeding, FilesCase
+from tests.files import LOCKED, NOBODY, PLAIN, WRITE, Feeding, FilesCase
 from tests.files import as_nobody, chunk_fault, reason, unsaved, unwritten, waits_for
 
 LENGTH = "another program changed its length"
@@ -187,7 +187,7 @@ class DiskTest(FilesCase):
             first = self.started(words)
             with open(self.path("in"), "wb") as pipe:
                 waits_for(lambda: self.is_there("out"))
-                self.expect(1, unwritten("out", OTHER_RUN), "decrypt --pass pass age out", f"{name}: a second run")
+                self.expect(1, unwritten("out", LOCKED), "decrypt --pass pass age out", f"{name}: a second run")
                 self.see(f"{name}: OUT is still there", self.is_there("out") and self.read("out") == b"")
                 pipe.write(feed)
             self.ends(name, first, status, faults)

@@ -72,8 +72,9 @@ class ProgramTest(Case):
         ):
             said = f"age_tool: 26 Read\nage_tool: can't open {shown}: No such file or directory\n".encode()
             self.ends(what, self.decrypt(name, "back"), 1, b"", said)
-        said = b"age_tool: 26 Read\nage_tool: can't open " + b"n" * 1_000 + b"..: File name too long\n"
-        self.ends("a long name", self.decrypt("n" * 1_200, "back"), 1, b"", said)
+        for length, cut in ((1_000, b""), (1_001, b".."), (1_200, b"..")):
+            said = b"age_tool: 26 Read\nage_tool: can't open " + b"n" * 1_000 + cut + b": File name too long\n"
+            self.ends(f"a name of {length:,} characters", self.decrypt("n" * length, "back"), 1, b"", said)
         said = b"age_tool: 26 Read\nage_tool: can't read /proc/self/mem: Input/output error\n"
         self.ends("a file that can't be read", self.encrypt("10 /proc/self/mem back"), 1, b"", said)
 
@@ -206,10 +207,15 @@ class ProgramTest(Case):
         self.write("cut.age", self.age[:150_000])
         self.decrypt("--save", "position", "cut.age", "part")
         self.write("flipped", self.read("position").replace(b"v2 2 ", b"v2 1 "))
+        self.write("one-line", b"a" * 1_048_577)
+        self.write("short", b"short")
+        self.encrypt("2 short other.age")
         for what, fault, file, beginning, words in (
             ("an armored file", "2 Armored line 1", "armored", "remove the armor", "decrypt --pass pass armored back"),
             ("an empty file", "8 HeadCut line 1", "empty", "the file is empty", "decrypt --pass pass empty back"),
             ("what is no age file", "8 HeadCut line 1", "no-line", "this may not be an age file", "decrypt --pass pass no-line back"),
+            ("a long line", "7 HeadTooLong line 1", "one-line", "this may not be an age file", "decrypt --pass pass one-line back"),
+            ("another file", "24 OtherFile", "other.age", "IN must be the file", "resume --position position --old part --pass pass other.age back"),
             ("a cut header", "8 HeadCut line 3", "cut-header", "the file was cut off", "decrypt --pass pass cut-header back"),
             ("a limit", "11 WorkTooHigh", "plain.age", "if you trust the file", "decrypt --pass pass --max-log 9 plain.age back"),
             ("a wrong passphrase", "13 WrongKey", "plain.age", "check the passphrase", "decrypt plain.age back --pass=wrong"),
@@ -223,9 +229,89 @@ class ProgramTest(Case):
         ):
             ended = self.tool(*words.split())
             self.ends(what, ended, 1, b"", f"age_tool: {fault}\n".encode())
-            said = re.fullmatch(rf"age_tool: the file is {file}\nage_tool: hint: (.*) \(more: man age_tool-faults\)\n", ended.advice.decode())
+            said = re.fullmatch(rf"age_tool: the file is {file}\n(?:age_tool: work factor .*\n)?age_tool: hint: (.*) \(more: man age_tool-faults\)\n", ended.advice.decode())
             row = re.search(rf"^\| {fault.split()[0]} \| .*$", page, re.M)[0]
             self.see(f"the advice of {what}", said and said[1].startswith(beginning) and said[1] in row, ended.advice, row)
+
+    def test_hint_of_no_input(self):
+        """Standard input has no name, and isn't called a file."""
+        for what, held, hint in (("nothing", b"", b"standard input is empty"), ("no line", b"a", b"this may not be an age file: its first line has no newline")):
+            ended = self.tool("inspect", stdin=None, input=held)
+            self.see(f"{what} came", ended.advice == b"age_tool: hint: " + hint + b" (more: man age_tool-faults)\n", ended.advice)
+
+    def test_names_like_faults(self):
+        """A line that begins with a name isn't one of a fault."""
+        self.write("27 Write", b"")
+        os.link(self.path("27 Write"), self.path("28 Memory"))
+        for words, said in (
+            (("encrypt", "--pass", "27 Write", "plain", "back"), "bad passphrase file\nage_tool: ./27 Write is empty"),
+            (("decrypt", "--shared", "27 Write", "plain.age", "back"), "bad shared file\nage_tool: ./27 Write holds 0 of 64 bytes"),
+            (("encrypt", "--pass", "pass", "27 Write", "28 Memory"), "same file named twice\nage_tool: ./28 Memory and 27 Write are the same file"),
+            ((b"27 Write\xff",), "bad command line\nage_tool: ./27 Write\\xff isn't UTF-8, as a name must be"),
+        ):
+            self.ends(words, self.tool(*words), 2, b"", f"age_tool: {said}\n".encode())
+
+    def test_passphrases_that_can_not_be_typed(self):
+        for held, what in (
+            (b"correct horse\r\n", "a carriage return"), (b"\xef\xbb\xbfcorrect horse\n", "a byte order mark"), (b"correct horse\n\n", "a second newline"),
+            (b"correct\nhorse\n", "a second line"), (b"correct\0horse", "a zero byte"), (b"correct\thorse\n", "a control character"),
+            (b"correct horse\n", None), (b"correct horse", None), ("gr\u00f6\u00dfer\n".encode(), None), (b"\xef\xbb\xbe", None),
+        ):
+            self.write("words", held)
+            said = f"age_tool: the passphrase in words has {what}, which can't be typed when age asks for it\n".encode() if what else b""
+            for option in (("--pass", "words"), ("--pass=words",)):
+                ended = self.tool("encrypt", *option, "--log", "1", "plain", "words.age")
+                self.see(held, (ended.returncode, ended.stderr, ended.advice) == (0, b"", said), ended.stderr, ended.advice)
+            ended = self.tool(*"decrypt --pass words words.age back".split())
+            self.see(f"{held} decrypts", (ended.returncode, ended.advice) == (0, b""), ended.advice)
+
+    def test_words_that_do_something_else(self):
+        dash = b"age_tool: - is a file of that name: the standard streams are /dev/stdin and /dev/stdout\n"
+        none = b"age_tool: --max-log does nothing without --pass\n"
+        self.write("shared", bytes(64))
+        for words, status, said in (
+            ("decrypt --pass pass plain.age -", 0, dash), ("decrypt --pass pass plain.age ./-", 0, b""), ("encrypt --pass pass --log 1 - back", 0, dash),
+            ("decrypt --shared shared --max-log 9 plain.age back", 1, none), ("decrypt --file-key=00 --max-log=9 plain.age back", 2, none),
+            ("decrypt --pass pass --max-log 22 plain.age back", 0, b""), ("decrypt --max-log 9 plain.age back", 2, b""),
+        ):
+            ended = self.tool(*words.split())
+            self.see(words, (ended.returncode, ended.advice.startswith(said) if said else ended.advice) == (status, True if said else b""), ended.advice)
+
+    def test_work_factors(self):
+        """A report and a refusal say what memory a passphrase takes."""
+        zeros = "A" * 43
+        for log, said in (
+            ("1", "work factor 1: a passphrase takes 2.0 KiB of memory"), ("19", "work factor 19: a passphrase takes 512.0 MiB of memory"),
+            ("22", "work factor 22: a passphrase takes 4.0 GiB of memory"), ("23", None), ("300", None), ("9" * 5_000, None),
+        ):
+            self.write("costly", f"age-encryption.org/v1\n-> scrypt AAAAAAAAAAAAAAAAAAAAAA {log}\n{zeros}\n--- {zeros}\n".encode())
+            line = f"age_tool: {said or 'work factor above 22: no age_tool opens the file'}\n".encode()
+            with open(self.path("costly"), "rb") as costly:
+                for ended in (self.tool("inspect", "costly"), self.tool(stdin=costly)):
+                    self.see(f"a report of {log[:5]}", (ended.returncode, ended.stderr, ended.advice) == (0, b"", line), ended.stderr, ended.advice)
+            if log != "1":
+                ended = self.decrypt("--max-log", "1", "costly", "back")
+                self.ends(f"a limit below {log[:5]}", ended, 1, b"", b"age_tool: 11 WorkTooHigh\n")
+                hint = b"age_tool: hint: if you trust the file" in ended.advice
+                self.see(f"the advice on {log[:5]}", ended.advice.startswith(b"age_tool: the file is costly\n" + line) and hint == bool(said), ended.advice)
+        ended = self.tool("inspect", "pass")
+        self.see("a refused file has none", b"work factor" not in ended.advice, ended.advice)
+
+    def test_what_takes_long(self):
+        """From 64 MiB on: that IN is read again, and at a terminal alone that the disk is waited for. No second line says that no position was saved."""
+        for size, is_long in ((64 << 20, True), ((64 << 20) - 65_536, False)):
+            self.path("zeros").write_bytes(b"")
+            os.truncate(self.path("zeros"), size + 100_000)
+            self.encrypt("1 --no-sync zeros long.age")
+            ended = self.decrypt("long.age", "back")
+            self.see("in a log nothing is said of the wait", (ended.returncode, ended.stderr) == (0, b""), ended.stderr)
+            os.truncate(self.path("long.age"), size)
+            for more in ((), ("--no-sync",)):
+                ended = self.decrypt(*more, "--save", "position", "long.age", "back")
+                said = b"age_tool: reading long.age again (64.0 MiB) to find the position: if the run is killed now, none is saved\n"
+                self.see(f"{size} bytes are read again", (ended.returncode, said in ended.stderr) == (1, is_long), ended.stderr)
+        ended = self.decrypt("--no-sync", "--save", "/dev/full", "cut.age" if self.is_there("cut.age") else "long.age", "back")
+        self.see("a position that can't be saved", ended.returncode == 1 and b"no position was saved" not in ended.advice, ended.advice)
 
     def test_hints_of_names(self):
         """A passphrase in the place of its file's name."""
@@ -240,11 +326,35 @@ class ProgramTest(Case):
         said = b"age_tool: bad file key\nage_tool: --file-key takes 32 hexadecimal digits\n"
         self.ends("a bad file key", self.tool(*"decrypt --file-key 00 plain.age back".split()), 2, b"", said)
 
+    def test_command_that_is_pasted(self):
+        """A shell takes the command that is shown as it was meant, whatever the names are."""
+        self.write("cut.age", self.age[:150_000])
+        for name in (
+            "a b", "$(touch RUN)", "`touch RUN`", ";touch RUN", "it's", 'a"b', "back\\slash", "two\nlines", "\x1b[2J", "-p", "--no-sync", "~", "*", "=ls", "#",
+            "gr\u00f6\u00dfe", "\u202eright", "zero\u200bwidth", "a&b|c>d", "!x", "$HOME", "{a,b}", "'", "\t",
+        ):
+            ended = self.decrypt(f"--save={name}", "--", "cut.age", f"{name}.part")
+            command = ended.advice.decode().rpartition("to go on from there: ")[2]
+            is_command = command.startswith("age_tool resume --position ") and command.endswith(" .. IN NEW\n")
+            self.see(f"a command for {name!r}", is_command and command[:-1].isprintable(), ended.advice)
+            given = f'"$0" {command[:-11].removeprefix("age_tool ")} --pass pass plain.age whole'
+            pasted = subprocess.run(["bash", "-c", given, self.program], cwd=self.room, capture_output=True, env={"LC_ALL": "C"})
+            self.see(f"the command for {name!r}", pasted.returncode == 0 and self.read("whole") == self.plain, command, pasted.stderr)
+            self.remove("whole")
+        self.see("no name is run", not self.is_there("RUN"))
+        long = "./" * 600 + "position"
+        ended = self.decrypt("--save", long, "cut.age", "part")
+        said = f"age_tool: position saved in {long[:1000]}..; to go on from there, give it to age_tool resume as --position, and as --old part\n"
+        self.see("a name that isn't shown whole", ended.advice.endswith(said.encode()), ended.advice)
+
     def test_advice_on_positions(self):
         self.write("cut.age", self.age[:150_000])
         ended = self.decrypt("--save", "position", "cut.age", "part")
         said = b"age_tool: position saved in position; to go on from there: age_tool resume --position position --old part .. IN NEW\n"
         self.see("a position was saved", ended.advice.endswith(said), ended.advice)
+        ended = self.decrypt("--save", "position", "cut.age", "/dev/null")
+        said_of_null = b"age_tool: position saved in position; resume would need the text that /dev/null took\n"
+        self.see("whose old output is nowhere", ended.advice.endswith(said_of_null), ended.advice)
         ended = self.decrypt("--save=position", "cut.age", "/dev/stdout")
         self.see("whose old output is elsewhere", ended.advice.endswith(said.replace(b"part", b"OLD")), ended.advice)
         ended = self.decrypt("--save=position", "pass", "back")

@@ -10,7 +10,7 @@ import threading
 import time
 
 from tests.case import SECONDS, needs, twice
-from tests.files import NOBODY, OTHER_RUN, PLAIN, WRITE, Feeding, FilesCase
+from tests.files import LOCKED, NOBODY, PLAIN, WRITE, Feeding, FilesCase
 from tests.files import as_nobody, chunk_fault, reason, unsaved, unwritten
 from tests.test_runs import feed
 from tools import shim
@@ -103,7 +103,7 @@ class SavingTest(FilesCase):
         """Two runs don't save into one file."""
         self.write("saved", b"an old position")
         feeding = Feeding(self)
-        self.expect(1, unwritten("saved", OTHER_RUN), "decrypt --pass pass --save saved cut new", "a second run with the file of --save")
+        self.expect(1, unwritten("saved", LOCKED), "decrypt --pass pass --save saved cut new", "a second run with the file of --save")
         self.see("a second run with the file of --save: nothing was begun", not self.is_there("new") and self.read("saved") == b"an old position")
         feeding.stops("the first run with the file of --save", chunk_fault(2))
         self.see("the first run with the file of --save: its position", self.is_position("saved", 2))

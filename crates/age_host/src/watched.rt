@@ -68,9 +68,9 @@ impl<'r, 'w> WatchedIn<'r, 'w> {
     }
 
     /// Counts what a pull gave, and keeps that the file was cut off, if it was.
-    fn note_pulled(&self, n: u64) {
-        self.failures.count(self.name, n);
-        if n == 0 && self.source.is_cut_off() {
+    fn note_pulled(&self, pulled: &[u8]) {
+        self.failures.count(self.name, pulled);
+        if pulled.is_empty() && self.source.is_cut_off() {
             self.failures.note_cut_off(self.name);
         }
     }
@@ -96,7 +96,7 @@ impl<'r, 'w> Source for WatchedIn<'r, 'w> {
     fn pull(&mut self, into: &mut [u8]) -> Result<usize, Failed> {
         let pulled = self.source.pull(into);
         match pulled {
-            Ok(n) => self.note_pulled(n as u64),
+            Ok(n) => self.note_pulled(&into[..n]),
             Err(_) => self.note(self.source.error()),
         }
         pulled
@@ -273,8 +273,9 @@ impl<'r, 'w, T> Watched<'r, 'w, T> {
 impl<'r, 'w, R: Read> Read for Watched<'r, 'w, R> {
     fn read(&mut self, into: &mut [u8]) -> io::Result<usize> {
         let read = self.stream.read(into);
-        if let Err(error) = read {
-            self.failures.note(Action::Read, "standard input", error);
+        match read {
+            Ok(n) => self.failures.count("", &into[..n]),
+            Err(error) => self.failures.note(Action::Read, "standard input", error),
         }
         read
     }

@@ -1,7 +1,7 @@
 //! What people read if a command line says too little, or can't be read, and while a run does something
 //! that may take long.
 
-use crate::escaped::Escaped;
+use crate::escaped::{Escaped, Leading};
 use crate::failures::Failures;
 use crate::line::size_line;
 use std::env::{Env, FillError};
@@ -32,7 +32,7 @@ fn show_unread(rt: &HostRuntime, word: &[u8]) -> bool {
     if str::from_utf8(word).is_ok() {
         return false;
     }
-    let word = Escaped(word);
+    let word = Leading(word);
     let _ = eprintln!(rt; "age_tool: {word} isn't UTF-8, as a name must be");
     true
 }

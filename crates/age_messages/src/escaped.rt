@@ -20,7 +20,36 @@ impl<'a> fmt::Display for Escaped<'a> {
             left = show_text(chunk.valid(), left, f)?;
             left = show_bytes(chunk.invalid(), left, f)?;
         }
-        if left == 0 { f.write_str("..") } else { Ok(()) }
+        if is_cut(self.0) {
+            f.write_str("..")
+        } else {
+            Ok(())
+        }
+    }
+}
+
+/// Whether a word has more characters than are shown. A byte that is no text counts as one.
+pub(crate) fn is_cut(word: &[u8]) -> bool {
+    let mut count: usize = 0;
+    for chunk in word.utf8_chunks() {
+        count = count
+            .saturating_add(chunk.valid().chars().count())
+            .saturating_add(chunk.invalid().len());
+    }
+    count > SHOWN_MAX
+}
+
+/// A word at the beginning of a line, as `Escaped` shows it. A name that begins with a digit gets
+/// `./`, so that no line of a name looks like one of a fault.
+#[derive(Clone, Copy)]
+pub(crate) struct Leading<'a>(pub(crate) &'a [u8]);
+
+impl<'a> fmt::Display for Leading<'a> {
+    fn fmt<W: fmt::Write>(&self, f: &mut Formatter<W>) -> fmt::Result {
+        if self.0.first().is_some_and(u8::is_ascii_digit) {
+            f.write_str("./")?;
+        }
+        fmt::Display::fmt(&Escaped(self.0), f)
     }
 }
 
@@ -49,14 +78,71 @@ fn show_char<W: fmt::Write>(c: char, f: &mut Formatter<W>) -> fmt::Result {
     }
 }
 
-/// Shows bytes that are no text.
+/// Shows as many bytes that are no text as are left.
 fn show_bytes<W: fmt::Write>(
     bytes: &[u8],
     left: usize,
     f: &mut Formatter<W>,
 ) -> Result<usize, fmt::Error> {
-    if left > 0 {
-        write!(f, "{}", bytes.escape_ascii())?;
+    let shown = &bytes[..bytes.len().min(left)];
+    write!(f, "{}", shown.escape_ascii())?;
+    Ok(left - shown.len())
+}
+
+/// A name as a shell takes it: a command that is shown can be given again, and a name that was made
+/// to mislead does nothing there. No character of it is left out.
+#[derive(Clone, Copy)]
+pub(crate) struct Quoted<'a>(pub(crate) &'a str);
+
+/// Whether a shell takes a character as it is.
+fn is_plain(c: char) -> bool {
+    c.is_ascii_alphanumeric() || matches!(c, '_' | '-' | '.' | '/' | ':' | ',' | '+' | '@' | '%')
+}
+
+/// Whether a character can stand between quotes, and be shown.
+fn is_quotable(c: char) -> bool {
+    c != '\'' && (c == ' ' || c.is_ascii_graphic() || c.is_alphanumeric())
+}
+
+impl<'a> fmt::Display for Quoted<'a> {
+    fn fmt<W: fmt::Write>(&self, f: &mut Formatter<W>) -> fmt::Result {
+        if self.0.starts_with('-') {
+            f.write_str("./")?;
+        }
+        if !self.0.is_empty() && self.0.chars().all(is_plain) {
+            f.write_str(self.0)
+        } else if self.0.chars().all(is_quotable) {
+            write!(f, "'{}'", self.0)
+        } else {
+            quote_codes(self.0, f)
+        }
     }
-    Ok(left.saturating_sub(bytes.len()))
+}
+
+/// Shows a name between `$'` and `'`.
+fn quote_codes<W: fmt::Write>(name: &str, f: &mut Formatter<W>) -> fmt::Result {
+    f.write_str("$'")?;
+    for c in name.chars() {
+        quote_char(c, f)?;
+    }
+    f.write_str("'")
+}
+
+/// Shows a character there: what can't be shown by the codes of its bytes, so that no locale
+/// matters.
+fn quote_char<W: fmt::Write>(c: char, f: &mut Formatter<W>) -> fmt::Result {
+    match c {
+        '\'' => f.write_str("\\'"),
+        '\\' => f.write_str("\\\\"),
+        _ if is_quotable(c) => write!(f, "{c}"),
+        _ => quote_bytes(c, f),
+    }
+}
+
+fn quote_bytes<W: fmt::Write>(c: char, f: &mut Formatter<W>) -> fmt::Result {
+    let mut room = [0; 4];
+    for byte in c.encode_utf8(&mut room).bytes() {
+        write!(f, "\\{:03o}", byte)?;
+    }
+    Ok(())
 }

@@ -1,9 +1,11 @@
 //! What people read after a run, besides the line of its fault.
 
-use crate::escaped::Escaped;
+use crate::escaped::{Escaped, Leading, Quoted, is_cut};
 use crate::failures::{Amount, Failure, Failures};
+use crate::head::Work;
 use crate::heard::Heard;
 use crate::hints::hint_of;
+use crate::line::size_line;
 use age_io::Sink;
 use std::io::Eprint;
 use std::rt::HostRuntime;
@@ -24,22 +26,26 @@ fn fault_in(line: &str) -> Option<Reported> {
     })
 }
 
-/// Says on standard error which file became shorter while it was read; what the machine answered, if
-/// that is why a run stopped, or which file the fault is about; whether a position was saved; which
-/// files were one; and what is wrong with a file that was refused. Then it says what to do.
+/// Says on standard error what may surprise, however a run ended; what the machine answered, if that
+/// is why it stopped, or which file the fault is about; whether a position was saved; which files
+/// were one; and what is wrong with a file that was refused. Then it says what to do.
 pub fn explain<O: Sink>(rt: &HostRuntime, heard: &Heard<O>, failures: &Failures<'_>) {
-    if let Some(name) = failures.cut_off() {
-        let name = Escaped(name.as_bytes());
-        let _ = eprintln!(rt; "age_tool: {name} became shorter while it was read");
-    }
+    explain_words_taken(rt, failures);
+    explain_inputs(rt, failures);
     let mut lines = heard.text().lines();
     let Some(line) = lines.next() else {
+        if failures.is_inspecting() && !heard.is_long() {
+            tell_work(rt, failures);
+        }
         return;
     };
     match fault_in(line) {
         Some(first) => {
             explain_fault(rt, first, failures.first());
             name_file(rt, first, failures);
+            if first.number == 11 {
+                tell_work(rt, failures);
+            }
             if let Some(second) = lines.next().and_then(fault_in) {
                 explain_fault(rt, second, failures.unsaved());
             }
@@ -47,6 +53,59 @@ pub fn explain<O: Sink>(rt: &HostRuntime, heard: &Heard<O>, failures: &Failures<
             tell_position(rt, failures);
         }
         None => explain_refusal(rt, line, failures),
+    }
+}
+
+/// Says of a word what it means here, if other programs take it for something else.
+fn explain_words_taken(rt: &HostRuntime, failures: &Failures<'_>) {
+    if failures.has_word("-") {
+        let _ = eprintln!(rt;
+            "age_tool: - is a file of that name: the standard streams are /dev/stdin and \
+             /dev/stdout"
+        );
+    }
+    let has_key = failures.named_by("--file-key").is_some()
+        || failures.named_by("--shared").is_some();
+    if has_key
+        && failures.named_by("--max-log").is_some()
+        && failures.named_by("--pass").is_none()
+    {
+        let _ = eprintln!(rt; "age_tool: --max-log does nothing without --pass");
+    }
+}
+
+/// Says what may surprise in a file that was read.
+fn explain_inputs(rt: &HostRuntime, failures: &Failures<'_>) {
+    if let Some(name) = failures.cut_off() {
+        let name = Leading(name.as_bytes());
+        let _ = eprintln!(rt; "age_tool: {name} became shorter while it was read");
+    }
+    if failures.is_of(&["encrypt"])
+        && let Some(name) = failures.named_by("--pass")
+        && let Some(what) = failures.untypable()
+    {
+        let name = Escaped(name.as_bytes());
+        let _ = eprintln!(rt;
+            "age_tool: the passphrase in {name} has {what}, which can't be typed when age asks for it"
+        );
+    }
+}
+
+/// Says how much memory the file that was read last asks for, if a passphrase opens it.
+fn tell_work(rt: &HostRuntime, failures: &Failures<'_>) {
+    match failures.last_read().head.work() {
+        Some(Work::Allowed(log)) => {
+            let size = size_line(1024 << (log as u64).min(22));
+            if let Ok(size) = str::from_utf8(size.as_slice()) {
+                let _ = eprintln!(rt;
+                    "age_tool: work factor {log}: a passphrase takes {size} of memory"
+                );
+            }
+        }
+        Some(Work::TooHigh) => {
+            let _ = eprintln!(rt; "age_tool: work factor above 22: no age_tool opens the file");
+        }
+        None => {}
     }
 }
 
@@ -87,26 +146,53 @@ fn old_name(output: &str) -> &str {
     }
 }
 
+/// Says how to go on from a position that was saved, by a command for a shell if it shows both names
+/// whole.
+fn tell_command(rt: &HostRuntime, saved: &str, old: &str) {
+    let name = Escaped(saved.as_bytes());
+    let _ = if old == "/dev/null" {
+        eprintln!(rt;
+            "age_tool: position saved in {name}; resume would need the text that /dev/null took"
+        )
+    } else if is_cut(saved.as_bytes()) || is_cut(old.as_bytes()) {
+        let old = Escaped(old.as_bytes());
+        eprintln!(rt;
+            "age_tool: position saved in {name}; to go on from there, give it to age_tool resume as \
+             --position, and as --old {old}"
+        )
+    } else {
+        let (saved, old) = (Quoted(saved), Quoted(old));
+        eprintln!(rt;
+            "age_tool: position saved in {name}; to go on from there: \
+             age_tool resume --position {saved} --old {old} .. IN NEW"
+        )
+    };
+}
+
 /// Says where the position was saved and how to go on from there, or that none was saved though
 /// that was asked for.
 fn tell_position(rt: &HostRuntime, failures: &Failures<'_>) {
     if let Some(saved) = failures.saved.get()
         && let Some(output) = failures.output.get()
     {
-        let saved = Escaped(saved.as_bytes());
-        let output = Escaped(old_name(output).as_bytes());
-        let _ = eprintln!(rt;
-            "age_tool: position saved in {saved}; to go on from there: \
-             age_tool resume --position {saved} --old {output} .. IN NEW"
-        );
+        tell_command(rt, saved, old_name(output));
     } else if failures.named_by("--save").is_some() && failures.unsaved().is_none() {
         let _ = eprintln!(rt; "age_tool: no position was saved");
     }
 }
 
-/// Whether a fault came of a named file that holds nothing.
+/// Whether a fault came of what holds nothing.
 fn is_of_empty(fault: Reported, last: Amount<'_>) -> bool {
-    fault.number == 8 && fault.is_first_line && last.bytes == 0 && !last.name.is_empty()
+    fault.number == 8 && fault.is_first_line && last.bytes == 0
+}
+
+/// What to do if something holds nothing.
+fn hint_of_empty(last: Amount<'_>) -> &'static str {
+    if last.name.is_empty() {
+        "standard input is empty"
+    } else {
+        "the file is empty"
+    }
 }
 
 /// Whether a fault came of the name that an option gives, of which there is no file.
@@ -120,11 +206,15 @@ fn is_of_missing(fault: Reported, option: &str, failures: &Failures<'_>) -> bool
 /// What to do after a fault.
 fn hint_for(fault: Reported, failures: &Failures<'_>) -> Option<&'static str> {
     if is_of_empty(fault, failures.last_read()) {
-        Some("the file is empty")
+        Some(hint_of_empty(failures.last_read()))
     } else if is_of_missing(fault, "--pass", failures) {
         Some("--pass takes the name of a file that holds the passphrase")
     } else if is_of_missing(fault, "--shared", failures) {
         Some("--shared takes the name of a file that holds the shared secret")
+    } else if fault.number == 11
+        && matches!(failures.last_read().head.work(), Some(Work::TooHigh))
+    {
+        None
     } else {
         hint_of(fault.number, fault.is_first_line)
     }
@@ -158,7 +248,7 @@ fn explain_refusal(rt: &HostRuntime, line: &str, failures: &Failures<'_>) {
 
 /// Says what is wrong with the file of a passphrase. It was read until it was too long.
 fn explain_passphrase(rt: &HostRuntime, last: Amount<'_>) {
-    let name = Escaped(last.name.as_bytes());
+    let name = Leading(last.name.as_bytes());
     let what = match last.bytes {
         0 => "is empty",
         1 => "holds nothing but a newline",
@@ -169,7 +259,7 @@ fn explain_passphrase(rt: &HostRuntime, last: Amount<'_>) {
 
 /// Says what is wrong with a file of a wanted length. It was read until it was too long.
 fn explain_length(rt: &HostRuntime, last: Amount<'_>, wanted: u64) {
-    let (name, bytes) = (Escaped(last.name.as_bytes()), last.bytes);
+    let (name, bytes) = (Leading(last.name.as_bytes()), last.bytes);
     let _ = if bytes > wanted {
         eprintln!(rt; "age_tool: {name} holds more than {wanted} bytes")
     } else {

@@ -2,7 +2,9 @@
 
 ghost use Rattle.std.specs.Prelude.{◌≡◌, ◌⊎◌, codes, IfSome};
 
-use crate::escaped::Escaped;
+use crate::escaped::{Escaped, Leading};
+use crate::head::Head;
+use crate::typing::Typing;
 use arrayvec::ArrayString;
 use std::cell::Cell;
 use std::fmt::{self, Formatter, Write};
@@ -93,6 +95,7 @@ fn kind_text(kind: io::ErrorKind) -> Option<&'static str> {
         io::ErrorKind::IsADirectory => Some("Is a directory"),
         io::ErrorKind::FilesystemLoop => Some("Too many levels of symbolic links"),
         io::ErrorKind::Unsupported => Some("Operation not supported"),
+        io::ErrorKind::ResourceBusy => Some("another program holds its lock"),
         io::ErrorKind::WriteZero => Some("no byte was taken"),
         _ => None,
     }
@@ -122,7 +125,7 @@ pub struct Twice<'w> {
 
 impl<'w> fmt::Display for Twice<'w> {
     fn fmt<W: fmt::Write>(&self, f: &mut Formatter<W>) -> fmt::Result {
-        let one = Escaped(self.one.as_bytes());
+        let one = Leading(self.one.as_bytes());
         match self.other {
             Some(other) => {
                 let other = Escaped(other.as_bytes());
@@ -133,11 +136,23 @@ impl<'w> fmt::Display for Twice<'w> {
     }
 }
 
-/// How many bytes were read of a file.
+/// How many bytes were read of a file, and the first of them.
 #[derive(Clone, Copy)]
 pub struct Amount<'w> {
     pub name: &'w str,
     pub bytes: u64,
+    pub(crate) head: Head,
+}
+
+impl<'w> Amount<'w> {
+    /// Nothing yet. Standard input has no name.
+    fn none(name: &'w str) -> Amount<'w> {
+        Amount {
+            name,
+            bytes: 0,
+            head: Head::new(),
+        }
+    }
 }
 
 /// Where random bytes come from if the command line names no file.
@@ -160,6 +175,7 @@ pub struct Failures<'w> {
     last_read: Cell<Amount<'w>>,
     pub(crate) output: Cell<Option<&'w str>>,
     cut_off: Cell<Option<&'w str>>,
+    typing: Cell<Typing>,
 }
 
 impl<'w> Failures<'w> {
@@ -171,9 +187,10 @@ impl<'w> Failures<'w> {
             unsaved: Cell::new(None),
             saved: Cell::new(None),
             twice: Cell::new(None),
-            last_read: Cell::new(Amount { name: "", bytes: 0 }),
+            last_read: Cell::new(Amount::none("")),
             output: Cell::new(None),
             cut_off: Cell::new(None),
+            typing: Cell::new(Typing::new()),
         }
     }
 
@@ -238,16 +255,39 @@ impl<'w> Failures<'w> {
 
     /// Begins to count what is read of a file.
     pub fn begin_reading(&self, name: &'w str) {
-        self.last_read.set(Amount { name, bytes: 0 });
+        self.last_read.set(Amount::none(name));
     }
 
-    /// Counts what was read of a file, if it is the one that was opened last.
-    pub fn count(&self, name: &'w str, bytes: u64) {
-        let last = self.last_read.get();
+    /// Counts what was read of a file, if it is the one that was opened last; of a passphrase, keeps
+    /// whether it can be typed.
+    pub fn count(&self, name: &'w str, read: &[u8]) {
+        let mut last = self.last_read.get();
         if last.name == name {
-            let bytes = last.bytes.saturating_add(bytes);
-            self.last_read.set(Amount { name, bytes });
+            last.bytes = last.bytes.saturating_add(read.len() as u64);
+            last.head.extend(read);
+            self.last_read.set(last);
         }
+        if self.named_by("--pass") == Some(name) {
+            self.typing.set(self.typing.get().after(read));
+        }
+    }
+
+    /// What of the passphrase can't be typed, if there is something.
+    pub(crate) fn untypable(&self) -> Option<&'static str> {
+        self.typing.get().untypable()
+    }
+
+    /// Whether the words are of one of these commands.
+    pub(crate) fn is_of(&self, commands: &[&str]) -> bool {
+        match self.words.first() {
+            Some(word) => commands.contains(word),
+            None => false,
+        }
+    }
+
+    /// Whether the words are those of a run that reports on a header.
+    pub(crate) fn is_inspecting(&self) -> bool {
+        self.words.is_empty() || self.is_of(&["inspect"])
     }
 
     /// Keeps the name of a file that became shorter while it was read.

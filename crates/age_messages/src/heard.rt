@@ -41,6 +41,11 @@ impl<O: Sink> Heard<O> {
             _ => "",
         }
     }
+
+    /// Whether it was too long to be kept.
+    pub(crate) fn is_long(&self) -> bool {
+        !self.is_whole
+    }
 }
 
 impl<O: Sink> Sink for Heard<O> {

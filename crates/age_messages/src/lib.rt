@@ -10,12 +10,14 @@ mod announcing;
 mod escaped;
 mod explaining;
 mod failures;
+mod head;
 mod heard;
 mod hints;
 mod line;
 mod line_style;
 mod progress_line;
 mod text;
+mod typing;
 
 pub use announcing::{announce_reading, announce_rereading, announce_sync, explain_words};
 pub use explaining::explain;

@@ -1,0 +1,64 @@
+//! The first bytes of a file, for the work factor that its header names.
+
+/// How many bytes are kept: the first line, and a stanza of a passphrase with its work factor.
+const KEPT_MAX: usize = 80;
+
+/// The first bytes of a file.
+#[derive(Clone, Copy)]
+pub(crate) struct Head {
+    kept: [u8; KEPT_MAX],
+    len: usize,
+}
+
+/// A work factor.
+#[derive(Clone, Copy)]
+pub(crate) enum Work {
+    /// One that some limit allows.
+    Allowed(u8),
+    /// One above all limits.
+    TooHigh,
+}
+
+impl Head {
+    /// None yet.
+    pub(crate) fn new() -> Head {
+        Head {
+            kept: [0; KEPT_MAX],
+            len: 0,
+        }
+    }
+
+    /// Keeps what was read after the others, as far as there is room.
+    pub(crate) fn extend(&mut self, read: &[u8]) {
+        for byte in read {
+            if self.len < KEPT_MAX {
+                self.kept[self.len] = *byte;
+                self.len += 1;
+            }
+        }
+    }
+
+    /// The work factor of a stanza of a passphrase that comes first, as one has to.
+    pub(crate) fn work(&self) -> Option<Work> {
+        let kept = str::from_utf8(&self.kept[..self.len.min(KEPT_MAX)]).ok()?;
+        let stanza = kept.strip_prefix("age-encryption.org/v1\n-> scrypt ")?;
+        let (_, rest) = stanza.split_once(' ')?;
+        work_of(rest)
+    }
+}
+
+/// The work factor that a text begins with, to the end of its line. (One without that end has more
+/// digits than are kept.)
+fn work_of(text: &str) -> Option<Work> {
+    let digits = match text.split_once('\n') {
+        Some((digits, _)) => digits,
+        None => text,
+    };
+    if digits.is_empty() || !digits.bytes().all(|it| it.is_ascii_digit()) {
+        return None;
+    }
+    match digits.parse::<u8>() {
+        Ok(log) if log <= 22 => Some(Work::Allowed(log)),
+        _ => Some(Work::TooHigh),
+    }
+}
