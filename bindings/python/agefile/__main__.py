@@ -17,6 +17,7 @@ from agefile import _keys, _library
 from agefile._arguments import WORK_MAX, secret
 from agefile._recipients import beginning_of
 from agefile._source import new_name, reach_disk, some
+from agefile._workers import WORKERS_MAX, Places, copy_text, put_at
 
 FACTORS = range(1, WORK_MAX + 1)
 
@@ -116,6 +117,9 @@ def recipients_of(words: argparse.Namespace) -> list[str]:
 
 def decrypt(words: argparse.Namespace) -> None:
     see_apart(words)
+    if words.workers > 1:
+        decrypt_by_workers(words)
+        return
     count = 0
     try:
         with source(words.input) as under, opened(under, words) as file:
@@ -130,6 +134,31 @@ def decrypt(words: argparse.Namespace) -> None:
         if count > 0:
             fault.args += (f"OUT has the first {count} bytes of the text",)
         raise
+
+
+def decrypt_by_workers(words: argparse.Namespace) -> None:
+    """The same by several threads. OUT gets its name once all of the text is there, and on the disk: else it stays as it was."""
+    there = os.path.exists(words.output)
+    if words.output == "-" or there and not os.path.isfile(words.output):
+        raise ValueError("--workers writes a regular file")
+    out = os.path.realpath(words.output)
+    part = f"{out}.{os.getpid()}.part"
+    with source(words.input) as under, opened(under, words, random_access=True) as first:
+        descriptor = os.open(part, os.O_WRONLY | os.O_CREAT | os.O_EXCL, 0o666)
+        try:
+            with open(descriptor, "wb", buffering=0) as made:
+                copy_text(first, lambda: Places(under.fileno()), lambda at, text: put_at(descriptor, at, text), words.workers)
+                if there:
+                    os.fchmod(descriptor, stat.S_IMODE(os.stat(out).st_mode))
+                os.fsync(descriptor)
+                if words.no_clobber:
+                    os.link(part, out)  # which refuses a name that is there by now
+                else:
+                    os.replace(part, out)
+                reach_disk(made, out)
+        finally:
+            with contextlib.suppress(FileNotFoundError):
+                os.unlink(part)
 
 
 def salvage(words: argparse.Namespace) -> int:
@@ -200,10 +229,10 @@ def identities_of(name: str) -> list[str]:
     return _keys.identities_of(text)
 
 
-def opened(file: Any, words: argparse.Namespace) -> Any:
+def opened(file: Any, words: argparse.Namespace, random_access: bool = False) -> Any:
     if words.keys is not None:
-        return agefile.open(file, identity=identities_of(words.keys))
-    return agefile.open(file, passphrase=passphrase_of(words), max_work=words.max_log)
+        return agefile.open(file, identity=identities_of(words.keys), random_access=random_access)
+    return agefile.open(file, passphrase=passphrase_of(words), max_work=words.max_log, random_access=random_access)
 
 
 def words_of() -> argparse.Namespace:
@@ -230,6 +259,9 @@ def words_of() -> argparse.Namespace:
         else:
             command.add_argument("--max-log", type=int, default=22, choices=FACTORS, metavar="N", help="the greatest work factor to accept (22)")
         command.add_argument("input", metavar="IN")
+        if call is decrypt:
+            command.add_argument("--workers", type=int, default=1, choices=range(1, WORKERS_MAX + 1), metavar="N", help="decrypt by so many threads, "
+                                 "from one regular file to another (1)")
         if call is not test:
             command.add_argument("--no-clobber", action="store_true", help="refuse an OUT that is there")
             command.add_argument("output", metavar="OUT")

@@ -17,14 +17,18 @@ def see_one(*keys: Any) -> None:
         raise TypeError("give one of passphrase, file_key, shared, identity and recipient")
 
 
-def work_factor(name: str, given: Any) -> int:
+def whole_number(name: str, given: Any, most: int) -> int:
     try:
         number = operator.index(given)
     except TypeError:
-        raise TypeError(f"{name} is an int from 1 to {WORK_MAX}, not {type(given).__name__}") from None
-    if not 1 <= number <= WORK_MAX:
-        raise ValueError(f"{name} is from 1 to {WORK_MAX}, not {number}")
+        raise TypeError(f"{name} is an int from 1 to {most}, not {type(given).__name__}") from None
+    if not 1 <= number <= most:
+        raise ValueError(f"{name} is from 1 to {most}, not {number}")
     return number
+
+
+def work_factor(name: str, given: Any) -> int:
+    return whole_number(name, given, WORK_MAX)
 
 
 def raw(name: str, given: Any, kind: str = "bytes") -> bytes:

@@ -4,8 +4,10 @@ from __future__ import annotations
 import io
 from typing import Iterable
 
+from ._file import AgeFile
 from ._reader import AgeReader
 from ._recipients import beginning_of
+from ._workers import copy_text, worker_count
 from ._writer import AgeWriter
 
 
@@ -18,7 +20,22 @@ def encrypt(text: bytes, *, passphrase: str | bytes | None = None, recipient: st
 
 
 def decrypt(data: bytes, *, passphrase: str | bytes | None = None, file_key: bytes | None = None,
-            shared: tuple[bytes, bytes] | None = None, identity: str | Iterable[str] | None = None, max_work: int = 22) -> bytes:
-    """The text of an age file that is in memory: all of it, or an exception."""
+            shared: tuple[bytes, bytes] | None = None, identity: str | Iterable[str] | None = None, max_work: int = 22,
+            workers: int = 1) -> bytes:
+    """The text of an age file that is in memory: all of it, or an exception. Several workers are threads that decrypt parts of it."""
+    if worker_count(workers) > 1:
+        held = bytes(data)
+        with AgeFile(io.BytesIO(held), passphrase, file_key, shared, max_work, identity=identity) as first:
+            return _by_workers(first, held, workers)
     with AgeReader(io.BytesIO(data), passphrase, file_key, shared, max_work, identity=identity) as file:
         return file.read()
+
+
+def _by_workers(first: AgeFile, data: bytes, workers: int) -> bytes:
+    text = bytearray(first.size)
+
+    def put(at: int, piece: memoryview) -> None:
+        text[at:at + len(piece)] = piece
+
+    copy_text(first, lambda: io.BytesIO(data), put, workers)
+    return bytes(text)

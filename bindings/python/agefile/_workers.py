@@ -1,0 +1,91 @@
+"""One file that several threads decrypt, each by a reader of its own."""
+from __future__ import annotations
+
+import io
+import os
+import threading
+from typing import Any, Callable
+
+from ._arguments import whole_number
+from ._file import AgeFile
+from ._library import CHUNK
+
+WORKERS_MAX = 64
+PIECE = 16 * CHUNK
+
+
+def worker_count(given: Any) -> int:
+    return whole_number("workers", given, WORKERS_MAX)
+
+
+class Places(io.RawIOBase):
+    """A regular file by its descriptor, with a place of its own: several may read it at a time."""
+
+    def __init__(self, descriptor: int) -> None:
+        super().__init__()
+        self._descriptor, self._at = descriptor, 0
+
+    def readable(self) -> bool:
+        return True
+
+    def seekable(self) -> bool:
+        return True
+
+    def readinto(self, room: Any, /) -> int:
+        count = os.preadv(self._descriptor, [room], self._at)
+        self._at += count
+        return count
+
+    def tell(self) -> int:
+        return self._at
+
+    def seek(self, offset: int, whence: int = io.SEEK_SET, /) -> int:
+        begin = (0, self._at, os.fstat(self._descriptor).st_size)[whence]
+        self._at = begin + offset
+        return self._at
+
+
+def put_at(descriptor: int, at: int, text: memoryview) -> None:
+    """Writes all of these bytes at a place."""
+    while text:
+        count = os.pwrite(descriptor, text, at)
+        at, text = at + count, text[count:]
+
+
+def copy_text(first: AgeFile, source: Callable[[], Any], put: Callable[[int, memoryview], None], workers: int) -> None:
+    """Writes the text of a file at its places, by so many threads. Each reads a part of it by a file object that `source` makes, without
+    the work of a passphrase. If one fails, those after it stop, and the fault of the first part that has one is raised: no part before
+    it has any. Only if none is raised the text is whole: the last chunk proved its length when `first` was opened."""
+    step = max(1, -(-first.size // (CHUNK * workers))) * CHUNK
+    faults: list[BaseException | None] = [None] * workers  # of each thread its own
+    over = threading.Event()
+
+    def copies(number: int) -> None:
+        at, end = number * step, min((number + 1) * step, first.size)
+        try:
+            if at < end:
+                with first.reopen(source()) as file:
+                    room = memoryview(bytearray(PIECE))
+                    file.seek(at)
+                    while at < end and not over.is_set() and not any(faults[:number]):
+                        count = file.readinto(room[:min(PIECE, end - at)])
+                        put(at, room[:count])
+                        at += count
+        except BaseException as fault:
+            faults[number] = fault
+
+    threads = [threading.Thread(target=copies, args=(it,)) for it in range(workers)]
+    try:
+        for it in threads:
+            it.start()
+        for it in threads:
+            it.join()
+    except BaseException:  # of a signal's handler
+        over.set()
+        for it in threads:
+            if it.ident is not None:
+                it.join()
+        raise
+    for fault in faults:
+        if fault is not None:
+            raise fault

@@ -1,0 +1,110 @@
+"""Tries the decryption by several threads, in Python: the text at each length, the fault of the first chunk that has one, what fails or
+interrupts it, and what the program leaves of OUT."""
+import io
+import os
+import signal
+import stat
+import subprocess
+import sys
+import threading
+
+from tests import bindings
+from tests.bindings import BLOCK, KEY, LENGTHS, PYTHON, BindingsCase, flipped, limited, plain_of, raised
+from tests.test_python import fault_of
+
+LENGTH = 9 * 65_536 + 1_000
+
+
+def setUpModule():
+    global agefile
+    agefile = bindings.module()
+    import agefile._workers
+
+
+class WorkersTest(BindingsCase):
+    def test_in_memory(self):
+        for length in (*LENGTHS, LENGTH):
+            data = self.sealed(plain_of(length))
+            for workers in (2, 3, 7, 64):
+                self.see(f"{length} bytes, {workers} workers", agefile.decrypt(data, file_key=KEY, workers=workers) == plain_of(length))
+        self.see("a bytearray, by a passphrase", agefile.decrypt(bytearray(data), passphrase="pw", workers=4) == plain_of(LENGTH))
+        self.see("another passphrase", raised(agefile.WrongKey, agefile.decrypt, data, passphrase="other", workers=4))
+        for it, kind in ((0, ValueError), (65, ValueError), ("2", TypeError)):
+            self.see(f"{it!r} workers", raised(kind, agefile.decrypt, data, file_key=KEY, workers=it))
+
+    def test_faults(self):
+        """The fault of the first chunk that has one, whoever finds it."""
+        data = self.sealed(plain_of(LENGTH))
+        begin = len(data) - LENGTH - 10 * 16
+        for chunks in ((0,), (8,), (3, 4), (7, 2), (6, 5, 1), (9,)):
+            bad = data
+            for it in chunks:
+                bad = flipped(bad, begin + it * BLOCK + 5)
+            for workers in (2, 5):
+                fault = fault_of(agefile.decrypt, bad, file_key=KEY, workers=workers)
+                self.see(f"damage in {chunks}, {workers} workers", (fault.number, fault.place) == (17, min(chunks)), fault)
+        for what, given in (("cut", data[:-5]), ("cut between chunks", data[:begin + 4 * BLOCK]), ("longer", data + b"x")):
+            self.see(f"a file that is {what}", isinstance(fault_of(agefile.decrypt, given, file_key=KEY, workers=4), agefile.AgeError))
+
+    def copied(self, data, source, put):
+        with agefile.open(io.BytesIO(data), file_key=KEY, random_access=True) as first:
+            agefile._workers.copy_text(first, source, put, 4)
+
+    def test_what_fails(self):
+        """A sink or a source that fails, a source that shrinks, and an interruption: an exception, and no thread goes on."""
+        data = self.sealed(plain_of(LENGTH))
+
+        def fails(*_):
+            raise OSError("full")
+
+        self.see("a sink that fails", raised(OSError, self.copied, data, lambda: io.BytesIO(data), fails))
+        self.see("a source that fails", raised(OSError, self.copied, data, fails, lambda *_: None))
+        self.see("a source that is shorter", raised(agefile.AgeError, self.copied, data, lambda: io.BytesIO(data[:-BLOCK]), lambda *_: None))
+        other = agefile.encrypt(plain_of(LENGTH), passphrase="pw", work=1)
+        self.see("a source that is another file", raised(agefile.WrongKey, self.copied, data, lambda: io.BytesIO(other), lambda *_: None))
+        wait = threading.Event()
+        kept = signal.signal(signal.SIGUSR1, signal.default_int_handler)
+        with limited(60):
+            timers = [threading.Timer(0.3, os.kill, (os.getpid(), signal.SIGUSR1)), threading.Timer(0.6, wait.set)]
+            for it in timers:
+                it.start()
+            self.see("an interruption", raised(KeyboardInterrupt, self.copied, data, lambda: io.BytesIO(data), lambda *_: wait.wait()))
+            for it in timers:
+                it.join()
+        signal.signal(signal.SIGUSR1, kept)
+        left = [it for it in threading.enumerate() if it is not threading.current_thread() and it.is_alive()]
+        self.see("threads that go on", left == [], left)
+
+    def command(self, *words, **more):
+        env = {**os.environ, "PYTHONPATH": str(PYTHON), "PYTHONDONTWRITEBYTECODE": "1"}
+        words = [sys.executable, "-m", "agefile", "decrypt", "--pass", "pw", "--workers", "3", *words]
+        return subprocess.run(words, cwd=self.room, env=env, capture_output=True, **more)
+
+    def test_program(self):
+        text = plain_of(LENGTH)
+        data = self.sealed(text)
+        self.write("in.age", data)
+        run = self.command("in.age", "out")
+        self.see("a new OUT", run.returncode == 0 and self.read("out") == text, run.stderr)
+        self.write("out", b"as it was", 0o640)
+        run = self.command("in.age", "out")
+        mode = stat.S_IMODE(self.path("out").stat().st_mode)
+        self.see("an OUT that was there", run.returncode == 0 and self.read("out") == text and mode == 0o640, run.stderr, mode)
+        self.write("out", b"as it was")
+        run = self.command("--no-clobber", "in.age", "out")
+        self.see("--no-clobber", run.returncode == 1 and self.read("out") == b"as it was", run.stderr)
+        run = self.command("--no-clobber", "in.age", "new")
+        self.see("--no-clobber, a new OUT", run.returncode == 0 and self.read("new") == text, run.stderr)
+        self.write("bad.age", flipped(data, len(data) - 70_000))
+        run = self.command("bad.age", "out")
+        self.see("a damaged file", run.returncode == 1 and b"17 ChunkDamaged chunk 7" in run.stderr and self.read("out") == b"as it was", run.stderr)
+        os.symlink("out", self.path("link"))
+        run = self.command("in.age", "link")
+        self.see("a link", run.returncode == 0 and self.read("out") == text and self.path("link").is_symlink(), run.stderr)
+        for words in (("in.age", "-"), ("in.age", "/dev/null"), ("in.age", "in.age"), ("in.age", "pw")):
+            run = self.command(*words)
+            self.see(f"to {words[1]}", run.returncode == 1 and run.stderr.startswith(b"agefile: ") and b"Traceback" not in run.stderr, run.stderr)
+        self.see("what is read stays", self.read("in.age") == data and self.read("pw") == b"pw\n")
+        run = self.command("-", "out", input=data)
+        self.see("from a pipe", run.returncode == 1 and b"Traceback" not in run.stderr and self.read("out") == text, run.stderr)
+        self.see("nothing else is left", not [it.name for it in self.room.iterdir() if it.name.endswith(".part")])
