@@ -164,6 +164,9 @@ class KeysTest(BindingsCase):
                 self.see(f"{what}: {len(tries)} tries", len(tries) <= most + 2 and type(fault) is agefile.TooManyStanzas, fault)
                 self.see(f"{what}: what is said", fault.number == 13 and f"{most} pairs" in str(fault) and "13 WrongKey" in str(fault), fault)
                 self.see("a fault that is pickled", str(pickle.loads(pickle.dumps(fault))) == str(fault))
+                it = agefile.Decryptor(identity=key + other)
+                found = [type(fault_of(it.update, bytes_)) for bytes_ in (b"age-encryption.org/v1\n" + stanza * 500 + mac + nonce, b"more")]
+                self.see(f"{what}: bytes that are pushed", found == [agefile.TooManyStanzas] * 2, found)
                 front = b"age-encryption.org/v1\n" + stanza * (most - 1) + b"\n".join(of_age) + b"\n" + mac + nonce
                 fault = fault_of(agefile.open, io.BytesIO(front), identity=key)
                 self.see(f"{what}: the last stanza that is tried opens, and its header was altered", getattr(fault, "number", 0) == 14, fault)

@@ -150,7 +150,7 @@ def decrypt_by_workers(words: argparse.Namespace) -> None:
                 copy_text(first, lambda: Places(under.fileno()), lambda at, text: put_at(descriptor, at, text), words.workers)
                 if there:
                     os.fchmod(descriptor, stat.S_IMODE(os.stat(out).st_mode))
-                os.fsync(descriptor)
+                reach_disk(made)
                 if words.no_clobber:
                     os.link(part, out)  # which refuses a name that is there by now
                 else:

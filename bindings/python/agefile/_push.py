@@ -4,7 +4,7 @@ from __future__ import annotations
 from typing import Any, Callable, Iterable, NoReturn
 
 from ._calls import Inside, OneCall
-from ._library import BLOCK, CHUNK, FRONT_MAX, MORE, PLACED, C, ReaderState, Room, WrongKey, again, fault_of, wipe
+from ._library import BLOCK, CHUNK, FRONT_MAX, MORE, PLACED, AgeError, C, ReaderState, Room, WrongKey, again, fault_of, wipe
 from ._reader import may_open, opening_of
 from ._recipients import beginning_of
 from ._writer import AgeWriter
@@ -84,10 +84,10 @@ class Decryptor:
             self._try_header(True)
         fault = self._open_blocks(text) or self._open_block(C.age_c_end, self._held, text)
         self._fault = fault or ValueError("finish() was called")
-        if fault is not None:
-            raise again(fault)
         wipe(self._state)
         self._room.wipe()
+        if fault is not None:
+            raise again(fault)
         return b"".join(text)
 
     def _is_opened(self) -> bool:
@@ -96,7 +96,11 @@ class Decryptor:
 
     def _try_header(self, is_all: bool) -> bool:
         """Opens the header, if it is complete: it has to be if these are all bytes."""
-        answer = self._open(bytes(self._held[:FRONT_MAX]), self._state)
+        try:
+            answer = self._open(bytes(self._held[:FRONT_MAX]), self._state)
+        except AgeError as fault:
+            self._fault = fault
+            raise
         if answer == MORE and not is_all and len(self._held) < FRONT_MAX:
             return False
         if answer != 0:

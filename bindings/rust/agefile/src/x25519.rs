@@ -140,24 +140,19 @@ pub(crate) fn open(
     if answer != 0 {
         return answer;
     }
-    let is_x25519 = |it: &&Stanza| it.kind == "X25519";
-    let stanzas: Vec<&Stanza> = header.stanzas.iter().filter(is_x25519).collect();
-    let pairs = identities
-        .iter()
-        .flat_map(|it| stanzas.iter().map(move |stanza| (it, *stanza)));
+    header.stanzas.retain(|it| it.kind == "X25519");
     let mut nine = [0; 32];
     nine[0] = 9;
-    let mut last: Option<(*const Identity, [u8; 32])> = None;
-    for (identity, stanza) in pairs.take(MAX_TRIES) {
-        let recipient = match last {
-            Some((at, recipient)) if std::ptr::eq(at, identity) => recipient,
-            _ => exchange(&identity.0, &nine),
-        };
-        last = Some((identity, recipient));
-        let answer = try_stanza(exchange, identity, &recipient, stanza, front, reader);
-        if answer != WRONG_KEY {
-            return answer;
+    let mut left = MAX_TRIES;
+    for identity in identities {
+        let recipient = exchange(&identity.0, &nine);
+        for stanza in header.stanzas.iter().take(left) {
+            let answer = try_stanza(exchange, identity, &recipient, stanza, front, reader);
+            if answer != WRONG_KEY {
+                return answer;
+            }
         }
+        left = left.saturating_sub(header.stanzas.len());
     }
     WRONG_KEY
 }
