@@ -1,5 +1,6 @@
 """Packs a release of what was built, and looks at what is in it: what is committed and nothing else, versions that rise, notices, and a
 module that needs no library of the system."""
+import json
 import os
 import shutil
 import subprocess
@@ -136,3 +137,16 @@ class ReleaseTest(Case):
         words = "import agefile; print(agefile.decrypt(agefile.encrypt(b'text', passphrase='pw', work=1), passphrase='pw'), agefile._library.C._name)"
         ended = run(self.path("venv/bin/python"), "-c", words, env={**os.environ, "AGE_C_LIBRARY": ""}, cwd=self.room)
         self.see("the module works by it", ended.stdout.split() == ["b'text'", str(inside)], ended.stdout)
+
+    @needs("cargo")
+    def test_rust(self):
+        """The crate names a version of the one that it stands on, as a registry wants it."""
+        ended = run("cargo", "metadata", "--no-deps", "--offline", "--format-version", "1", cwd=self.top / "bindings/rust")
+        [it] = [it for it in json.loads(ended.stdout)["packages"] if it["name"] == "agefile"]
+        self.see("a version beside the path", [dep["req"] for dep in it["dependencies"]] == ["^1.2"], it["dependencies"])
+
+    def test_help(self):
+        """Each script says what it does, and does nothing else."""
+        for script in ("bindings/build", "release/build", "release/reproducible", "release/without-the-kit", "release/packages", "release/notices"):
+            ended = run(TOP / script, "--help", cwd=self.room)
+            self.see(script, ended.returncode == 0 and f"usage: {script}" in ended.stdout and "set -" not in ended.stdout, ended.stdout)
