@@ -143,7 +143,7 @@ class ReleaseTest(Case):
         """The crate names a version of the one that it stands on, as a registry wants it."""
         ended = run("cargo", "metadata", "--no-deps", "--offline", "--format-version", "1", cwd=self.top / "bindings/rust")
         [it] = [it for it in json.loads(ended.stdout)["packages"] if it["name"] == "agefile"]
-        self.see("a version beside the path", [dep["req"] for dep in it["dependencies"]] == ["^1.2"], it["dependencies"])
+        self.see("a version beside the path", [dep["req"] for dep in it["dependencies"]] == ["^1.2.0"], it["dependencies"])
 
     def test_help(self):
         """Each script says what it does, and does nothing else."""
