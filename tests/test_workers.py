@@ -1,5 +1,5 @@
 """Tries the decryption by several threads, in Python: the text at each length, the fault of the first chunk that has one, what fails or
-interrupts it, and what the program leaves of OUT."""
+interrupts it, and what the program leaves of OUT; and `resume`."""
 import io
 import os
 import signal
@@ -75,10 +75,65 @@ class WorkersTest(BindingsCase):
         left = [it for it in threading.enumerate() if it is not threading.current_thread() and it.is_alive()]
         self.see("threads that go on", left == [], left)
 
-    def command(self, *words, **more):
+    def run_module(self, *words, **more):
         env = {**os.environ, "PYTHONPATH": str(PYTHON), "PYTHONDONTWRITEBYTECODE": "1"}
-        words = [sys.executable, "-m", "agefile", "decrypt", "--pass", "pw", "--workers", "3", *words]
-        return subprocess.run(words, cwd=self.room, env=env, capture_output=True, **more)
+        return subprocess.run([sys.executable, "-m", "agefile", *words], cwd=self.room, env=env, capture_output=True, **more)
+
+    def command(self, *words, **more):
+        return self.run_module("decrypt", "--pass", "pw", "--workers", "3", *words, **more)
+
+    def resumed(self, old, file="in.age", position="position", word="pw"):
+        """The status of `resume`, what it says, and what OUT holds then; an OUT that was there first."""
+        self.write("out", b"as it was")
+        run = self.run_module("resume", "--pass", word, "--position", position, "--old", old, file, "out")
+        self.see("no traceback", b"Traceback" not in run.stderr, run.stderr)
+        return run.returncode, run.stderr, self.read("out")
+
+    def test_resume(self):
+        """From positions that age_tool saved: after no chunk, one and several; and what is refused, as age_tool does."""
+        text = plain_of(LENGTH)
+        data = self.sealed(text)
+        begin = len(data) - LENGTH - 10 * 16
+        self.write("in.age", data)
+        for chunks in (0, 1, 8):
+            self.write("cut.age", data[:begin + chunks * BLOCK + 70])
+            self.remove("old", "position")
+            self.tool(*"decrypt --pass pw --no-sync --save position cut.age old".split())
+            if not self.is_there("old"):
+                self.write("old", b"")
+            found = self.resumed("old")
+            self.see(f"after {chunks} chunks", found == (0, b"", text), found[:2])
+        position, old = self.read("position"), self.read("old")
+        self.write("longer", old + b"what else was there")
+        self.see("an old text that is longer", self.resumed("longer") == (0, b"", text))
+        self.write("short", old[:-1])
+        self.write("harmed", flipped(old, 3))
+        self.write("other.age", self.sealed(plain_of(LENGTH - 1)))
+        self.write("bad.age", flipped(data, begin + 8 * BLOCK + 3))
+        self.write("cut.age", data[:begin + 6 * BLOCK + 3_000])
+        for what, words, number, left in (
+            ("an old text that is too short", ("short",), b"25 ShortText", old[:7 * 65_536]),
+            ("an old text that was changed", ("harmed",), b"31 OldTextDiffers", flipped(old, 3)),
+            ("another passphrase", ("old", "in.age", "position", "other"), b"13 WrongKey", None),
+            ("damage after the position", ("old", "bad.age"), b"17 ChunkDamaged chunk 8", old),
+            ("a cut file", ("old", "cut.age"), b"17 ChunkDamaged", None),
+        ):
+            status, said, out = self.resumed(*words)
+            self.see(what, status == 1 and number in said and out == (b"as it was" if left is None else left), status, said, len(out))
+        for what, changed, number in (
+            ("another index", position.replace(b" 8 ", b" 7 "), b"30 PositionForged"), ("no position", b"text\n", b"23 BadPosition"),
+            ("a position without its end", position[:-1], b"23 BadPosition"), ("a leading zero", position.replace(b" 8 ", b" 08 "), b"23 BadPosition"),
+            ("a tag that was altered", position[:-3] + b"AA\n", b"30 PositionForged"),
+        ):
+            self.write("changed", changed)
+            status, said, out = self.resumed("old", position="changed")
+            self.see(what, status == 1 and number in said and out == b"as it was", status, said)
+        other = agefile.encrypt(text, passphrase="pw", work=1)
+        self.write("other.age", other)
+        status, said, out = self.resumed("old", "other.age")
+        self.see("another file", status == 1 and b"24 OtherFile" in said and out == b"as it was", said)
+        run = self.run_module(*"resume --pass pw --position position --old out in.age out".split())
+        self.see("OUT as the old text", run.returncode == 1 and b"are one file" in run.stderr, run.stderr)
 
     def test_program(self):
         text = plain_of(LENGTH)

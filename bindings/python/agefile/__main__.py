@@ -1,4 +1,4 @@
-"""Encrypts, decrypts, tests and salvages age files: see `python3 -m agefile --help`."""
+"""Encrypts, decrypts, resumes, tests and salvages age files: see `python3 -m agefile --help`."""
 from __future__ import annotations
 
 import argparse
@@ -15,8 +15,9 @@ from typing import Any, Iterator
 import agefile
 from agefile import _keys, _library
 from agefile._arguments import WORK_MAX, secret
+from agefile._position import MOST, Position
 from agefile._recipients import beginning_of
-from agefile._source import new_name, reach_disk, some
+from agefile._source import filled, new_name, reach_disk, some
 from agefile._workers import WORKERS_MAX, Places, copy_text, put_at
 
 FACTORS = range(1, WORK_MAX + 1)
@@ -69,7 +70,8 @@ def see_apart(words: argparse.Namespace) -> None:
     if not os.path.exists(words.output):
         return
     out = os.stat(words.output)
-    for name in (words.input, words.passphrase, getattr(words, "keys", None), *getattr(words, "files", [])):
+    read = [getattr(words, it, None) for it in ("input", "passphrase", "keys", "position", "old")]
+    for name in (*read, *getattr(words, "files", [])):
         if name is None or name != "-" and not os.path.exists(name):
             continue
         if os.path.samestat(out, os.fstat(0) if name == "-" else os.stat(name)) and not stat.S_ISCHR(out.st_mode):
@@ -161,6 +163,26 @@ def decrypt_by_workers(words: argparse.Namespace) -> None:
                 os.unlink(part)
 
 
+def resume(words: argparse.Namespace) -> None:
+    """Goes on from a position that age_tool saved: the old text up to it, and then the rest of IN, whose last chunk is opened first."""
+    see_apart(words)
+    with open(words.position, "rb") as held:
+        position = Position.read(held.read(MOST))
+    with source(words.input) as under, open(words.old, "rb", buffering=0) as old:
+        begin = under.tell()
+        with opened(under, words, random_access=True) as file:
+            under.seek(begin)
+            front = bytearray(file._state.payload_at)
+            filled(under, memoryview(front))
+            position.see(file, bytes(front))
+            with sink(words) as out:
+                for piece in position.old_text(old):
+                    out.write(piece)
+                file.seek(position.chunks * _library.CHUNK)
+                while piece := file.read1(_library.CHUNK):
+                    out.write(piece)
+
+
 def salvage(words: argparse.Namespace) -> int:
     see_apart(words)
     keys: dict[str, Any] = {"identity": identities_of(words.keys)} if words.keys is not None else {"passphrase": passphrase_of(words), "max_work": words.max_log}
@@ -236,12 +258,13 @@ def opened(file: Any, words: argparse.Namespace, random_access: bool = False) ->
 
 
 def words_of() -> argparse.Namespace:
-    top = argparse.ArgumentParser("python3 -m agefile", description="Encrypts, decrypts, tests and salvages age files. Only status 0 means that OUT "
+    top = argparse.ArgumentParser("python3 -m agefile", description="Encrypts, decrypts, resumes, tests and salvages age files. Only status 0 means that OUT "
                                   "is whole, and on the disk: after a fault it holds a checked beginning. - is standard input or output.")
     top.add_argument("--version", action="version", version=f"agefile {agefile.__version__}")
     commands = top.add_subparsers(required=True, metavar="COMMAND")
     for call, what in (
         (encrypt, "encrypt IN to OUT under a passphrase or for recipients"), (decrypt, "decrypt IN to OUT"), (test, "decrypt IN, and write nothing"),
+        (resume, "decrypt IN to OUT from a position that age_tool saved on"),
         (salvage, "write what still opens of IN, which was damaged or cut, to OUT, with zeros for what doesn't, and say what is lost"),
     ):
         command = commands.add_parser(call.__name__, help=what, description=what)
@@ -262,6 +285,9 @@ def words_of() -> argparse.Namespace:
         if call is decrypt:
             command.add_argument("--workers", type=int, default=1, choices=range(1, WORKERS_MAX + 1), metavar="N", help="decrypt by so many threads, "
                                  "from one regular file to another (1)")
+        if call is resume:
+            command.add_argument("--position", required=True, metavar="FILE", help="the position")
+            command.add_argument("--old", required=True, metavar="FILE", help="OUT of the run that saved it")
         if call is not test:
             command.add_argument("--no-clobber", action="store_true", help="refuse an OUT that is there")
             command.add_argument("output", metavar="OUT")
