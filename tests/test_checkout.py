@@ -61,10 +61,10 @@ class CheckoutTest(Case):
 
     def test_variables(self):
         """`check` tests what it proved, and not what a variable names."""
-        words = "import runpy, sys; runpy.run_path('check'); it = sys.modules['tools.workspace']; print(it.PROGRAM, it.LIBRARY, sep='\\n')"
-        env = {**os.environ, "AGE_TOOL": "/usr/bin/false", "AGE_C_DIR": "/nowhere"}
+        words = "import runpy, sys; runpy.run_path('check'); it = sys.modules['tools.workspace']; import os; print(it.PROGRAM, it.LIBRARY, os.getenv('TARGET'), sep='\\n')"
+        env = {**os.environ, "AGE_TOOL": "/usr/bin/false", "AGE_C_DIR": "/nowhere", "TARGET": "another"}
         run = subprocess.run([sys.executable, "-B", "-c", words], cwd=TOP, env=env, capture_output=True, text=True)
-        self.see("check tests what it proved", run.stdout.splitlines() == [str(CRATES / "age_tool/out/age_tool"), str(TOP / "bindings/out")], run)
+        self.see("check tests what it proved", run.stdout.splitlines() == [str(CRATES / "age_tool/out/age_tool"), str(TOP / "bindings/out"), "None"], run)
 
     def test_stale_program(self):
         """`age_tool` builds again what was changed, also by a file that is older than the program, and what is gone."""
