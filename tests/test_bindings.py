@@ -26,7 +26,7 @@ SOURCES = TOP / "bindings" / "c"
 # The programs in bindings/c/tests that say by their status whether all is right, with their words: for a run, and for one under valgrind.
 CHECKS = {
     "refusals": (["file"], ["file"]), "misuse": (["3000"], ["150"]), "work": ([], None), "places": ([], None), "seek": ([], ["5"]),
-    "stream": ([], ["1"]), "sequences": (["600", "1"], ["10", "2"]), "header": ([], []), "seal_key": ([TOP / "bindings" / "tests" / "age" / "one.age"], None),
+    "stream": ([], ["1"]), "sequences": (["600", "1"], ["10", "2"]), "once": ([], []), "header": ([], []), "seal_key": ([TOP / "bindings" / "tests" / "age" / "one.age"], None),
 }
 # In how many places a call may branch, or form an address, by a secret: whether a chunk's tag is right; whether the header's MAC is, and a
 # stanza's tag; scrypt's look-ups; whether a secret is zero. `leak` has one of its own, by which the test is tried.
