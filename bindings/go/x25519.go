@@ -7,6 +7,10 @@ import "C"
 
 import (
 	"bytes"
+	"crypto/cipher"
+	"crypto/hmac"
+	"crypto/rand"
+	"crypto/sha256"
 	"encoding/base64"
 	"errors"
 	"fmt"
@@ -191,4 +195,74 @@ func (s Stanza) alone() []byte {
 func openShared(front, secret, recipient []byte, reader *C.age_c_reader) C.uint32_t {
 	return C.age_c_open_shared(place(front), length(front), place(secret), length(secret),
 		place(recipient), length(recipient), reader)
+}
+
+// CreateX25519 begins an age file for recipients of age-keygen, "age1..": whoever has the key of any of
+// them can read it. aead is New of the package golang.org/x/crypto/chacha20poly1305. Each stanza is
+// opened by the proved library before anything is written.
+func CreateX25519(out io.Writer, exchange Exchange, aead func(key []byte) (cipher.AEAD, error), recipients ...string) (*Writer, error) {
+	if len(recipients) == 0 {
+		return nil, errors.New("agefile: no recipient")
+	}
+	fileKey := make([]byte, 16)
+	defer copy(fileKey, make([]byte, 16))
+	if _, err := rand.Read(fileKey); err != nil {
+		return nil, err
+	}
+	var stanzas []byte
+	for i, it := range recipients {
+		stanza, err := stanzaFor(it, fileKey, exchange, aead)
+		if err != nil {
+			return nil, fmt.Errorf("agefile: recipient %d: %w", i+1, err)
+		}
+		stanzas = append(stanzas, stanza...)
+	}
+	return CreateKey(out, fileKey, stanzas)
+}
+
+// stanzaFor is the stanza that gives a recipient the file key.
+func stanzaFor(recipient string, fileKey []byte, exchange Exchange, aead func(key []byte) (cipher.AEAD, error)) ([]byte, error) {
+	point, err := ParseRecipient(recipient)
+	if err != nil {
+		return nil, err
+	}
+	ephemeral := make([]byte, 32)
+	if _, err := rand.Read(ephemeral); err != nil {
+		return nil, err
+	}
+	share, err := exchange(ephemeral, append([]byte{9}, make([]byte, 31)...))
+	if err != nil {
+		return nil, err
+	}
+	secret, err := exchange(ephemeral, point)
+	if err != nil || bytes.Equal(secret, make([]byte, 32)) {
+		return nil, errors.New("a point of low order: everybody could read the file")
+	}
+	sealer, err := aead(wrapKey(secret, share, point))
+	if err != nil {
+		return nil, err
+	}
+	encode := base64.RawStdEncoding.EncodeToString
+	stanza := []byte("-> X25519 " + encode(share) + "\n" + encode(sealer.Seal(nil, make([]byte, 12), fileKey, nil)) + "\n")
+	var alone bytes.Buffer
+	if _, err := CreateKey(&alone, fileKey, stanza); err != nil {
+		return nil, err
+	}
+	var none C.age_c_reader
+	if answer := openShared(alone.Bytes(), secret, point, &none); answer != 0 {
+		return nil, &Fault{Number: uint32(answer), Chunk: -1}
+	}
+	return stanza, nil
+}
+
+// wrapKey is HKDF-SHA-256 (RFC 5869), one block of it.
+func wrapKey(secret, share, point []byte) []byte {
+	sum := func(key []byte, text ...[]byte) []byte {
+		made := hmac.New(sha256.New, key)
+		for _, it := range text {
+			made.Write(it)
+		}
+		return made.Sum(nil)
+	}
+	return sum(sum(append(append([]byte{}, share...), point...), secret), []byte("age-encryption.org/v1/X25519\x01"))
 }
