@@ -162,4 +162,10 @@ class WorkersTest(BindingsCase):
         self.see("what is read stays", self.read("in.age") == data and self.read("pw") == b"pw\n")
         run = self.command("-", "out", input=data)
         self.see("from a pipe", run.returncode == 1 and b"Traceback" not in run.stderr and self.read("out") == text, run.stderr)
+        full = "import resource, signal; signal.signal(signal.SIGXFSZ, signal.SIG_IGN); resource.setrlimit(resource.RLIMIT_FSIZE, (200_000, 200_000))"
+        env = {**os.environ, "PYTHONPATH": str(PYTHON), "PYTHONDONTWRITEBYTECODE": "1"}
+        program = f"{full}; import runpy; runpy.run_module('agefile', run_name='__main__')"
+        words = "decrypt --pass pw --workers 3 in.age full".split()
+        run = subprocess.run([sys.executable, "-c", program, *words], cwd=self.room, env=env, capture_output=True)
+        self.see("a disk that is full", run.returncode == 1 and b"too large: 'full'" in run.stderr and not self.is_there("full"), run.stderr)
         self.see("nothing else is left", not [it.name for it in self.room.iterdir() if it.name.endswith(".part")])

@@ -158,6 +158,10 @@ def decrypt_by_workers(words: argparse.Namespace) -> None:
                 else:
                     os.replace(part, out)
                 reach_disk(made, out)
+        except OSError as fault:
+            if fault.errno in FULL and fault.filename is None:
+                fault.filename = words.output
+            raise
         finally:
             with contextlib.suppress(FileNotFoundError):
                 os.unlink(part)
