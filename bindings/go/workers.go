@@ -1,0 +1,74 @@
+package agefile
+
+/*
+#include "age_c.h"
+*/
+import "C"
+
+import (
+	"errors"
+	"io"
+	"sync"
+)
+
+// DecryptTo decrypts a file of this many bytes by so many goroutines, each a part of it, and returns
+// the length of the text. Only if the error is nil has out all of it: the last chunk, which proves the
+// length, is opened first. If parts fail, the error is that of the first one; those after it stop.
+func DecryptTo(out io.WriterAt, file io.ReaderAt, size int64, key Key, workers int) (int64, error) {
+	if out == nil || workers < 1 {
+		return 0, errors.New("agefile: nothing to write to, or no worker")
+	}
+	text, err := OpenAt(file, size, key)
+	if err != nil {
+		return 0, err
+	}
+	chunks := (text.Size() + C.AGE_C_CHUNK - 1) / C.AGE_C_CHUNK
+	step := (chunks + int64(workers) - 1) / int64(workers) * C.AGE_C_CHUNK
+	var all sync.WaitGroup
+	var lock sync.Mutex
+	failed, faults := workers, make([]error, workers) // the first part that failed, and why each did
+	for i := range faults {
+		begin, end := min64(int64(i)*step, text.Size()), min64(int64(i+1)*step, text.Size())
+		all.Add(1)
+		go func(i int) {
+			defer all.Done()
+			err := copyPart(out, text, begin, end, func() bool {
+				lock.Lock()
+				defer lock.Unlock()
+				return failed < i
+			})
+			lock.Lock()
+			defer lock.Unlock()
+			if faults[i] = err; err != nil && i < failed {
+				failed = i
+			}
+		}(i)
+	}
+	all.Wait()
+	for _, err := range faults {
+		if err != nil {
+			return 0, err
+		}
+	}
+	return text.Size(), nil
+}
+
+// copyPart copies the text between two places, unless it is to stop.
+func copyPart(out io.WriterAt, text *File, at, end int64, stops func() bool) error {
+	room := make([]byte, min64(16*C.AGE_C_CHUNK, end-at))
+	for at < end && !stops() {
+		n, err := text.ReadAt(room[:min64(int64(len(room)), end-at)], at)
+		if err != nil && err != io.EOF {
+			return err
+		}
+		if done, err := out.WriteAt(room[:n], at); err != nil {
+			return err
+		} else if done < n {
+			return io.ErrShortWrite
+		}
+		if at += int64(n); n == 0 {
+			return io.ErrUnexpectedEOF
+		}
+	}
+	return nil
+}
