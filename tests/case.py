@@ -32,6 +32,7 @@ def twice(one, other):
 ADVICE = (
     b"age_tool: hint: ", b"age_tool: the file is ", b"age_tool: position saved in ", b"age_tool: no position was saved",
     b"age_tool: - is a file ", b"age_tool: --max-log does nothing ", b"age_tool: the passphrase in ", b"age_tool: work factor ",
+    b"age_tool: OUT was moved: ",
 )
 
 

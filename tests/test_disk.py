@@ -132,6 +132,23 @@ class DiskTest(FilesCase):
         feeding.input.write(self.age[140000:])
         feeding.stops("OUT was removed", unsynced("out", REMOVED))
 
+    def test_moved(self):
+        """What was written is whole, but isn't where OUT's name leads: a line says so."""
+        for name, other in (("another name", None), ("another file in its place", b"another's")):
+            feeding = Feeding(self, "decrypt --pass pass in out")
+            os.rename(self.path("out"), self.path("moved"))
+            if other:
+                self.write("out", other)
+            feeding.input.write(self.age[140000:])
+            feeding.input.close()
+            said = feeding.run.communicate(timeout=SECONDS)[1]
+            line = b"age_tool: OUT was moved: out leads to another file now, or to none\n"
+            self.see(f"OUT has {name}", (feeding.run.returncode, said) == (0, line) and self.read("moved") == PLAIN, said)
+        self.write("old", b"")
+        os.symlink("old", self.path("link"))
+        ended = self.tool(*"decrypt --pass pass age link".split())
+        self.see("a link isn't moved", (ended.returncode, ended.advice) == (0, b""), ended.advice)
+
     def test_other_lengths(self):
         """An OUT whose length another program changes isn't what was written."""
         feeding = Feeding(self, "decrypt --pass pass in out")
@@ -711,6 +728,31 @@ class DiskTest(FilesCase):
         self.expect(1, unwritten("plain", errno.EEXIST), f"{resume} plain")
         self.expect(0, b"", f"{resume} whole")
         self.see("a new output is whole", self.read("whole") == PLAIN)
+
+    def test_no_clobber_of_a_position(self):
+        """With --no-clobber the file of --save is left alone if it holds something else than a position, and isn't waited for."""
+        said = b"it holds no position, and --no-clobber was given"
+        for name, held in (("age", self.age), ("short", b"age-position/"), ("line", b"\n")):
+            self.write(name, held)
+            ended = self.tool(*f"decrypt --no-clobber --pass pass --save {name} cut new".split())
+            wanted = WRITE + b"age_tool: can't write %s: %s\n" % (name.encode(), said)
+            self.see(f"{name} isn't replaced", (ended.returncode, ended.stderr) == (1, wanted), ended.stderr)
+            self.see(f"{name} is kept, and OUT isn't made", self.read(name) == held and not self.is_there("new") and not self.is_there(f"{name}.new-0"))
+        self.write("empty", b"")
+        self.write("saved", b"age-position/v1 of another version")
+        for name in ("empty", "saved", "new-position"):
+            self.expect(1, chunk_fault(2), f"decrypt --no-clobber --pass pass --save {name} cut {name}.part")
+            self.see(f"a position replaces {name}", self.is_position(name, 2))
+        self.expect(1, chunk_fault(2), "decrypt --pass pass --save short cut part")
+        self.see("without --no-clobber any file is replaced", self.is_position("short", 2))
+
+    def test_left_empty(self):
+        """An OUT that a killed run left empty is said to be one."""
+        for name, held, hint in (("empty", b"", True), ("full", b"text", False)):
+            self.write(name, held)
+            ended = self.tool("decrypt", "--no-clobber", "--pass", "pass", "age", name)
+            said = b"age_tool: hint: it is empty: a run that was killed may have left it (more: man age_tool-faults)\n"
+            self.see(f"an output that is {name}", ended.stderr == unwritten(name, errno.EEXIST) and ended.advice == (said if hint else b""), ended.advice)
 
     def test_shared(self):
         """No more than 65 bytes of a shared secret are read: a pipe that stays open isn't waited for."""

@@ -32,7 +32,7 @@ passphrase. Nothing is asked at a terminal.
 pub(crate) const ENCRYPT: &str = "Encrypt a file with a passphrase";
 
 pub(crate) const AFTER_ENCRYPT: &str =
-    "Example: age_tool encrypt --pass passphrase.txt notes.txt notes.txt.age
+    "Example: age_tool encrypt --no-clobber --pass passphrase.txt notes.txt notes.txt.age
 
 `age -d` opens the result if the passphrase is one line that can be typed. OUT
 keeps what it held until the first byte is written. If encryption stops after
@@ -45,7 +45,7 @@ pub(crate) const DECRYPT_USAGE: &str = "age_tool decrypt [OPTIONS] \
      <--pass <FILE>|--file-key <HEX>|--shared <FILE>> <IN> <OUT>";
 
 pub(crate) const AFTER_DECRYPT: &str =
-    "Example: age_tool decrypt --pass passphrase.txt notes.txt.age notes.txt
+    "Example: age_tool decrypt --no-clobber --pass passphrase.txt notes.txt.age notes.copy
 
 One of --pass, --file-key and --shared is required. Every chunk is checked
 before it is written. Only status 0 means that OUT is the complete plaintext:
@@ -59,7 +59,7 @@ pub(crate) const RESUME_USAGE: &str = "age_tool resume [OPTIONS] --position <FIL
 
 pub(crate) const AFTER_RESUME: &str =
     "Example: age_tool resume --position notes.position --old notes.part \\
-             --pass passphrase.txt notes.txt.age notes.txt
+             --no-clobber --pass passphrase.txt notes.txt.age notes.copy
 
 One of --pass, --file-key and --shared is required. `resume` copies the part
 already decrypted from the earlier output, decrypts the rest, and writes the
@@ -126,7 +126,8 @@ pub(crate) const NO_SYNC: &str = "Don't wait until OUT, a regular file or a bloc
 has reached the disk. Errors that come only then (NFS,
 quotas) go unnoticed";
 
-pub(crate) const NO_CLOBBER: &str = "Refuse an existing OUT (27); it stays as it was";
+pub(crate) const NO_CLOBBER: &str = "Refuse an existing OUT (27); it stays as it was. The file
+of --save has to be new, empty or a position";
 
 pub(crate) const PROGRESS: &str = "Show on standard error how much of IN has been read";
 

@@ -17,11 +17,11 @@ use age_disk::{
 };
 use age_fault::FileFault;
 use age_fileset::{FileSet, Log, OpenFault};
-use age_io::{Durability, Tape};
+use age_io::{Durability, Source, Tape};
 use age_messages::{Action, Failures, announce_rereading, announce_sync};
 use std::alloc::Global;
-use std::io;
 use std::rt::HostRuntime;
+use std::{fs, io};
 
 /// The machine's files. Contracts see what was done with them and what came of it, and of their
 /// bytes what was read and put. A name is a path; `/dev/stdin`, `/dev/stdout`, `/dev/stderr` and
@@ -140,6 +140,9 @@ impl<'r, 'w> HostFiles<'r, 'w> {
         ensures { OpenFails Write result }
     {
         let action = opening(self.rt, name);
+        if error.kind() == io::ErrorKind::AlreadyExists && is_empty_at(self.rt, name) {
+            self.failures.note_left_empty();
+        }
         self.failures.note(action, self.failures.word(name), error);
         OpenFault::Fault(fault_of(error, FileFault::Write))
     }
@@ -264,6 +267,21 @@ fn note_same(
     kept
 }
 
+/// Judges where the name of a position leads. With `--no-clobber` a file there that holds something
+/// else is refused.
+fn prepared_at(
+    alloc: Global,
+    rt: &HostRuntime,
+    name: &str,
+    spared: Option<FileId>,
+    failures: &Failures<'_>,
+) -> io::Result<Prepared> {
+    if failures.has_word("--no-clobber") && is_of_other_use(alloc, rt, name) {
+        return Err(io::Error::other("it holds no position, and --no-clobber was given"));
+    }
+    Prepared::new(alloc, rt, name, spared, durability_of(failures))
+}
+
 /// Whether this is the file to which standard error leads.
 fn is_for_faults(rt: &HostRuntime, id: Option<FileId>) -> bool {
     id.is_some() && id == FileId::of_stream(rt, Stream::Faults)
@@ -275,6 +293,31 @@ fn opening(rt: &HostRuntime, name: &str) -> Action {
         Ok(None) => Action::Create,
         _ => Action::Write,
     }
+}
+
+/// Whether an empty regular file has this name.
+fn is_empty_at(rt: &HostRuntime, name: &str) -> bool {
+    matches!(found_at(rt, name), Ok(Some(found)) if found.is_file() && found.len() == 0)
+}
+
+/// What the file of a position begins with.
+const POSITION: &[u8] = b"age-position/v";
+
+/// Whether a regular file has this name that is neither empty nor known to hold a position.
+fn is_of_other_use(alloc: Global, rt: &HostRuntime, name: &str) -> bool {
+    match fs::metadata(rt, name) {
+        Ok(found) => found.is_file() && found.len() > 0 && !holds_position(alloc, rt, name),
+        Err(_) => false,
+    }
+}
+
+/// Whether a file begins as that of a position.
+fn holds_position(alloc: Global, rt: &HostRuntime, name: &str) -> bool {
+    let mut first = [0; POSITION.len()];
+    let Ok(mut file) = HostIn::open(alloc, rt, name) else {
+        return false;
+    };
+    matches!(file.pull(&mut first), Ok(n) if &first[..n] == POSITION)
 }
 
 /// Whether two paths lead to one file.
@@ -567,7 +610,8 @@ impl<'r, 'w> FileSet for HostFiles<'r, 'w> {
     ) -> Result<(), OpenFault> {
         self.log.prepared(name, spared);
         let spared = spared.and_then(|spared| FileId::at(self.rt, spared));
-        let admitted = match Prepared::new(alloc, self.rt, name, spared, self.durability) {
+        let prepared = prepared_at(alloc, self.rt, name, spared, self.failures);
+        let admitted = match prepared {
             Ok(prepared) => self.admit_prepared(prepared),
             Err(error) => Err(self.refusal(name, error)),
         };

@@ -8,7 +8,7 @@ ghost use Rattle.age_machine.specs.{Closes, Discards};
 ghost use Rattle.age_disk.specs.{as_source, as_sink};
 ghost use Rattle.age_fileset.specs.{Gave, Put, Unwritten, reading_of};
 
-use age_disk::{Ended, HostIn, HostOut, Prepared};
+use age_disk::{Ended, FileId, HostIn, HostOut, Prepared};
 use age_fileset::Log;
 use age_io::{Durability, Failed, Sink, Source, Tape};
 use age_messages::{Action, Failures};
@@ -188,9 +188,15 @@ impl<'r, 'w> WatchedOut<'r, 'w> {
             failures,
             label,
         } = self;
+        let id = sink.id();
         let (ended, closed) = sink.close(rt, durability);
         match closed {
-            Ok(()) => log.put(&label, ended.took()),
+            Ok(()) => {
+                if id.is_some() && id != FileId::at(rt, name) {
+                    failures.note_moved(name);
+                }
+                log.put(&label, ended.took());
+            }
             Err(error) => {
                 log.unwritten(&label);
                 failures.note(closing(durability), name, error);

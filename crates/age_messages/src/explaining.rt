@@ -31,7 +31,7 @@ fn fault_in(line: &str) -> Option<Reported> {
 /// were one; and what is wrong with a file that was refused. Then it says what to do.
 pub fn explain<O: Sink>(rt: &HostRuntime, heard: &Heard<O>, failures: &Failures<'_>) {
     explain_words_taken(rt, failures);
-    explain_inputs(rt, failures);
+    explain_files(rt, failures);
     let mut lines = heard.text().lines();
     let Some(line) = lines.next() else {
         if failures.is_inspecting() && !heard.is_long() {
@@ -74,11 +74,17 @@ fn explain_words_taken(rt: &HostRuntime, failures: &Failures<'_>) {
     }
 }
 
-/// Says what may surprise in a file that was read.
-fn explain_inputs(rt: &HostRuntime, failures: &Failures<'_>) {
+/// Says what may surprise in a file that was read or written.
+fn explain_files(rt: &HostRuntime, failures: &Failures<'_>) {
     if let Some(name) = failures.cut_off() {
         let name = Leading(name.as_bytes());
         let _ = eprintln!(rt; "age_tool: {name} became shorter while it was read");
+    }
+    if let Some(name) = failures.moved() {
+        let name = Escaped(name.as_bytes());
+        let _ = eprintln!(rt;
+            "age_tool: OUT was moved: {name} leads to another file now, or to none"
+        );
     }
     if failures.is_of(&["encrypt"])
         && let Some(name) = failures.named_by("--pass")
@@ -207,6 +213,8 @@ fn is_of_missing(fault: Reported, option: &str, failures: &Failures<'_>) -> bool
 fn hint_for(fault: Reported, failures: &Failures<'_>) -> Option<&'static str> {
     if is_of_empty(fault, failures.last_read()) {
         Some(hint_of_empty(failures.last_read()))
+    } else if fault.number == 27 && failures.is_left_empty() {
+        Some("it is empty: a run that was killed may have left it")
     } else if is_of_missing(fault, "--pass", failures) {
         Some("--pass takes the name of a file that holds the passphrase")
     } else if is_of_missing(fault, "--shared", failures) {

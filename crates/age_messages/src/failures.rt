@@ -175,6 +175,8 @@ pub struct Failures<'w> {
     last_read: Cell<Amount<'w>>,
     pub(crate) output: Cell<Option<&'w str>>,
     cut_off: Cell<Option<&'w str>>,
+    moved: Cell<Option<&'w str>>,
+    is_left_empty: Cell<bool>,
     typing: Cell<Typing>,
 }
 
@@ -190,6 +192,8 @@ impl<'w> Failures<'w> {
             last_read: Cell::new(Amount::none("")),
             output: Cell::new(None),
             cut_off: Cell::new(None),
+            moved: Cell::new(None),
+            is_left_empty: Cell::new(false),
             typing: Cell::new(Typing::new()),
         }
     }
@@ -298,6 +302,26 @@ impl<'w> Failures<'w> {
     /// Which file became shorter while it was read.
     pub(crate) fn cut_off(&self) -> Option<&'w str> {
         self.cut_off.get()
+    }
+
+    /// Keeps the name of a file that was written, if another file or none is there now.
+    pub fn note_moved(&self, name: &'w str) {
+        self.moved.set(Some(name));
+    }
+
+    /// The name of a file that was written, at which another file or none is now.
+    pub(crate) fn moved(&self) -> Option<&'w str> {
+        self.moved.get()
+    }
+
+    /// Keeps that a file that isn't to be replaced is empty.
+    pub fn note_left_empty(&self) {
+        self.is_left_empty.set(true);
+    }
+
+    /// Whether a file that isn't to be replaced is empty.
+    pub(crate) fn is_left_empty(&self) -> bool {
+        self.is_left_empty.get()
     }
 
     /// What failed first.

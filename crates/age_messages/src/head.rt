@@ -30,7 +30,8 @@ impl Head {
 
     /// Keeps what was read after the others, as far as there is room.
     pub(crate) fn extend(&mut self, read: &[u8]) {
-        for byte in read {
+        let left = KEPT_MAX.saturating_sub(self.len);
+        for byte in &read[..read.len().min(left)] {
             if self.len < KEPT_MAX {
                 self.kept[self.len] = *byte;
                 self.len += 1;
