@@ -121,6 +121,7 @@ class KeysTest(BindingsCase):
             fault = fault_of(lambda: agefile.open(io.BytesIO(given), identity=key[0]).read())
             self.see(f"a file {what}, by a key", getattr(fault, "number", None) == number, fault)
 
+    @needs_cryptography
     @needs("age", "age-keygen")
     def test_many_recipients(self):
         """A header of 10,001 recipients is opened for the last of them, in time that is linear in its length."""
