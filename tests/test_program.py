@@ -251,6 +251,35 @@ class ProgramTest(Case):
         ):
             self.ends(words, self.tool(*words), 2, b"", f"age_tool: {said}\n".encode())
 
+    def test_options_of_others(self):
+        """A refused option of `age` or `gpg` gets a hint that is true, and no other tip."""
+        for words, hint in (
+            ("decrypt -i key.txt plain.age back", "for a key file: python3 -m agefile decrypt --identity FILE IN OUT"),
+            ("decrypt --identity=key.txt plain.age back", "for a key file: python3 -m agefile decrypt --identity FILE IN OUT"),
+            ("-d -o back plain.age", "age_tool decrypt --pass FILE IN OUT decrypts"), ("-c plain", "age_tool encrypt --pass FILE IN OUT encrypts"),
+            ("encrypt -p -o back plain", "the passphrase is read from a file: --pass FILE"), ("encrypt --pass pass -o back plain", "OUT is the last word, without an option"),
+            ("encrypt -r age1 plain back", "for a recipient: python3 -m agefile encrypt --recipient KEY IN OUT"),
+            ("encrypt -R all plain back", "for recipients: python3 -m agefile encrypt --recipients-file FILE IN OUT"),
+            ("encrypt --armor plain back", "age_tool writes no armor: leave it out"), ("encrypt -f plain back", "without --no-clobber an existing OUT is overwritten"),
+            ("encrypt --log -1 plain back", "for a file of that name, write './-1'"), ("decrypt --passs pass plain.age back", "a similar argument exists: '--pass'"),
+        ):
+            ended = self.tool(*words.split())
+            tips = re.findall(rb"(?m)^  tip: (.*)$", ended.stderr)
+            usage = re.search(rb"\n\nUsage: age_tool .*\n\nFor more information, try '--help'\.\n$", ended.stderr)
+            self.see(words, (ended.returncode, tips) == (2, [hint.encode()]) and usage, ended.stderr)
+
+    def test_words_that_are_refused(self):
+        """What the parser says of a word shows codes, as all other lines do."""
+        name, shown = "c\x1b]0;a\x07\r\u202e\u200b\nage_tool: 27 Write", rb"c\u{1b}]0;a\u{7}\r\u{202e}\u{200b}\nage_tool: 27 Write"
+        for words, begins in (
+            (("decrypt", "--pass", "pass", "plain.age", "back", name), b"error: unexpected argument '%s' found\n\nUsage: "),
+            ((name,), b"error: unrecognized subcommand '%s'\n\nUsage: "), (("encrypt", "--" + name), b"error: unexpected argument '--%s' found\n\n  tip: "),
+            (("encrypt", f"--log={name}"), b"error: invalid value '%s' for '--log <N>'"),
+        ):
+            ended = self.tool(*words)
+            is_plain = all(it in b"\n" or 32 <= it < 127 for it in ended.stderr)
+            self.see(words, ended.returncode == 2 and ended.stderr.startswith(begins % shown) and is_plain, ended.stderr)
+
     def test_passphrases_that_can_not_be_typed(self):
         for held, what in (
             (b"correct horse\r\n", "a carriage return"), (b"\xef\xbb\xbfcorrect horse\n", "a byte order mark"), (b"correct horse\n\n", "a second newline"),

@@ -20,6 +20,7 @@ mod laws;
 mod output;
 mod print;
 mod program;
+mod refusal;
 mod reread;
 mod resume_command;
 

@@ -16,6 +16,7 @@ ghost use Rattle.age_cli.specs.inner.{IsForOutput};
 use crate::decrypt_command::decrypt_file;
 use crate::encrypt_command::encrypt_file;
 use crate::inspect_command::{report, report_file};
+use crate::refusal::refusal_text;
 use crate::resume_command::resume_file;
 use age_cli_args::{Request, read_request};
 use age_command::{Announcement, Ending, Usage, drill_file, put_bytes, report_ending};
@@ -27,7 +28,12 @@ use clap::error::ErrorKind;
 use std::alloc::Global;
 
 /// Help and the version go to the output if they are asked for; other arguments are refused.
-fn answer_refusal<O: Sink>(alloc: Global, error: Error, output: &mut O) -> Result<(), Ending>
+fn answer_refusal<O: Sink>(
+    alloc: Global,
+    words: &[&str],
+    error: Error,
+    output: &mut O,
+) -> Result<(), Ending>
     ensures asked { IsOk result → IsForOutput (kind_of error) }
     ensures prints { OnOk result (Prints (O.view output.old) (O.view output.new)) }
     ensures fails { IfErr result (λ e. (IsRefusal e × (output.new ≡ output.old))
@@ -37,7 +43,7 @@ fn answer_refusal<O: Sink>(alloc: Global, error: Error, output: &mut O) -> Resul
     if error.kind() == ErrorKind::OutOfMemory {
         return Err(Ending::Fault(FileFault::Memory));
     }
-    let Ok(text) = error.to_string(alloc) else {
+    let Ok(text) = refusal_text(alloc, words, &error) else {
         return Err(Ending::Fault(FileFault::Memory));
     };
     if error.kind() != ErrorKind::DisplayHelp && error.kind() != ErrorKind::DisplayVersion {
@@ -75,7 +81,7 @@ fn obey<F: FileSet, I: Source, O: Sink, E: Sink, P: Meter>(
     let request = match read_request(alloc, words) {
         Ok(Some(request)) => request,
         Ok(None) => return Err(Ending::Usage(Usage::Unread)),
-        Err(error) => return answer_refusal(alloc, error, output),
+        Err(error) => return answer_refusal(alloc, words, error, output),
     };
     match &request {
         Request::Inspect(Some(name)) => report_file(alloc, files, name, output),
