@@ -5,6 +5,7 @@ import errno
 import fcntl
 import os
 import pathlib
+import random
 import shutil
 import stat
 import subprocess
@@ -456,6 +457,23 @@ class DiskTest(FilesCase):
             self.expect(0, b"", "decrypt --pass pass age far/out", f"{name} far away")
             calls = self.read("calls")
             self.see(f"{name} far away: few questions", calls.count(b"g") < 20 < calls.count(b"w"), calls.count(b"g"), calls.count(b"w"))
+
+    @needs("cc", "pkg-config", "fusermount3", root=True)
+    def test_broken_source(self):
+        """The reads of IN fail for good at some place: the position is there, and once IN can be read the run goes on from it."""
+        text = random.Random(1).randbytes(4 << 20)
+        self.write("plain", text)
+        self.expect(0, b"", "encrypt --pass pass --log 4 plain age")
+        self.fused("broken", READ=errno.EIO, FROM=3 << 20)
+        self.write("broken-held/age", self.read("age"))
+        said = b"age_tool: 26 Read\n" + reason("read broken/age", errno.EIO)
+        self.expect(1, said, "decrypt --pass pass --save saved broken/age out", "a source that breaks")
+        chunks = self.path("out").stat().st_size >> 16
+        self.see("a source that breaks: a position", chunks > 40 and self.is_position("saved", chunks), chunks)
+        self.expect(1, said, "resume --position saved --old out --pass pass --save later broken/age whole", "while it is broken")
+        self.see("while it is broken: the same position", self.read("later") == self.read("saved"))
+        self.expect(0, b"", "resume --position saved --old out --pass pass age whole", "once it can be read")
+        self.see("once it can be read: the text", self.read("whole") == text)
 
     @needs("cc")
     def test_write_only(self):

@@ -17,6 +17,10 @@ def within_memory():
     resource.setrlimit(resource.RLIMIT_AS, (500_000 << 10, 500_000 << 10))
 
 
+# What is said after the command that goes on from a position.
+ANEW = "age_tool: hint: if IN can be read from its start, age_tool decrypt is quicker\n"
+
+
 class ProgramTest(Case):
     """A passphrase `pass`, a text `plain` and its age file `plain.age`."""
 
@@ -363,7 +367,7 @@ class ProgramTest(Case):
             "gr\u00f6\u00dfe", "\u202eright", "zero\u200bwidth", "a&b|c>d", "!x", "$HOME", "{a,b}", "'", "\t",
         ):
             ended = self.decrypt(f"--save={name}", "--", "cut.age", f"{name}.part")
-            command = ended.advice.decode().rpartition("to go on from there: ")[2]
+            command = ended.advice.decode().rpartition("to go on from there: ")[2].removesuffix(ANEW)
             is_command = command.startswith("age_tool resume --position ") and command.endswith(" .. IN NEW\n")
             self.see(f"a command for {name!r}", is_command and command[:-1].isprintable(), ended.advice)
             given = f'"$0" {command[:-11].removeprefix("age_tool ")} --pass pass plain.age whole'
@@ -373,13 +377,13 @@ class ProgramTest(Case):
         self.see("no name is run", not self.is_there("RUN"))
         long = "./" * 600 + "position"
         ended = self.decrypt("--save", long, "cut.age", "part")
-        said = f"age_tool: position saved in {long[:1000]}..; to go on from there, give it to age_tool resume as --position, and as --old part\n"
+        said = f"age_tool: position saved in {long[:1000]}..; to go on from there, give it to age_tool resume as --position, and as --old part\n{ANEW}"
         self.see("a name that isn't shown whole", ended.advice.endswith(said.encode()), ended.advice)
 
     def test_advice_on_positions(self):
         self.write("cut.age", self.age[:150_000])
         ended = self.decrypt("--save", "position", "cut.age", "part")
-        said = b"age_tool: position saved in position; to go on from there: age_tool resume --position position --old part .. IN NEW\n"
+        said = b"age_tool: position saved in position; to go on from there: age_tool resume --position position --old part .. IN NEW\n" + ANEW.encode()
         self.see("a position was saved", ended.advice.endswith(said), ended.advice)
         ended = self.decrypt("--save", "position", "cut.age", "/dev/null")
         said_of_null = b"age_tool: position saved in position; resume would need the text that /dev/null took\n"

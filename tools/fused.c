@@ -1,8 +1,9 @@
 /* A file system over a folder (by libfuse), whose calls fail or take time as variables of the environment say. The first word is the
  * folder; the others go to libfuse.
  *
- * FLUSH and FSYNC: closing and syncing a file fails with that error. NOLINK: files get no second name. DELAY: each question about a
- * file's status, and each write, takes so many milliseconds. CALLS names a file that gets a letter for each of them: g or w. */
+ * FLUSH and FSYNC: closing and syncing a file fails with that error. READ: reads of what is at FROM or beyond fail with that one. NOLINK:
+ * files get no second name. DELAY: each question about a file's status, and each write, takes so many milliseconds; each read of a KiB
+ * takes PACE microseconds. CALLS names a file that gets a letter for each of them: g or w. */
 #define FUSE_USE_VERSION 31
 #define _GNU_SOURCE
 #include <dirent.h>
@@ -54,7 +55,10 @@ static int make(const char *name, mode_t mode, struct fuse_file_info *file) { re
 static int open_file(const char *name, struct fuse_file_info *file) { return opened(file, open(under(name).text, file->flags & ~O_APPEND)); }
 static int read_file(const char *name, char *into, size_t size, off_t at, struct fuse_file_info *file) {
     (void)name;
-    return answer(pread(file->fh, into, size, at));
+    if (getenv("READ") && at + (off_t)size > atol(getenv("FROM"))) return failing("READ");
+    long n = pread(file->fh, into, size, at);
+    if (n > 0 && getenv("PACE")) usleep(atol(getenv("PACE")) * n / 1024);
+    return answer(n);
 }
 static int write_file(const char *name, const char *from, size_t size, off_t at, struct fuse_file_info *file) {
     (void)name;

@@ -2,7 +2,7 @@
  *
  * REFUSED: that allocation fails, counted from 1; with ON all after it too. COUNT names a file that is made then.
  *
- * FSYNC, FTRUNCATE, FLOCK, RENAME, LINK, SEEK (to a place in a file), REREAD (a read after that) and WRITE (from write number AT on):
+ * FSYNC, FTRUNCATE, FLOCK, RENAME, LINK and WRITE (from write number AT on):
  * these fail with that error. ONLY says of which kind of file FSYNC fails: d, f or b; or 1, standard output alone, or out, the file of
  * that name. FROM: it fails from that call on. Each call number EVERY of read and write is interrupted. READ: read number AT of a pipe
  * fails with that error, and no other.
@@ -169,13 +169,6 @@ int openat64(int folder, const char *name, int flags, ...) { MODE(flags) return 
 int creat(const char *name, mode_t mode) { return opened(AT_FDCWD, name, O_CREAT | O_WRONLY | O_TRUNC, mode); }
 int creat64(const char *name, mode_t mode) { return creat(name, mode); }
 
-static int sought = -1;
-off_t lseek(int fd, off_t to, int from) {
-    if (from == SEEK_SET && fails("SEEK")) return -1;
-    if (from == SEEK_SET) sought = fd;
-    return NEXT(lseek)(fd, to, from);
-}
-off_t lseek64(int fd, off_t to, int from) { return lseek(fd, to, from); }
 static int is_refused_read(int fd) {
     static long piped;
     struct stat it;
@@ -183,7 +176,6 @@ static int is_refused_read(int fd) {
 }
 ssize_t read(int fd, void *into, size_t size) {
     static long count;
-    if (fd == sought && fails("REREAD")) return -1;
     if (is_refused_read(fd)) return -1;
     return is_interrupted(&count) ? -1 : NEXT(read)(fd, into, size);
 }

@@ -3,16 +3,12 @@ use Rattle.std.proofs.Common.{◌≡◌, ◌∙◌, ◌⊎◌, ⊎_elim, ◌++�
 use Rattle.std.proofs.Common.{OnOk, IfOk, IfErr}
 use Rattle.std.specs.Prelude.{IsErr, IsSomeAnd, IfSome, is_some, ◌≢◌}
 use Rattle.clap.specs.Words.{Text}
-use Rattle.age_io.specs.{SourceView}
 use Rattle.age_io.specs.declared.durability.Durability.{Durability}
-use Rattle.age_file.specs.{Ports, Run, SecretView, EncryptFails}
+use Rattle.age_file.specs.{Ports, SecretView, EncryptFails}
 use Rattle.age_file.specs.declared.encryption.Written.{Written}
-use Rattle.age_file.specs.declared.decryption.Done.{Done}
-use Rattle.age_file.specs.declared.decryption.Stopped.{Stopped}
-use Rattle.age_file.specs.declared.position.Position.{Position}
 use Rattle.age_file.specs.Encrypts.{Encrypts}
 use Rattle.age_fault.specs.declared.fault.FileFault.{FileFault}
-use Rattle.age_fileset.specs.{Event, FilesView, Closed, Outcome, Found, Absent, Unwritten, Settled, Gave, reading_of, Entry, entry, PutsOnly, CameSince}
+use Rattle.age_fileset.specs.{Event, FilesView, Closed, Outcome, Found, Absent, Unwritten, Settled, Entry, entry, PutsOnly, CameSince}
 use Rattle.age_fileset.proofs.{grows_then}
 use Rattle.age_cli_args.specs.declared.request.ClobberOption.TheVariants.{Refused}
 use Rattle.age_command.specs.{Follows}
@@ -20,35 +16,15 @@ use Rattle.age_command.specs.declared.ending.Ending.{Ending}
 use Rattle.age_command.specs.declared.ending.Ending.TheVariants.{Fault}
 use Rattle.age_machine.specs.{EndedFile, OutFile, TouchesItself}
 use Rattle.age_cli.specs.{WasRead, AreNew, Engine, encrypt_engine, LacksOne, Paths, Returned, HasEngineEnded, HasEngineStopped, Interruption}
-use Rattle.age_cli.specs.inner.{sealing_end, opening_end, Concludes, IsPut}
+use Rattle.age_cli.specs.inner.{sealing_end, Concludes, IsPut}
 use Rattle.age_cli.proofs.PutLemmas.{stored_as}
 
 -- ---- What an engine promises, by how it ended.
-
--- what was read of a file came in the whole too
-pub read_as : (Came Later : Outcome → Type 0) → ((o : Outcome) → Came o → Later o) → (How : Option (List ℕ) → Option ℕ → Outcome) (name : Text) (first last : SourceView)
-    → WasRead Came How name first last → WasRead Later How name first last
-read_as Came Later so How name first last w = record { unread = w.unread; size = w.size; found = so (How first.supply.left w.size) w.found; over = so (Gave (reading_of name last)) w.over }
 
 -- what is there
 pub the_some : {A : Type 0} {P : A → Type 0} (o : Option A) → IsSomeAnd o P → (x : A) × (o ≡ Some x) × P x
 the_some None h = absurd h
 the_some (Some x) h = (x, refl, h)
-
--- a decryption ended, resumed or not
-pub opening_ends : (Ends : Done → Run → Type 0) (P : Type 0) → ((d : Done) (r : Run) → Ends d r → P) → (run : Option Run) (end : Result Done Stopped)
-    → IfOk end (λ done. IsSomeAnd run (Ends done)) → OnOk (opening_end end) P
-opening_ends Ends P so run (Ok done) ends = let of = the_some run ends in so done of.0 of.2
-opening_ends Ends P so run (Err s) ends = tt
-
--- or it stopped
-pub opening_stops : (P : FileFault → Option Position → Type 0) (end : Result Done Stopped) → IfErr end (λ s. P s.fault s.position) → IfErr (opening_end end) (λ s. P s.fault s.position)
-opening_stops P (Ok done) stops = tt
-opening_stops P (Err s) stops = stops
-
-pub stopped_so : (x : Result Done Stopped) → IsErr (opening_end x) → IsErr x
-stopped_so (Ok done) failed = failed
-stopped_so (Err s) failed = refl
 
 -- an encryption
 pub sealing_ends : (secret : SecretView) (before after : Ports) (r : Result Written FileFault) → IfOk r (Encrypts secret before after)

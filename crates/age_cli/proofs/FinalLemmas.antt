@@ -29,13 +29,6 @@ use Rattle.age_cli.proofs.PutLemmas.{concluded, concludes_from}
 use base.Fml.{GName}
 use Rattle.age_io.proofs.{begins_since, reading_of as shows_reading}
 
--- one reading, and then perhaps another, of what stopped
-pub shown_with : (size : Option ℕ) (coming left : Supply) (old middle new : Option (List ShownOne)) (r : Result (Unit {0}) Ending) → ShowsRun size coming left old middle
-    → OnOk r (new ≡ middle) → (new ≡ middle) ⊎ ((n : Option ℕ) × (again : Supply) × (rest : Supply) × ShowsRun n again rest middle new)
-    → OnOk r (IsAtEnd left) → ShowsReadings size coming left old new r
-shown_with size coming left old middle new (Ok x) run same again ended = record { middle = middle; first = run; whole = (ended, same); again = again }
-shown_with size coming left old middle new (Err e) run same again ended = record { middle = middle; first = run; whole = tt; again = again }
-
 -- an engine that ended has read its source to the end, and so has its command
 pub ended_with : (P : Type 0) (end : Result (Unit {0}) Interruption) (r : Result (Unit {0}) Ending) (Q : Type 0) → OnOk end P → OnOk r (IsOk end × Q)
     → OnOk r P
@@ -66,11 +59,6 @@ pub always_ok : (x : Result (Unit {0}) Ending) (P : Type 0) → P → OnOk x P
 always_ok (Ok done) P p = p
 always_ok (Err e) P p = tt
 
--- what was read of it was shown once
-shown_once : (size : Option ℕ) (coming left : Supply) (old new : Option (List ShownOne)) (r : Result (Unit {0}) Ending) → ShowsRun size coming left old new → OnOk r (IsAtEnd left)
-    → ShowsReadings size coming left old new r
-shown_once size coming left old new r run whole = shown_with size coming left old new new r run (always_ok r _ refl) (inl refl) whole
-
 -- an encryption that ended has read its source to the end, and so has its command
 sealed_to_end : (s : SecretView) (before after : Ports) (end : Result Written FileFault) (r : Result (Unit {0}) Ending) → IfOk end (Encrypts s before after)
     → OnOk r (IsOk (sealing_end end)) → OnOk r (IsAtEnd after.source.supply)
@@ -99,9 +87,11 @@ runs_sealed IsPorts Came e secret before after opened mid new Unshown show_old s
   certain = λ failed some. absurd (true≢false (sym some));
   concludes = concludes_from None e.durability after.sink settled opened mid new did (sealing_end sealed) r concludes;
   silent = silent;
-  shown = λ asked. shown_once size before.source.supply after.source.supply show_old show_new r (shown asked)
-      (sealed_to_end secret before after sealed r ends (on_ok_weaker r (λ done. done.0)
-      (concluded None e.durability after.sink settled (sealing_end sealed) mid new r concludes).done));
+  shown = λ asked. (
+    shown asked,
+    sealed_to_end secret before after sealed r ends (on_ok_weaker r (λ done. done.0)
+        (concluded None e.durability after.sink settled (sealing_end sealed) mid new r concludes).done),
+  );
 }
 
 -- what was opened is `old` to `mid`, and the engine ran until then; OUT was ended, and a position saved, until `new`

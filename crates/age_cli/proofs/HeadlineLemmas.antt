@@ -20,7 +20,6 @@ use Rattle.age_file.specs.{DecryptStops, BeginsWith, resume_ports, IsFrom, posit
 use Rattle.age_file.specs.{IsAuthenticRun, WritesNone}
 use Rattle.age_file.specs.declared.decryption.Stopped.{Stopped}
 use Rattle.age_file.specs.declared.position.PositionPolicy.{PositionPolicy}
-use Rattle.age_file.specs.declared.position.PositionPolicy.TheVariants.{Dropped}
 use Rattle.age_file.specs.declared.position.Position.{Position}
 use Rattle.age_fault.specs.declared.fault.FileFault.{FileFault}
 use Rattle.age_machine.specs.{EndedFile}
@@ -66,11 +65,10 @@ module _ (IsPorts : Ports → Type 0) (Came : Outcome → Type 0) (p : Paths) (e
       × ((settled : ℕ) (f : FileFault) (position : Option Position) → engine.stops settled f position run.before run.after → IsPrefixOf run.out.took text)
 
   -- by each stop of its run
-  by_stops : (name : Text) (keep : PositionPolicy) (from : Option Position) (Stops : PositionPolicy → Option Run → Stopped → Type 0)
-      → ((policy : PositionPolicy) (r : Option Run) (stop : Stopped) → Stops policy r stop → IsPrefixOf run.out.took text)
-      → (settled : ℕ) (f : FileFault) (position : Option Position) → StopsText Came name keep from Stops settled f position → IsPrefixOf run.out.took text
-  by_stops name keep from Stops so settled f position (r, stop, is, inl kept) = so keep r stop kept.0
-  by_stops name keep from Stops so settled f position (r, stop, is, inr again) = so Dropped r stop again.0
+  by_stops : (keep : PositionPolicy) (Stops : Option Run → Stopped → Type 0)
+      → ((r : Option Run) (stop : Stopped) → Stops r stop → IsPrefixOf run.out.took text)
+      → (settled : ℕ) (f : FileFault) (position : Option Position) → StopsText keep Stops settled f position → IsPrefixOf run.out.took text
+  by_stops keep Stops so settled f position (r, stop, is, stops, placed) = so r stop stops
 
   took_so : (out : List ℕ) → Appends run.before.sink.taken run.after.sink.taken out → run.out.took ≡ out
   took_so out wrote = run.took ∙ (wrote.bytes ∙ ap (λ (l : List ℕ). l ++ out) run.new.taken)
@@ -105,11 +103,11 @@ module _ (IsPorts : Ports → Type 0) (Came : Outcome → Type 0) (p : Paths) (e
       stops policy (Some r) stop h = begins_so (held r) h.1.is.wrote
           (writes_of r (omega (arith, h.0.zero)) h.1.is.prefix text (auth r h.0 (is_read stop.written r h.1.is)))
 
-      decrypts : Leaves (decrypt_engine Came p.from keep identity)
+      decrypts : Leaves (decrypt_engine keep identity)
       decrypts = (
         λ (done, r, ends). took_so (held r) ends.1.is.wrote ∙ writes_all r (omega (arith, ends.0.zero)) ends.1.whole ends.1.done text
             (auth r ends.0 (is_read done.written r ends.1.is)),
-        by_stops p.from keep None _ stops,
+        by_stops keep _ (stops keep),
       )
 
     module _ (from : Position) (old_name : Text) (few : chunk_count chunk_length text ≤ chunk_limit)
@@ -140,11 +138,11 @@ module _ (IsPorts : Ports → Type 0) (Came : Outcome → Type 0) (p : Paths) (e
       stops_rest first last size found policy (Some r) stop h = begins_so (held r) h.2.is.wrote (writes_of r
           (omega (arith, h.0.index, from.within)) h.2.is.prefix text (authentic_run first last size stop.written r found h.0 h.2.is))
 
-      resumes : Leaves (resume_engine IsPorts Came p.from keep identity from old_name)
+      resumes : Leaves (resume_engine IsPorts Came keep identity from old_name)
       resumes = (
         λ h. let (done, r, ends) = h.5 in took_so (held r) ends.2.is.wrote ∙ writes_all r (omega (arith, ends.0.index, from.within))
             ends.2.whole ends.2.done text (authentic_run h.0 h.1 h.4.size done.written r h.4.found ends.0 ends.2.is),
-        λ settled f position h. by_stops p.from keep (Some from) _ (stops_rest h.0 h.1 h.4.size h.4.found) settled f position h.5,
+        λ settled f position h. by_stops keep _ (stops_rest h.0 h.1 h.4.size h.4.found keep) settled f position h.5,
       )
 
 -- ---- What was put, and the names that have to differ.
@@ -394,7 +392,7 @@ module _ (words : List Text) (IsPorts : Ports → Type 0) (before after : World)
 
   decrypted : (text : List ℕ) (e : Decrypting) → IsWritersInput e olds text → (identity : Identity) → OpensOf since e identity
       → Writes text (paths_of e) (option_text e.identity.pass) (option_text e.identity.shared) None None
-      (decrypt_engine since e.from.now (kept_for (option_text e.save)) identity)
+      (decrypt_engine (kept_for (option_text e.save)) identity)
   decrypted text e auth identity by puts grows others run =
       let input = input_was puts grows e None others run in
       decrypts IsPorts since (paths_of e) after.files.ended run text identity (kept_for (option_text e.save)) (olds e.from.now) input.0 input.1
@@ -403,7 +401,7 @@ module _ (words : List Text) (IsPorts : Ports → Type 0) (before after : World)
   resumed : (text : List ℕ) (s : Resuming) → IsWritersResumption s olds text → (identity : Identity) → OpensOf since s.decrypting identity
       → (p : Position) → HasGivenAll early s.position.now (position_text p) → let d = s.decrypting in
       Writes text (paths_of d) (option_text d.identity.pass) (option_text d.identity.shared) (Some s.position.now) (Some s.old.now)
-      (resume_engine IsPorts since d.from.now (kept_for (option_text d.save)) identity p s.old.now)
+      (resume_engine IsPorts since (kept_for (option_text d.save)) identity p s.old.now)
   resumed text s auth identity by p given puts grows others run =
       let d = s.decrypting in
       let at = first_was s.position.now (position_text p) given in

@@ -7,8 +7,7 @@ pub mod ObeyLemmas
 pub mod OpeningLemmas
 pub mod PutLemmas
 pub mod ReadLemmas
-pub mod RereadLemmas
-pub mod RestLemmas
+pub mod DecryptionLemmas
 pub mod TextLemmas
 unfoldable pub use ActLemmas.*
 unfoldable pub use EngineLemmas.*
@@ -19,6 +18,5 @@ unfoldable pub use ObeyLemmas.*
 unfoldable pub use OpeningLemmas.*
 unfoldable pub use PutLemmas.*
 unfoldable pub use ReadLemmas.*
-unfoldable pub use RereadLemmas.*
-unfoldable pub use RestLemmas.*
+unfoldable pub use DecryptionLemmas.*
 unfoldable pub use TextLemmas.*

@@ -1,5 +1,5 @@
 -- How a part of a command ends before anything is written.
-use Rattle.std.proofs.Common.{◌≡◌, ◌∙◌, ◌++◌, ◌∷◌, Option, Some, None, Result, Err, inl, inr, refl, ap, sym, true, true≢false, List, ℕ, [], append-nil, subst}
+use Rattle.std.proofs.Common.{◌≡◌, ◌∙◌, ◌++◌, ◌∷◌, Option, Some, None, Result, inl, inr, refl, ap, sym, true, true≢false, List, ℕ, [], append-nil, subst}
 use Rattle.std.specs.Prelude.{IsErr, IsErrAnd, IsSomeAnd}
 use Rattle.clap.specs.Words.{Text}
 use Rattle.age_io.specs.{SinkView}

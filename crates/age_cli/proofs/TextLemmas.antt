@@ -10,7 +10,6 @@ use Rattle.age_file.specs.{DecryptStops, resume_ports, InOldFails, InSkippedFail
 use Rattle.age_file.specs.declared.decryption.Stopped.{Stopped}
 use Rattle.age_file.specs.declared.position.Position.{Position}
 use Rattle.age_file.specs.declared.position.PositionPolicy.{PositionPolicy}
-use Rattle.age_file.specs.declared.position.PositionPolicy.TheVariants.{Dropped}
 use Rattle.age_io.specs.{SourceView, SinkView}
 use Rattle.age_io.specs.declared.durability.Durability.{Durability}
 use Rattle.age_io.specs.Taken.{Appends}
@@ -65,20 +64,20 @@ module _ (IsPorts : Ports → Type 0) (Came : Outcome → Type 0) (p : Paths) (i
     safe = e.safe;
   }
 
-  pub leaves_text : HasEngineEnded IsPorts Came (decrypt_engine Came p.from keep identity) p durability before after
+  pub leaves_text : HasEngineEnded IsPorts Came (decrypt_engine keep identity) p durability before after
       → LeavesText IsPorts Came (GivesFile identity) p durability after.ended
   leaves_text e =
       let gave = done_gave_file (allows_by identity) e.run.before e.run.after (Ok e.promise.0) (Some e.promise.1) e.promise.2 in
-      leaves (GivesFile identity) (decrypt_engine Came p.from keep identity) e gave.0 gave.1 gave.2.0
+      leaves (GivesFile identity) (decrypt_engine keep identity) e gave.0 gave.1 gave.2.0
 
   pub leaves_resumed : (from : Position) (old_name : Text) → HasEngineEnded IsPorts Came
-      (resume_engine IsPorts Came p.from keep identity from old_name) p durability before after
+      (resume_engine IsPorts Came keep identity from old_name) p durability before after
       → LeavesText IsPorts Came (GivesRest IsPorts Came old_name identity from) p durability after.ended
   leaves_resumed from old_name e =
       let h = e.promise in
       let gave = done_gave_rest (allows_by identity) from (resume_ports e.run.before h.0) (resume_ports e.run.after h.1) (Ok h.5.0)
       (Some h.5.1) h.5.2 in
-      leaves (GivesRest IsPorts Came old_name identity from) (resume_engine IsPorts Came p.from keep identity from old_name) e gave.0
+      leaves (GivesRest IsPorts Came old_name identity from) (resume_engine IsPorts Came keep identity from old_name) e gave.0
       (h.0, h.1, h.2, h.4, gave.1, gave.2) gave.3.0
 
 -- ---- One that stopped before it wrote.
@@ -95,11 +94,10 @@ module _ (IsPorts : Ports → Type 0) (Came : Outcome → Type 0) (p : Paths) (o
       (run.within, none, subst (λ (n : ℕ). IsUntouched n run.out) unfailed (so none)))
 
   -- by what its run promises of a stop
-  spares_stop : (name : Text) (keep : PositionPolicy) (from position : Option Position) (settled : ℕ) (fault : FileFault) (Stops : PositionPolicy → Option Run → Stopped → Type 0)
-      → ((policy : PositionPolicy) (run : Option Run) (stop : Stopped) → IsBeforeText stop.fault → Stops policy run stop → SparesOut old ended)
-      → IsBeforeText fault → StopsText Came name keep from Stops settled fault position → SparesOut old ended
-  spares_stop name keep from position settled fault Stops so early (r, stop, is, inl kept) = so keep r stop (subst IsBeforeText (sym is) early) kept.0
-  spares_stop name keep from position settled fault Stops so early (r, stop, is, inr again) = so Dropped r stop (subst IsBeforeText (sym is) early) again.0
+  spares_stop : (keep : PositionPolicy) (position : Option Position) (settled : ℕ) (fault : FileFault) (Stops : Option Run → Stopped → Type 0)
+      → ((run : Option Run) (stop : Stopped) → IsBeforeText stop.fault → Stops run stop → SparesOut old ended)
+      → IsBeforeText fault → StopsText keep Stops settled fault position → SparesOut old ended
+  spares_stop keep position settled fault Stops so early (r, stop, is, stops, placed) = so r stop (subst IsBeforeText (sym is) early) stops
 
   spares_decryption : (identity : Identity) → Untouched → (policy : PositionPolicy) (r : Option Run) (stop : Stopped) → IsBeforeText stop.fault
       → DecryptStops policy (allows_by identity) (refuses_by identity) run.before run.after r stop → SparesOut old ended
@@ -138,11 +136,11 @@ module _ (IsPorts : Ports → Type 0) (before after : FilesView) (ending : Endin
       → SparesOut before.ended after.ended
   spares_of_request asked text (inl unbegun) = unbegun.spared
   spares_of_request (Decrypt d) text (inr stop) = spares_before _ _ _ _ stop.2
-      (λ settled position first stops so. spares_stop IsPorts since _ before.ended after.ended stop.2.run _ _ _ _ _ _ _
-      (spares_decryption IsPorts since _ before.ended after.ended stop.2.run stop.0 so) first stops)
+      (λ settled position first stops so. spares_stop IsPorts since _ before.ended after.ended stop.2.run _ _ _ _ _
+      (spares_decryption IsPorts since _ before.ended after.ended stop.2.run stop.0 so _) first stops)
   spares_of_request (Resume r) text (inr stop) = spares_before _ _ _ _ stop.4
-      (λ settled position first stops so. spares_stop IsPorts since _ before.ended after.ended stop.4.run _ _ _ _ _ _ _
-      (spares_resumption IsPorts since _ before.ended after.ended stop.4.run stop.0 stop.2 stops.0 stops.1 so) first stops.5)
+      (λ settled position first stops so. spares_stop IsPorts since _ before.ended after.ended stop.4.run _ _ _ _ _
+      (spares_resumption IsPorts since _ before.ended after.ended stop.4.run stop.0 stop.2 stops.0 stops.1 so _) first stops.5)
   spares_of_request asked text (inr stop) = absurd text
 
 -- ---- What is refused writes nothing.

@@ -1,16 +1,16 @@
 -- What a command does with files, done or stopped.
 use Rattle.std.specs.Prelude.{◌≡◌, ℕ, true, Result, Ok, Err, if◌then◌else◌, List, [], ◌∷◌, Option, Some, None}
 use Rattle.std.specs.Prelude.{is_some, ◌++◌, OnOk, IfErr, IsErrAnd, ◌≢◌, ◌⊎◌, length, IfSome, IsSomeAnd, ◌<◌}
-use Rattle.std.specs.Prelude.{◌≤◌, ◌*◌, min, nat_lt}
+use Rattle.std.specs.Prelude.{◌≤◌, ◌*◌}
 use Rattle.clap.specs.Words.{Text}
 use Rattle.age_io.specs.{SourceView, SinkView, Shown as ShownOne, ShowsReading, IsAtEnd}
 use Rattle.age_io.specs.declared.durability.Durability.{Durability}
 use Rattle.age_io.specs.declared.durability.Durability.TheVariants.{Buffered, Synced}
 use Rattle.age_io.specs.Supply.{Supply}
 use Rattle.age_fault.specs.declared.fault.FileFault.{FileFault}
-use Rattle.age_fault.specs.declared.fault.FileFault.TheVariants.{Read, Write, Memory, BadPosition}
+use Rattle.age_fault.specs.declared.fault.FileFault.TheVariants.{Write, Memory, BadPosition}
 use Rattle.age_chunk.specs.{chunk_length}
-use Rattle.age_file.specs.{IsTextBefore, IsFoundAgain, Ports, ports, Run, SecretView, EncryptFails}
+use Rattle.age_file.specs.{IsPositionWithin, Ports, ports, Run, SecretView, EncryptFails}
 use Rattle.age_file.specs.{DecryptEnds, DecryptStops, ResumePorts, resume_ports, ResumeEnds, ResumeStops}
 use Rattle.age_file.specs.{position_text}
 use Rattle.age_file.specs.declared.decryption.Done.{Done}
@@ -81,45 +81,27 @@ encrypt_engine secret = record {
       EncryptFails secret before after fault × (position ≡ None);
 }
 
--- where a second reading begins: at the position that the run began from, unless that is beyond what
--- OUT holds for certain
-abbrev pub start_of : ℕ → Option Position → Option Position
-start_of settled None = None
-start_of settled (Some p) = if nat_lt settled (p.index * chunk_length) then None else Some p
+-- The position to save of a stop: one of its run within what is certain, if it came to its payload
+-- and positions are kept. Else the stop's own, if it has one.
+abbrev pub IsPlaced : Option Run → PositionPolicy → (settled : ℕ) → (own position : Option Position)
+    → Type 0
+IsPlaced None keep settled own position = position ≡ own
+IsPlaced (Some r) Dropped settled own position = position ≡ own
+IsPlaced (Some r) Kept settled own position = IsSomeAnd position (IsPositionWithin r settled)
 
--- a second reading, from one source to the other, finds this position by the key of the payload, once
--- this many bytes are written
-abbrev pub Finds : Option Position → List ℕ → (first last : SourceView) → ℕ → Position → Type 0
-Finds from key first last written p = (copied : List ℕ) → IsTextBefore from copied
-    → IsFoundAgain (λ _ k. k ≡ key) from copied first last written p
+-- a run stopped with this fault, and this is the position to save
+abbrev pub StopsText : PositionPolicy → (Stops : Option Run → Stopped → Type 0) → (settled : ℕ) → FileFault
+    → Option Position → Type 0
+StopsText keep Stops settled fault position = (run : Option Run) × (stop : Stopped)
+    × (stop.fault ≡ fault) × Stops run stop × IsPlaced run keep settled stop.position position
 
--- IN was read once more, and this position was found: after as many bytes of the text as are certain,
--- but not beyond where this run had stopped, which began from that position
-pub record FindsAgain (Came : Outcome → Type 0) (name : Text) (from : Option Position) (settled : ℕ)
-    (r : Run) (stopped : Stopped) (p : Position) : Type 0 where
-  pub first : SourceView
-  pub last : SourceView
-  pub reading : WasRead Came (Found name) name first last
-  pub found : Finds (start_of settled from) r.file.key first last (min stopped.written settled) p
-
--- A run stopped with this fault, and at this position: the run's own, if positions are kept; or it
--- dropped that, and IN was read once more.
-abbrev pub StopsText : (Came : Outcome → Type 0) → Text → PositionPolicy → (from : Option Position)
-    → (Stops : PositionPolicy → Option Run → Stopped → Type 0)
-    → (settled : ℕ) → FileFault → Option Position → Type 0
-StopsText Came name keep from Stops settled fault position =
-    (run : Option Run) × (stop : Stopped) × (stop.fault ≡ fault)
-    × ((Stops keep run stop × (stop.position ≡ position)) ⊎ (Stops Dropped run stop
-    × IsSomeAnd run (λ r. IsSomeAnd position (FindsAgain Came name from settled r stop))))
-
--- that of `decrypt`, which names IN
-abbrev pub decrypt_engine : (Came : Outcome → Type 0) → Text → PositionPolicy → Identity → Engine
-decrypt_engine Came name keep i = record {
+-- that of `decrypt`
+abbrev pub decrypt_engine : PositionPolicy → Identity → Engine
+decrypt_engine keep i = record {
   ends = λ before after. (done : Done) × (run : Run)
       × DecryptEnds (allows_by i) before after done run;
-  stops = λ settled fault position before after. StopsText Came name keep None
-      (λ policy. DecryptStops policy (allows_by i) (refuses_by i) before after)
-      settled fault position;
+  stops = λ settled fault position before after.
+      StopsText keep (DecryptStops keep (allows_by i) (refuses_by i) before after) settled fault position;
 }
 
 -- the ports of a source and a sink of one set of files: what they show, and how often they failed
@@ -144,13 +126,12 @@ module _ (IsPorts : Ports → Type 0) (Came : Outcome → Type 0) where
       × Promise (resume_ports before first) (resume_ports after last)
 
   -- the engine of `resume`, from a position and the earlier output of this name
-  abbrev pub resume_engine : Text → PositionPolicy → Identity → Position → Text → Engine
-  resume_engine name keep i from old_name = record {
+  abbrev pub resume_engine : PositionPolicy → Identity → Position → Text → Engine
+  resume_engine keep i from old_name = record {
     ends = Beside old_name from (λ before after. (done : Done) × (run : Run)
         × ResumeEnds (allows_by i) from before after done run);
     stops = λ settled fault position. Beside old_name from (λ before after.
-        StopsText Came name keep (Some from)
-        (λ policy. ResumeStops (allows_by i) from before after policy (refuses_by i))
+        StopsText keep (ResumeStops (allows_by i) from before after keep (refuses_by i))
         settled fault position);
   }
 
@@ -255,17 +236,13 @@ abbrev pub ShowsRun : Option ℕ → (coming left : Supply) → (old new : Optio
 ShowsRun size coming left old new =
     IfSome coming.left (λ bytes. size ≡ Some (length bytes)) × ShowsReading size coming left old new
 
--- one reading, to its end if all was done; if it stopped, perhaps a second one, by which its position
--- was looked for
-pub record ShowsReadings (size : Option ℕ) (coming left : Supply) (old new : Option (List ShownOne))
-    (ended : Result (Unit {0}) Ending) : Type 0 where
-  pub middle : Option (List ShownOne)
-  pub first : ShowsRun size coming left old middle
-  pub whole : OnOk ended (IsAtEnd left × (new ≡ middle))
-  pub again : (new ≡ middle)
-      ⊎ ((size : Option ℕ) × (coming : Supply) × (left : Supply) × ShowsRun size coming left middle new)
+-- one reading, to its end if all was done
+abbrev pub ShowsReadings : Option ℕ → (coming left : Supply) → (old new : Option (List ShownOne))
+    → (ended : Result (Unit {0}) Ending) → Type 0
+ShowsReadings size coming left old new ended =
+    ShowsRun size coming left old new × OnOk ended (IsAtEnd left)
 
--- the readings of the file of this name, which is found so, and is so long as the set of files said
+-- the reading of the file of this name, which is found so, and is so long as the set of files said
 pub record ShowsProgress (Came : Outcome → Type 0) (old new : Option (List ShownOne)) (name : Option Text)
     (ended : Result (Unit {0}) Ending) : Type 0 where
   pub size : Option ℕ
@@ -295,11 +272,11 @@ abbrev pub LacksOne : Option Text → Option Position → Type 0
 LacksOne (Some name) (Some p) = ⊥
 LacksOne save position = Unit {0}
 
--- why a position isn't even put to its file: memory was refused, IN couldn't be read once more, or it
--- stands beyond what OUT holds for certain
+-- why a position isn't even put to its file: memory was refused, or it stands beyond what OUT holds for
+-- certain
 abbrev pub IsUnsavable : (settled : ℕ) → Position → (second : FileFault) → Type 0
-IsUnsavable settled p second = (second ≡ Memory) ⊎ ((second ≡ Read)
-    ⊎ ((second ≡ Write) × (settled < p.index * chunk_length)))
+IsUnsavable settled p second =
+    (second ≡ Memory) ⊎ ((second ≡ Write) × (settled < p.index * chunk_length))
 
 -- a position isn't put to its file: it or a name isn't there, or the ending says why
 abbrev pub IsNotDue : (settled : ℕ) → Ending → Option Text → Option Position → Type 0
@@ -344,12 +321,12 @@ module _ (IsPorts : Ports → Type 0) (Came : Outcome → Type 0) where
         clobber = e.clobber;
       })
   OfEngine First (Decrypt d) P = (identity : Identity) × OpensOf Came d identity
-      × P (decrypt_engine Came d.from.now (kept_for (option_text d.save)) identity) (paths_of d)
+      × P (decrypt_engine (kept_for (option_text d.save)) identity) (paths_of d)
   OfEngine First (Resume r) P =
       let d = r.decrypting in
       (identity : Identity) × OpensOf Came d identity
       × (position : Position) × HasGivenAll First r.position.now (position_text position)
-      × P (resume_engine IsPorts Came d.from.now (kept_for (option_text d.save)) identity position r.old.now)
+      × P (resume_engine IsPorts Came (kept_for (option_text d.save)) identity position r.old.now)
       (paths_of d)
   OfEngine First other P = Unit {0}
 

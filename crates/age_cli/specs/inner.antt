@@ -1,12 +1,12 @@
 -- What only private code cites: how a part of the program ended, the second reading of an input,
 -- and the files of a command.
 use Rattle.std.specs.Prelude.{◌≡◌, ◌≢◌, ◌⊎◌, ℕ, ◌++◌, ◌∷◌, [], List, Option, None, Result, Ok, Err, IsErrAnd}
-use Rattle.std.specs.Prelude.{true, IsSomeAnd, length, Some, IfSome, Bool, is_some, min, IsErr, OnOk, IfErr}
+use Rattle.std.specs.Prelude.{true, IsSomeAnd, length, Some, IfSome, Bool, is_some, IsErr, OnOk, IfErr}
 use Rattle.std.specs.Prelude.{if◌then◌else◌, IfOk}
 use Rattle.clap.specs.Words.{Text}
 use Rattle.clap.specs.declared.error.kind.ErrorKind.{ErrorKind}
 use Rattle.clap.specs.declared.error.kind.ErrorKind.TheVariants.{DisplayHelp, DisplayVersion}
-use Rattle.age_io.specs.{SinkView, Shown as ShownOne, SourceView}
+use Rattle.age_io.specs.{SinkView}
 use Rattle.age_io.specs.declared.durability.Durability.{Durability}
 use Rattle.age_fault.specs.declared.fault.FileFault.{FileFault}
 use Rattle.age_fault.specs.declared.fault.FileFault.TheVariants.{Write, Read, Memory, BadPosition}
@@ -19,13 +19,13 @@ use Rattle.age_command.specs.{Follows, replacing, is_usage, Order, HoldsOnly, Is
 use Rattle.age_command.specs.declared.ending.Ending.{Ending}
 use Rattle.age_command.specs.declared.ending.Ending.TheVariants.{Fault, Usage}
 use Rattle.age_machine.specs.{Closes, EndedFile, OutFile, TouchesItself, IsUntouched}
-use Rattle.age_cli.specs.Acts.{IsEndingOf, IsNotDue, IsStored, start_of, Engine, Finds, Paths, ShowsRun}
+use Rattle.age_cli.specs.Acts.{IsEndingOf, IsNotDue, IsStored, Engine, Paths}
 use Rattle.age_cli.specs.Acts.{SparesOut, AreSame, IsUnusable, NamesOne}
 use Rattle.age_cli.specs.declared.interruption.Interruption.{Interruption}
 use Rattle.age_io.specs.Supply.{Supply}
-use Rattle.age_file.specs.{IsReport, Ports}
+use Rattle.age_file.specs.{IsMarked, IsReport, MarksView, Ports}
 use Rattle.age_file.specs.declared.report.Report.{Report}
-use Rattle.age_cli.specs.Commands.{ReportsAs, WasRead, HoldsNoPassphrase, HoldsNoRandom, HoldsNoPosition}
+use Rattle.age_cli.specs.Commands.{ReportsAs, HoldsNoPassphrase, HoldsNoRandom, HoldsNoPosition}
 use Rattle.age_file.specs.declared.position.Position.{Position}
 use Rattle.age_cli_args.specs.{option_text}
 use Rattle.age_cli_args.specs.declared.request.Decrypting.{Decrypting}
@@ -50,10 +50,6 @@ IsForOutput kind = (kind ≡ DisplayHelp) ⊎ (kind ≡ DisplayVersion)
 abbrev pub sealing_end : Result Written FileFault → Result (Unit {0}) Interruption
 sealing_end (Ok written) = Ok tt
 sealing_end (Err fault) = Err (record { fault = fault; position = None })
-
-abbrev pub opening_end : Result Done Stopped → Result (Unit {0}) Interruption
-opening_end (Ok done) = Ok tt
-opening_end (Err s) = Err (record { fault = s.fault; position = s.position })
 
 -- what was put of an output, whose sink is this: nothing, or all that it took
 abbrev pub IsPut : SinkView → List Entry → Type 0
@@ -122,58 +118,30 @@ pub record IsInspected (size : Option ℕ) (old new : Supply) (r : Report) : Typ
   pub whole : (bytes : List ℕ) → old.left ≡ Some bytes → IfSome size (λ n. n ≡ length bytes)
       → IsReport bytes r
 
--- ---- How a position is found by reading the input once more.
+-- ---- How a decryption was concluded.
 
--- what progress shows of a second reading, if there was one
-abbrev pub ShowsAgain : (old new : Option (List ShownOne)) → Type 0
-ShowsAgain old new = (new ≡ old)
-    ⊎ ((size : Option ℕ) × (coming : Supply) × (left : Supply) × ShowsRun size coming left old new)
+-- the position of a stop by the marks of its run, within what is certain; its own, if it has no marks
+abbrev pub IsPlacedBy : Option MarksView → (settled : ℕ) → (own position : Option Position) → Type 0
+IsPlacedBy None settled own position = position ≡ own
+IsPlacedBy (Some m) settled own position = IsSomeAnd position (IsMarked m settled)
 
--- IN was read once more, and a position was found
-pub record IsFoundIn (Came : Outcome → Type 0) (name : Text) (from : Option Position) (key : List ℕ)
-    (written : ℕ) (p : Position) : Type 0 where
-  pub first : SourceView
-  pub last : SourceView
-  pub reading : WasRead Came (Found name) name first last
-  pub found : Finds from key first last written p
+abbrev pub PlacesEnd : Option MarksView → (settled : ℕ) → Result Done Stopped
+    → Result (Unit {0}) Interruption → Type 0
+PlacesEnd marks settled (Ok done) engine = engine ≡ Ok tt
+PlacesEnd marks settled (Err s) engine = (position : Option Position)
+    × IsPlacedBy marks settled s.position position
+    × (engine ≡ Err (record { fault = s.fault; position = position }))
 
--- a stop, had positions been kept
-abbrev pub stopped_at : Stopped → Position → Stopped
-stopped_at s p = record { fault = s.fault; written = s.written; position = Some p }
-
--- the stop and the key by which the input is read once more, if that is to be done: it came to the
--- payload
-abbrev pub again_of : Bool → Result Done Stopped → Option (List ℕ) → Option (Stopped × List ℕ)
-again_of reread (Err s) (Some key) = if reread then Some (s, key) else None
-again_of reread end key = None
-
--- OUT was ended after a stop that dropped its position, by a sink that is this, and then the input
--- was read once more: the position of what OUT holds for certain was found, and saved if it can be; or
--- it wasn't found, and whatever it is, it isn't saved
-module _ (d : Decrypting) (sink : SinkView) (from : Option Position) (stopped : Stopped) (key : List ℕ)
-    (old new : FilesView) (ending : Ending) where
-  abbrev pub ConcludesAt : ℕ → Position → Type 0
-  ConcludesAt settled p = Concludes (option_text d.save) d.durability sink settled
-      (opening_end (Err (stopped_at stopped p))) old new (Err ending)
-
-  abbrev pub ConcludesFound : ℕ → Type 0
-  ConcludesFound settled = ((p : Position)
-      × IsFoundIn (CameSince old new) d.from.now (start_of settled from) key
-      (min stopped.written settled) p × ConcludesAt settled p)
-      ⊎ ((p : Position) → ConcludesAt settled p)
-
--- OUT was ended after a decryption that ended so, and the position of a stop was saved: the one that
--- it has, or, of a stop and a key by which the input is read once more, one that is found so. `IsCertain`
+-- OUT was ended after a decryption that ended so, and the position of a stop was saved. `IsCertain`
 -- says that the sink holds so many bytes for certain.
-abbrev pub ConcludesDecryption : (IsCertain : ℕ → Type 0) → Decrypting → SinkView → Option Position
-    → Result Done Stopped → Option (Stopped × List ℕ) → FilesView → FilesView
-    → Result (Unit {0}) Ending → Type 0
-ConcludesDecryption IsCertain d sink from end None old new result = (settled : ℕ)
-    × Concludes (option_text d.save) d.durability sink settled (opening_end end) old new result
-    × (IsErr end → is_some (option_text d.save) ≡ true → IsCertain settled)
-ConcludesDecryption IsCertain d sink from end (Some again) old new result =
-    IsErrAnd result (λ ending. (settled : ℕ) × IsCertain settled
-    × ConcludesFound d sink from again.0 again.1 old new ending settled)
+pub record ConcludesDecryption (IsCertain : ℕ → Type 0) (d : Decrypting) (sink : SinkView)
+    (end : Result Done Stopped) (marks : Option MarksView) (old new : FilesView)
+    (result : Result (Unit {0}) Ending) : Type 0 where
+  pub settled : ℕ
+  pub engine : Result (Unit {0}) Interruption
+  pub places : PlacesEnd marks settled end engine
+  pub concludes : Concludes (option_text d.save) d.durability sink settled engine old new result
+  pub certain : IsErr end → is_some (option_text d.save) ≡ true → IsCertain settled
 
 -- An engine ran over a source and a sink of the files, and OUT was ended. `end` is how it ended; of a
 -- stop, it has the position that is saved, of which `settled` bytes are certain.

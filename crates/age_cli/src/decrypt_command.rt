@@ -1,7 +1,7 @@
 //! The command that decrypts a file.
 
 ghost use Rattle.std.specs.Prelude.{◌≡◌, ℕ, List};
-ghost use Rattle.age_file.specs.{DecryptsKeyed, ports};
+ghost use Rattle.age_file.specs.{DecryptsMarked, ports};
 ghost use Rattle.age_cli_args.specs.{option_text};
 ghost use Rattle.age_cli_args.specs.declared.request.ProgressOption.TheVariants.{Silent, Shown};
 ghost use Rattle.age_cli_args.specs.declared.request.Request.TheVariants.{Decrypt};
@@ -13,11 +13,11 @@ ghost use Rattle.age_cli.specs.{PortsOf, ShowsProgress, ShowsReadings, ShowsRun,
 ghost use Rattle.age_cli.specs.{OpensNone, OpensOf, paths_of};
 ghost use Rattle.age_cli.specs.inner.{EndsBy, IsBlamedBy, OpensFiles, RunsEngine, order_in};
 
+use crate::conclusion::{Decrypted, conclude_decryption, positions_for};
 use crate::output::{Content, Writing, begin_meter, check_names, end_meter, open_both};
-use crate::reread::{Decrypted, can_reread, conclude_decryption, positions_at_first};
 use age_cli_args::{Decrypting, ProgressOption};
 use age_command::{Announcement, Choice, Ending, Identity};
-use age_file::{PositionPolicy, decrypt_keyed, read_again};
+use age_file::{PositionPolicy, decrypt_marked};
 use age_fileset::FileSet;
 use age_io::{Meter, Metered, Sink};
 use std::alloc::Global;
@@ -56,9 +56,9 @@ fn open_text<F: FileSet, P: Meter>(
     out: &mut F::Out,
     progress: &mut P,
 ) -> Decrypted<F::In>
-    ensures opened { DecryptsKeyed positions (allows_by identity) (refuses_by identity)
+    ensures opened { DecryptsMarked positions (allows_by identity) (refuses_by identity)
         (ports (F.In.view source) (F.Out.view out.old))
-        (ports (F.In.view result.source) (F.Out.view out.new)) result.end result.key }
+        (ports (F.In.view result.source) (F.Out.view out.new)) result.end result.marks }
     ensures began { (name : List ℕ) → F.In.began source (Named name)
         → F.In.began result.source (Named name) }
     ensures silent { asked.now.progress ≡ Silent → progress.new ≡ progress.old }
@@ -67,8 +67,8 @@ fn open_text<F: FileSet, P: Meter>(
 {
     match asked.progress {
         ProgressOption::Silent => {
-            let (end, key) = decrypt_keyed(alloc, positions, identity, &mut source, out);
-            Decrypted { end, key, source }
+            let (end, marks) = decrypt_marked(alloc, positions, identity, &mut source, out);
+            Decrypted { end, marks, source }
         }
         ProgressOption::Shown => {
             begin_meter(files, &source, &mut *progress);
@@ -76,20 +76,18 @@ fn open_text<F: FileSet, P: Meter>(
                 source,
                 meter: &mut *progress,
             };
-            let (end, key) = decrypt_keyed(alloc, positions, identity, &mut metered, out);
+            let (end, marks) = decrypt_marked(alloc, positions, identity, &mut metered, out);
             let Metered {
                 source,
                 meter: _meter,
             } = metered;
             end_meter(&mut *progress);
-            Decrypted { end, key, source }
+            Decrypted { end, marks, source }
         }
     }
 }
 
-/// Decrypts the input into the output, ends that, and saves the position of a stop. Linking the
-/// text for it takes longer than decrypting: if the input can be read again, that is done only once
-/// it stopped.
+/// Decrypts the input into the output, ends that, and saves the position of a stop.
 fn decrypt_opened<F: FileSet, E: Sink, P: Meter>(
     alloc: Global,
     files: &mut F,
@@ -108,28 +106,23 @@ fn decrypt_opened<F: FileSet, E: Sink, P: Meter>(
         → ((o : Outcome) → CameSince (F.view files.old) (F.view files.new) o
         → CameSince first (F.view files.new) o)
         → RunsEngine (PortsOf F.In.view F.Out.view) (CameSince first (F.view files.new))
-        (decrypt_engine (CameSince first (F.view files.new)) asked.now.from.now
-        (kept_for (option_text asked.now.save)) identity)
+        (decrypt_engine (kept_for (option_text asked.now.save)) identity)
         (paths_of asked.now) asked.now.durability asked.now.progress
         (ports (F.In.view source) (F.Out.view out)) (F.view files.old) (F.view files.new)
         (progress.new ≡ progress.old) (λ coming left ended. ShowsReadings (F.size source) coming left
         (P.shown progress.old) (P.shown progress.new) ended) result }
 {
-    read_again::<Identity>();
-    let is_reread = can_reread(files, &source, asked.save);
     let opened = open_text(
         alloc,
         files,
         asked,
-        positions_at_first(is_reread, asked.save),
+        positions_for(asked.save),
         identity,
         source,
         &mut out,
-        &mut *progress,
+        progress,
     );
-    conclude_decryption(
-        alloc, files, out, asked, is_reread, None, opened, faults, announced, progress,
-    )
+    conclude_decryption(alloc, files, out, asked, opened, faults, announced)
 }
 
 /// Decrypts a file as asked. If it stops, the line of its fault is put to `faults`, and then its

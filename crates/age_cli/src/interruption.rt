@@ -8,12 +8,12 @@ ghost use Rattle.age_fileset.specs.{Entry, PutsOnly, CameSince, IsMemoryOr, writ
 ghost use Rattle.age_cli_args.specs.{option_text};
 ghost use Rattle.age_command.specs.{is_usage, Announces, Follows, replacing};
 ghost use Rattle.age_cli.specs.Acts.{IsEndingOf, IsNotDue, IsStored, IsUnsavable, LacksOne};
-ghost use Rattle.age_cli.specs.inner.{sealing_end, opening_end};
+ghost use Rattle.age_cli.specs.inner.{sealing_end};
 ghost use Rattle.age_machine.specs.Saved.{Saves};
 ghost use Rattle.age_file.specs.{position_text};
 
 use age_command::{Announcement, Ending, announce};
-use age_file::{Done, FileFault, Position, Stopped, Written};
+use age_file::{FileFault, Position, Written};
 use age_fileset::FileSet;
 use age_io::{Durability, Sink};
 use std::alloc::Global;
@@ -47,19 +47,6 @@ pub(crate) fn sealing_end(sealed: Result<Written, FileFault>) -> Result<(), Inte
         Err(fault) => Err(Interruption {
             fault,
             position: None,
-        }),
-    }
-}
-
-/// How a decryption ended.
-pub(crate) fn opening_end(opened: Result<Done, Stopped>) -> Result<(), Interruption>
-    ensures { result ≡ opening_end opened }
-{
-    match opened {
-        Ok(_) => Ok(()),
-        Err(stopped) => Err(Interruption {
-            fault: stopped.fault,
-            position: stopped.position,
         }),
     }
 }

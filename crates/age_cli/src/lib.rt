@@ -12,6 +12,7 @@
 //! contract says, whether it succeeds or stops. An `Ending` says why it did not succeed.
 #![tactic(auto)]
 
+mod conclusion;
 mod decrypt_command;
 mod encrypt_command;
 mod inspect_command;
@@ -21,7 +22,6 @@ mod output;
 mod print;
 mod program;
 mod refusal;
-mod reread;
 mod resume_command;
 
 pub use age_fileset::{FileSet, MemFiles, OpenFault};

@@ -313,20 +313,21 @@ fn close_out<F: FileSet, E: Sink>(
     }
 }
 
-/// How many bytes an output holds for certain, if a position is to be saved.
-fn settle_stop<F: FileSet>(
+/// How many bytes an output holds for certain, if its engine stopped and a position is to be saved.
+pub(crate) fn settle_end<F: FileSet>(
     files: &mut F,
     out: &mut F::Out,
     save: Option<&str>,
     durability: Durability,
+    is_stopped: bool,
 ) -> u64
     ensures does { Does [] (F.view files.old) (F.view files.new) }
     ensures same { F.Out.view out.new ≡ F.Out.view out.old }
-    ensures certain { is_some (option_text save.entry) ≡ true
+    ensures certain { is_stopped ≡ true → is_some (option_text save.entry) ≡ true
         → CameSince (F.view files.old) (F.view files.new)
         (Settled durability (F.Out.view out.old).taken.bytes result) }
 {
-    if save.is_some() {
+    if is_stopped && save.is_some() {
         files.settle(out, durability)
     } else {
         0
@@ -334,7 +335,36 @@ fn settle_stop<F: FileSet>(
 }
 
 /// Ends the output once the engine returned: whole, or as its stop leaves it. Announces the fault,
-/// and saves the position of a stop, unless it is beyond what the output holds for certain.
+/// and saves the position of a stop, unless it is beyond these bytes.
+pub(crate) fn conclude_settled<F: FileSet, E: Sink>(
+    alloc: Global,
+    files: &mut F,
+    out: F::Out,
+    save: Option<&str>,
+    durability: Durability,
+    faults: &mut E,
+    announced: &mut Announcement,
+    engine: Result<(), Interruption>,
+    settled: u64,
+) -> Result<(), Ending>
+    ensures announced { Tells announced.new result (E.view faults.old) (E.view faults.new)
+        (faults.new ≡ faults.old) }
+    ensures concludes { Concludes (option_text save.entry) durability (F.Out.view out) settled engine
+        (F.view files.old) (F.view files.new) result }
+{
+    match engine {
+        Ok(()) => close_out(files, out, durability, faults, announced),
+        Err(stop) => {
+            leave(files, out, durability);
+            Err(end_of(
+                alloc, files, save, stop, settled, durability, faults, announced,
+            ))
+        }
+    }
+}
+
+/// Ends the output once the engine returned, and saves the position of a stop, unless it is beyond
+/// what the output holds for certain.
 pub(crate) fn conclude<F: FileSet, E: Sink>(
     alloc: Global,
     files: &mut F,
@@ -353,13 +383,8 @@ pub(crate) fn conclude<F: FileSet, E: Sink>(
         (CameSince (F.view files.old) (F.view files.new)
         (Settled durability (F.Out.view out).taken.bytes settled))) }
 {
-    let stop = match engine {
-        Ok(()) => return close_out(files, out, durability, faults, announced),
-        Err(stop) => stop,
-    };
-    let settled = settle_stop(files, &mut out, save, durability);
-    leave(files, out, durability);
-    Err(end_of(
-        alloc, files, save, stop, settled, durability, faults, announced,
-    ))
+    let settled = settle_end(files, &mut out, save, durability, engine.is_err());
+    conclude_settled(
+        alloc, files, out, save, durability, faults, announced, engine, settled,
+    )
 }

@@ -6,19 +6,19 @@ ghost use Rattle.age_fileset.specs.{Opened, Outcome, CameSince, HasGivenAll, Fil
 ghost use Rattle.age_cli_args.specs.{option_text};
 ghost use Rattle.age_cli_args.specs.declared.request.ProgressOption.TheVariants.{Silent, Shown};
 ghost use Rattle.age_cli_args.specs.declared.request.Request.TheVariants.{Resume};
-ghost use Rattle.age_file.specs.{resume_ports, position_text, ResumesKeyed, ports};
+ghost use Rattle.age_file.specs.{resume_ports, position_text, ResumesMarked, ports};
 ghost use Rattle.age_command.specs.{allows_by, refuses_by, Tells};
 ghost use Rattle.age_cli.specs.Acts.{Acts};
 ghost use Rattle.age_cli.specs.{PortsOf, ShowsProgress, ShowsReadings, ShowsRun, resume_engine, kept_for};
 ghost use Rattle.age_cli.specs.{paths_of, old_found};
 ghost use Rattle.age_cli.specs.inner.{IsUnplaced, OpensFiles, RunsEngine};
 
+use crate::conclusion::{Decrypted, conclude_decryption, positions_for};
 use crate::decrypt_command::identify;
 use crate::output::{Content, Writing, begin_meter, end_meter, open_both, open_in};
-use crate::reread::{Decrypted, can_reread, conclude_decryption, positions_at_first};
 use age_cli_args::{Decrypting, ProgressOption, Resuming};
 use age_command::{Announcement, Ending, Identity, read_file};
-use age_file::{FileFault, Position, PositionPolicy, read_again, resume_keyed};
+use age_file::{FileFault, Position, PositionPolicy, resume_marked};
 use age_fileset::FileSet;
 use age_io::{Meter, Metered, Sink};
 use std::alloc::Global;
@@ -74,11 +74,11 @@ fn resume_text<F: FileSet, P: Meter>(
     out: &mut F::Out,
     progress: &mut P,
 ) -> Decrypted<F::In>
-    ensures resumed { ResumesKeyed positions (allows_by identity) (refuses_by identity)
+    ensures resumed { ResumesMarked positions (allows_by identity) (refuses_by identity)
         position.now
         (resume_ports (ports (F.In.view source) (F.Out.view out.old)) (F.In.view old.old))
         (resume_ports (ports (F.In.view result.source) (F.Out.view out.new)) (F.In.view old.new))
-        result.end result.key }
+        result.end result.marks }
     ensures began { (name : List ℕ) → F.In.began source (Named name)
         → F.In.began result.source (Named name) }
     ensures old_began { (from : Origin) → F.In.began old.old from → F.In.began old.new from }
@@ -88,7 +88,7 @@ fn resume_text<F: FileSet, P: Meter>(
 {
     match asked.progress {
         ProgressOption::Silent => {
-            let (end, key) = resume_keyed(
+            let (end, marks) = resume_marked(
                 alloc,
                 positions,
                 identity,
@@ -97,7 +97,7 @@ fn resume_text<F: FileSet, P: Meter>(
                 old,
                 out,
             );
-            Decrypted { end, key, source }
+            Decrypted { end, marks, source }
         }
         ProgressOption::Shown => {
             begin_meter(files, &source, &mut *progress);
@@ -105,7 +105,7 @@ fn resume_text<F: FileSet, P: Meter>(
                 source,
                 meter: &mut *progress,
             };
-            let (end, key) = resume_keyed(
+            let (end, marks) = resume_marked(
                 alloc,
                 positions,
                 identity,
@@ -119,13 +119,13 @@ fn resume_text<F: FileSet, P: Meter>(
                 meter: _meter,
             } = metered;
             end_meter(&mut *progress);
-            Decrypted { end, key, source }
+            Decrypted { end, marks, source }
         }
     }
 }
 
 /// Resumes the decryption of the input into the output, ends that, and saves the position of a
-/// stop. If the input can be read again, the text is linked for it only once it stopped.
+/// stop.
 fn resume_opened<F: FileSet, E: Sink, P: Meter>(
     alloc: Global,
     files: &mut F,
@@ -151,33 +151,28 @@ fn resume_opened<F: FileSet, E: Sink, P: Meter>(
         (old_found position.now asked.now.old.now (F.In.view old).supply.left (F.size old))
         → RunsEngine (PortsOf F.In.view F.Out.view) (CameSince first (F.view files.new))
         (resume_engine (PortsOf F.In.view F.Out.view) (CameSince first (F.view files.new))
-        asked.now.decrypting.from.now (kept_for (option_text asked.now.decrypting.save)) identity
+        (kept_for (option_text asked.now.decrypting.save)) identity
         position.now asked.now.old.now)
         (paths_of asked.now.decrypting) asked.now.decrypting.durability asked.now.decrypting.progress
         (ports (F.In.view source) (F.Out.view out)) (F.view files.old) (F.view files.new)
         (progress.new ≡ progress.old) (λ coming left ended. ShowsReadings (F.size source) coming left
         (P.shown progress.old) (P.shown progress.new) ended) result }
 {
-    read_again::<Identity>();
     let wanted = &asked.decrypting;
-    let is_reread = can_reread(files, &source, wanted.save);
     let resumed = resume_text(
         alloc,
         files,
         wanted,
-        positions_at_first(is_reread, wanted.save),
+        positions_for(wanted.save),
         identity,
         position,
         source,
         &mut old,
         &mut out,
-        &mut *progress,
+        progress,
     );
     files.finish(old);
-    let from = Some(*position);
-    conclude_decryption(
-        alloc, files, out, wanted, is_reread, from, resumed, faults, announced, progress,
-    )
+    conclude_decryption(alloc, files, out, wanted, resumed, faults, announced)
 }
 
 /// Continues a decryption as asked. If it stops, the line of its fault is put to `faults`, and then

@@ -30,10 +30,6 @@ longer order more old new f = record {
   front = ap (λ x. x ++ more) f.front ∙ append_assoc f.done f.rest more;
 }
 
--- no event came so far
-pub none_done : (order old : List Event) → Follows order old old
-none_done order old = record { done = []; rest = order; did = sym (append-nil old); front = refl }
-
 -- an order was done whole, or a beginning of it, or of a longer one
 pub begun : (order : List Event) (old new : FilesView) → Does order old new → Begins order old new
 begun order old new did = record { done = order; rest = []; did = did; front = sym (append-nil order) }

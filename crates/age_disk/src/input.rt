@@ -1,16 +1,16 @@
 //! A file of the machine that is read.
 
-ghost use Rattle.std.specs.Prelude.{◌≡◌, IfOk, [], false};
+ghost use Rattle.std.specs.Prelude.{◌≡◌, IfOk, false};
 ghost use Rattle.std.specs.Io.{ReadsAtMost};
 ghost use Rattle.age_io.specs.{IsNamed};
 ghost use Rattle.age_disk.specs.{IsUnread, as_source};
 
-use crate::names::{FileId, Resolved, Stream, is_on_disk, is_random, resolve};
+use crate::names::{FileId, Resolved, Stream, is_random, resolve};
 use age_io::{Failed, Failures, Source, Tape};
 use age_machine::{TRIES, above_streams, is_to_retry, too_many_tries};
 use std::alloc::Global;
 use std::fs::{File, Metadata};
-use std::io::{self, Read, Seek, SeekFrom};
+use std::io::{self, Read, Seek};
 use std::marker::Model;
 use std::rt::{HostRuntime, Stdin};
 
@@ -171,7 +171,7 @@ impl HostIn {
         &self.name
     }
 
-    /// What it gave since it was opened, or was set back to its start.
+    /// What it gave since it was opened.
     pub fn given(&self) -> &Tape
         ensures { result.now ≡ self.now.given }
     {
@@ -220,30 +220,6 @@ impl HostIn {
         {
             self.is_cut_off = true;
         }
-    }
-
-    /// Whether it can be read once more from its start. Standard input can't: where it stood at
-    /// first isn't known.
-    pub fn can_reread(&self) -> bool {
-        match &self.origin {
-            Origin::File(file) => file.metadata().is_ok_and(|metadata| is_on_disk(&metadata)),
-            _ => false,
-        }
-    }
-
-    /// Sets it back to its start, by its descriptor: its name isn't looked up again.
-    pub fn reread(&mut self) -> io::Result<()>
-        ensures { self.new
-            ≡ record self.old { given = []; is_at_end = false; size = self.new.size } }
-    {
-        self.given = Tape::new();
-        self.is_at_end = false;
-        let Origin::File(file) = &mut self.origin else {
-            return Err(io::Error::from(io::ErrorKind::Unsupported));
-        };
-        file.seek(SeekFrom::Start(0))?;
-        self.left = length_of(&file.metadata()?);
-        Ok(())
     }
 
     fn open_stream(rt: &HostRuntime, name: &str, stream: Stream) -> io::Result<HostIn>

@@ -238,6 +238,12 @@ pub fn is_on_disk(metadata: &Metadata) -> bool {
     kind.is_file() || kind.is_block_device()
 }
 
+/// Whether a file hands on what is written to it, and nobody knows who has it: a pipe or a socket.
+pub(crate) fn is_handed_on(metadata: &Metadata) -> bool {
+    let kind = metadata.file_type();
+    kind.is_fifo() || kind.is_socket()
+}
+
 /// Whether a file is the machine's generator of random bytes.
 pub fn is_random(metadata: &Metadata) -> bool {
     metadata.file_type().is_char_device() && matches!(metadata.rdev(), 0x108 | 0x109)

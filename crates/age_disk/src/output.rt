@@ -12,7 +12,7 @@ ghost use Rattle.age_disk.specs.Targets.{regular_of, IsTaking, IsPaced};
 ghost use Rattle.age_disk.specs.inner.{opening_calls, part_of, TargetPuts};
 
 use crate::device::Device;
-use crate::names::{FileId, Resolved, Stream, resolve};
+use crate::names::{FileId, Resolved, Stream, is_handed_on, resolve};
 use crate::sync::{Witness, close_stream, sync_file};
 use age_io::{Durability, Failed, Failures, Sink, Tape};
 use age_machine::calls::close;
@@ -20,9 +20,10 @@ use age_machine::{
     HostFile, HostMachine, Kind, Machine, Node, Opening, Out, TRIES, is_to_retry, too_many_tries,
 };
 use std::alloc::Global;
-use std::fs::File;
+use std::fs::{self, File};
 use std::io::{self, IsTerminal, Write};
 use std::marker::Model;
+use std::os::fd::AsFd;
 use std::rt::{HostRuntime, Stderr, Stdout};
 
 /// Where its bytes go.
@@ -78,6 +79,49 @@ impl Target {
         }
     }
 
+    /// Closes a second descriptor of it, if one can be had: some file systems store a file only as
+    /// one is closed, and say only then that they can't.
+    fn close_copy(&self, rt: &HostRuntime) -> io::Result<()> {
+        let copy = match self {
+            Target::File(out) => out.file().file().as_fd().try_clone_to_owned(),
+            Target::Device(_) => return Ok(()),
+            Target::Output(..) => Stream::Output.copy(rt),
+            Target::Faults(..) => Stream::Faults.copy(rt),
+        };
+        match copy {
+            Ok(copy) => close(rt, copy),
+            Err(_) => Ok(()),
+        }
+    }
+
+    /// How long the file is to which its name leads; 0 if there is none.
+    fn length_by_name(&self, rt: &HostRuntime) -> u64 {
+        let path = match self {
+            Target::File(out) => out.path(),
+            Target::Device(_) => return u64::MAX,
+            Target::Output(..) => Stream::Output.path(),
+            Target::Faults(..) => Stream::Faults.path(),
+        };
+        match fs::metadata(rt, path) {
+            Ok(metadata) => metadata.len(),
+            Err(_) => 0,
+        }
+    }
+
+    /// How many of the last bytes may be on their way to whoever reads it.
+    fn on_the_way(&self, rt: &HostRuntime) -> u64 {
+        let found = match self {
+            Target::File(_) => return 0,
+            Target::Device(device) => device.file.metadata(),
+            Target::Output(..) => fs::metadata(rt, Stream::Output.path()),
+            Target::Faults(..) => fs::metadata(rt, Stream::Faults.path()),
+        };
+        match found {
+            Ok(metadata) if is_handed_on(&metadata) => ON_THE_WAY,
+            _ => 0,
+        }
+    }
+
     /// Whether the disk can be waited for. If it can't, that is said at the end, once all is written.
     fn can_reach_disk(&self) -> bool {
         match self {
@@ -126,6 +170,18 @@ impl Pace {
             Err(error) => self.lost = Some(error),
         }
         reached
+    }
+
+    /// Whether all that was written has reached the disk, and the machine says so again as a copy is
+    /// closed.
+    fn is_stored(&mut self, rt: &HostRuntime, target: &mut Target) -> bool
+        ensures goes { TargetPuts (regular_of target.old) (regular_of target.new) true [] }
+        ensures paced { (took : List ℕ) → IsPaced self.old took → IsPaced self.new took }
+    {
+        if self.taken > self.settled && self.reach_disk(target).is_err() {
+            return false;
+        }
+        target.close_copy(rt).is_ok()
     }
 
     /// Waits for the disk before more is written, if it is time to.
@@ -312,6 +368,10 @@ impl Model for HostOut {
 const WAIT_FIRST: u64 = 1 << 24;
 
 const WAIT_MOST: u64 = 1 << 30;
+
+/// How many bytes of what a pipe took aren't counted as certain, since the pipe and its reader may hold
+/// them: a network connection holds megabytes.
+const ON_THE_WAY: u64 = 4 << 20;
 
 /// Whether the disk is to be waited for before more is written.
 fn is_wait_due(taken: u64, settled: u64) -> bool {
@@ -621,20 +681,23 @@ impl HostOut {
     }
 
     /// How many of the bytes that it took are there for certain: on the disk, if they are to be and
-    /// the machine can wait for that. A file that was cut off or removed has fewer.
-    pub fn settle(&mut self, _rt: &HostRuntime, durability: Durability) -> u64
+    /// the machine can wait for that. A file that was cut off or removed has fewer; of a pipe, what
+    /// may still be on its way isn't counted.
+    pub fn settle(&mut self, rt: &HostRuntime, durability: Durability) -> u64
         ensures same { self.new ≡ self.old }
         ensures most { result ≤ length self.old.took }
     {
+        let before = self.pace.settled;
         let held = match durability {
             Durability::Synced
-                if self.pace.taken > self.pace.settled
-                    && self.pace.reach_disk(&mut self.target).is_err() => { self.pace.settled }
+                if self.pace.taken > 0 && !self.pace.is_stored(rt, &mut self.target) => {
+                before.min(self.target.length_by_name(rt))
+            }
             _ => self.pace.taken,
         };
         match &self.target {
             Target::File(out) => held.min(out.room()),
-            _ => held,
+            other => held.saturating_sub(other.on_the_way(rt)),
         }
     }
 

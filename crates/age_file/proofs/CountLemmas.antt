@@ -1,7 +1,7 @@
 -- Counting the chunks that were written, and writing what an opener releases, one step after another.
 use Rattle.std.proofs.lemmas.Grind.{common_steps, flat_map-append, fold-append}
-use Rattle.std.proofs.Common.{inl, inr, ◌≡◌, ℕ, ◌+◌, ◌-◌, ◌*◌, ◌/◌, ◌<◌, ◌≤◌, min, List, [], ◌∷◌, ◌++◌, length, take, drop, Option, Some, refl, sym, ap, ◌∙◌}
-use Rattle.std.proofs.Common.{arith, append-nil, append_assoc, false, replicate, None, subst, true}
+use Rattle.std.proofs.Common.{suc, zero, inl, inr, ◌≡◌, ℕ, ◌+◌, ◌-◌, ◌*◌, ◌/◌, ◌<◌, ◌≤◌, min, List, [], ◌∷◌, ◌++◌, length, take, drop, Option, Some, refl, sym, ap, ◌∙◌}
+use Rattle.std.proofs.Common.{arith, append-nil, append_assoc, false, replicate, None, true}
 use Rattle.std.specs.Prelude.{◌⊎◌, IfSome, IfNone}
 use Rattle.std.specs.Simd.{first_chunks}
 use Rattle.std.specs.List.{flat_map}
@@ -37,9 +37,16 @@ pub chain_on : (chunks : List (List ℕ)) (chunk : List ℕ) → chain (chunks +
 unfolding chain
 chain_on chunks chunk = fold-append link (replicate 32 0) chunks (chunk ∷ [])
 
+-- the first chunks of the first ones
+pub take-first_chunks : (n i k : ℕ) (text : List ℕ) → i ≤ k → take i (first_chunks n k text) ≡ first_chunks n i text
+take-first_chunks n zero k text le = grind (arith, common_steps)
+take-first_chunks n (suc i) zero text le = absurd (omega (arith, le))
+take-first_chunks n (suc i) (suc k) text le =
+    ap (λ (xs : List (List ℕ)). take n text ∷ xs) (take-first_chunks n i k (drop n text) (omega (arith, le)))
+
 pub chain_if_on : (keep : PositionPolicy) (chunks : List (List ℕ)) (chunk : List ℕ)
     → chain_if keep (chunks ++ chunk ∷ []) ≡ link_if (chain_if keep chunks) chunk
-chain_if_on Kept chunks chunk = ap Some (chain_on chunks chunk)
+chain_if_on Kept chunks chunk = refl
 chain_if_on Dropped chunks chunk = refl
 
 module _ (sealing : List ℕ → List ℕ → List ℕ) (opening : List ℕ → List ℕ → Option (List ℕ)) (valid : IsChunkBox sealing opening) (n : ℕ) (positive : 0

@@ -1,7 +1,7 @@
 -- Sealing a source and decrypting a payload, call by call, and what of an age file was written.
 use Rattle.std.proofs.lemmas.Grind.{common_steps, flat_map-append}
 use Rattle.std.proofs.Common.{◌≡◌, ℕ, ◌+◌, ◌-◌, ◌*◌, ◌^◌, ◌<◌, ◌≤◌, sym, ap, subst, ◌∙◌, List, [], ◌++◌, length, take, drop, Option, None, Some, append-nil}
-use Rattle.std.proofs.Common.{append_assoc, take-append-drop, Bool, false, true, arith, refl, ◌/◌, ◌∷◌, Result, Ok, Err, IfOk, IfErr, inl, inr}
+use Rattle.std.proofs.Common.{append_assoc, take-append-drop, Bool, false, true, arith, refl, ◌∷◌, Result, Ok, Err, IfOk, IfErr}
 use Rattle.std.specs.Prelude.{IfSome, Result, Ok, Err, ◌⊎◌, MatchResult, OnOk}
 use Rattle.std.proofs.Math.Nat.{div-le_self, div-mul-le_self}
 use Rattle.std.proofs.lemmas.Nat.{mul-le}
@@ -11,7 +11,7 @@ use Rattle.std.proofs.lemmas.Bool.{ltb-true, eqb-true, and_parts}
 use Rattle.std.proofs.lemmas.List.{length-append, length-drop, take_rest}
 use Rattle.age_chunk.specs.{IsChunkBox, chunk_limit, last_index, block_length, pair, block_bytes, payload, sealed_before_last, last_chunk, chunk_length}
 use Rattle.age_chunk.specs.declared.fault.StreamFault.{StreamFault}
-use Rattle.age_stream.specs.{SealerView, Holds, needs_too_many, too_many, chunk_bytes, IsPrefixOf, with_piece, outcome, released, fresh, OpenerView, has_failed}
+use Rattle.age_stream.specs.{SealerView, Holds, needs_too_many, too_many, chunk_bytes, IsPrefixOf, with_piece, outcome, released, OpenerView, has_failed}
 use Rattle.age_stream.proofs.LawLemmas.{payload_is_longer}
 use Rattle.age_stream.proofs.ChunkLemmas.{sealed_grows}
 use Rattle.age_stream.proofs.GoingLemmas.{released_grows}

@@ -1,7 +1,7 @@
 -- What was read: bytes, a header, a nonce, and what was passed over; and what was written.
 use Rattle.std.proofs.lemmas.Grind.{common_steps}
 use Rattle.std.proofs.Common.{◌≡◌, ℕ, ◌≤◌, List, [], ◌++◌, length, take, drop, Option, Some, None, refl, sym, ap, subst, ◌∙◌, append_assoc, append-nil, inl}
-use Rattle.std.proofs.Common.{inr, arith, ◌<◌, suc, ◌*◌, ◌/◌}
+use Rattle.std.proofs.Common.{inr, arith, ◌<◌, ◌*◌, ◌/◌}
 use Rattle.std.specs.Prelude.{Bool, ◌⊎◌, Result, Ok, Err, MatchResult, IfErr, IfSome, IsErrAnd}
 use Rattle.std.specs.Io.KnownBytes as known
 use Rattle.age_io.specs.Supply.{Supply}

@@ -9,22 +9,24 @@ use Rattle.age_keys.specs.declared.fault.KeyFault.{KeyFault}
 use Rattle.age_fault.specs.{HasFailed}
 use Rattle.age_fault.specs.declared.fault.FileFault.{FileFault}
 use Rattle.age_fault.specs.declared.fault.FileFault.TheVariants.{ShortText, Read, Write, ReadNeverEnds, OldTextDiffers, Stream, OtherFile, PositionForged}
-use Rattle.age_file.specs.{StartFails, DecryptsKeyed, Ports, ports, NeverEnds, IsFromStart, OpenedFile, pull_room, Done, Stopped, PositionPolicy}
-use Rattle.age_file.specs.{Unlocked, link, chain, ResumesKeyed, HasOpened, ResumePorts, resume_ports, WritesOld, IsFrom, BeginsWith}
+use Rattle.age_file.specs.{StartFails, DecryptsMarked, Ports, ports, NeverEnds, IsFromStart, OpenedFile, pull_room, Done, Stopped, PositionPolicy}
+use Rattle.age_file.specs.{Unlocked, chain, ResumesMarked, HasOpened, ResumePorts, resume_ports, WritesOld, IsFrom, BeginsWith}
 use Rattle.age_file.specs.{IsOldText, NeverEndTogether, BeforeOldFails, InOldFails, StopsInOld, InSkippedFails, StopsInSkipped, ResumeStops}
 use Rattle.age_file.specs.{Position}
 use Rattle.age_file.specs.inner.{chain_if, Unread, StartsAt, Passes, NoMore, FailsInCopy, CopiesChunk, CopiesAll, TextFails, CopiesOld, TextGoes, SkipFails}
-use Rattle.age_file.specs.inner.{Uses, OpensPayload, PositionRefused, StartsFor, StartForFails, ResumesRest, Stage, ports_at}
+use Rattle.age_file.specs.inner.{marks_over, Uses, OpensPayload, PositionRefused, StartsFor, StartForFails, Stage, ports_at}
 use Rattle.age_file.specs.inner.{start_at, ReaderView, WriterView, Wrote, reader_view, stage, Start, Pulled, start_after, HasPlace}
 use Rattle.age_chunk.specs.{block_length, chunk_length}
 use Rattle.age_chunk.specs.declared.fault.StreamKind.TheVariants.{Truncated}
-use Rattle.age_file.proofs.RunLemmas.{BeginsAt, run, due, ended, opened, place_at}
+use Rattle.age_file.proofs.RunLemmas.{BeginsAt, run, marked, ended, opened, place_at}
 use Rattle.std.proofs.lemmas.List.{length-append, take_all, take-append-drop, length-take}
 use Rattle.std.proofs.Math.Seq.{drop-append_seam}
 use Rattle.std.specs.Simd.{first_chunks}
 use Rattle.age_chunk.proofs.{first_chunks-append, first_chunks_more}
 use Rattle.age_stream.specs.{IsPrefixOf}
-use Rattle.age_file.proofs.CountLemmas.{chain_on}
+use Rattle.sha2.specs.Hashers.{Holds256}
+use Rattle.sha2.specs.declared.Sha256.{Sha256}
+use Rattle.std.specs.Prelude.{IfSome}
 use Rattle.age_file.proofs.ReadLemmas.{within, prefix_trans, left_of, longer, counted_on, counted_back, wrote_then, no_more_since}
 use Rattle.age_io.specs.Supply.{Supply}
 
@@ -33,7 +35,7 @@ use Rattle.age_io.specs.Supply.{Supply}
 module _ (keep : PositionPolicy) (Allows : Header → List ℕ → Type 0) (Refused : Header → KeyFault → Type 0) where
   -- no payload came to be opened
   pub stopped_at_start : (old new : Ports) (fault : FileFault) → new.sink ≡ old.sink → StartFails Allows Refused old.source new.source fault
-      → DecryptsKeyed keep Allows Refused old new (Err (record { fault = fault; written = 0; position = None })) None
+      → DecryptsMarked keep Allows Refused old new (Err (record { fault = fault; written = 0; position = None })) None
   stopped_at_start old new fault same f = record {
     is = record {
       run = None;
@@ -43,14 +45,13 @@ module _ (keep : PositionPolicy) (Allows : Header → List ℕ → Type 0) (Refu
       named = ap (λ (s : SinkView). s.label) same;
     };
     found = refl;
-    due = tt;
   }
 
   -- it was opened from its first chunk on
   pub run_ended : {a : SourceView} {unlocked : Unlocked} {old new : Stage} {result : Result Done Stopped}
       → old.writer.tally.written ≡ 0 → old.writer.tally.index ≡ 0 → old.writer.tally.chain ≡ chain_if keep []
       → StartsAt Allows a old.reader unlocked → OpensPayload unlocked 0 old new result
-      → DecryptsKeyed keep Allows Refused (ports a old.writer.sink) (ports_at new) result (Some unlocked.key)
+      → DecryptsMarked keep Allows Refused (ports a old.writer.sink) (ports_at new) result (marks_over unlocked new.writer.tally.chain)
   run_ended {a} {unlocked} {old} {new} {result} written index chain_is s o =
       let q = o.decrypts in
       let begins : BeginsAt keep (start_at a.supply) (s.front ++ unlocked.nonce) old 0 [] [] = record {
@@ -64,25 +65,37 @@ module _ (keep : PositionPolicy) (Allows : Header → List ℕ → Type 0) (Refu
       } in
       let r = run s [] begins q in
       let from : IsFromStart r = record { zero = refl; none_copied = refl; none_skipped = refl } in
-      let at = due s [] begins q in
+      let found = marked s [] begins q in
       ended s [] begins q (NeverEnds a.supply new.reader.source.supply) old.writer.sink q.wrote.bytes s.unfailed refl
       (λ bytes h full. (bytes, h.consumed, (omega (arith, h.each_gave, full), omega (arith, h.small, full))))
-      (λ e. DecryptsKeyed keep Allows Refused (ports a old.writer.sink) (ports_at new) e (Some unlocked.key)) (λ written d none settled. record {
+      (λ e. DecryptsMarked keep Allows Refused (ports a old.writer.sink) (ports_at new) e (marks_over unlocked new.writer.tally.chain)) (λ written d none settled. record {
         is = record { run = Some r; done = (from, d, none); stopped = tt; settled = settled; named = q.wrote.named };
-        found = refl;
-        due = at;
+        found = found;
       }) (λ stop d. record {
         is = record { run = Some r; done = tt; stopped = (from, d); settled = tt; named = q.wrote.named };
-        found = refl;
-        due = at;
+        found = found;
       }) result o.ended
 
 -- ---- What was copied, one step after another.
 
--- the chain over one chunk more
-pub chain_more : (n i : ℕ) (out chunk : List ℕ) → length out ≡ i * n → length chunk ≡ n
-    → chain (first_chunks n (suc i) (out ++ chunk)) ≡ link (chain (first_chunks n i out)) chunk
-chain_more n i out chunk whole size = grind (arith, common_steps, chain_on, drop-append_seam, first_chunks-append, first_chunks_more, take_all)
+-- a digest was fed the chain, if there is one, and then these bytes
+abbrev Hashed : Option (List (List ℕ)) → Sha256 → List ℕ → Type 0
+Hashed links digest bytes = IfSome links (λ chunks. Holds256 digest (chain chunks ++ bytes))
+
+pub hashed_none : (links : Option (List (List ℕ))) (digest : Sha256) → IfSome links (λ chunks. Holds256 digest (chain chunks)) → Hashed links digest []
+hashed_none None digest fed = tt
+hashed_none (Some chunks) digest fed = subst (Holds256 digest) (sym (append-nil (chain chunks))) fed
+
+pub hashed_more : (now later : Sha256) (links : Option (List (List ℕ))) (bytes more : List ℕ)
+    → ((held : List ℕ) → Holds256 now held → Holds256 later (held ++ more)) → Hashed links now bytes → Hashed links later (bytes ++ more)
+hashed_more now later None bytes more feeds fed = tt
+hashed_more now later (Some chunks) bytes more feeds fed =
+    subst (Holds256 later) (append_assoc (chain chunks) bytes more) (feeds (chain chunks ++ bytes) fed)
+
+-- one chunk more
+pub chunks_more : (n i : ℕ) (out chunk : List ℕ) → length out ≡ i * n → length chunk ≡ n
+    → first_chunks n (suc i) (out ++ chunk) ≡ first_chunks n i out ++ chunk ∷ []
+chunks_more n i out chunk whole size = grind (arith, common_steps, drop-append_seam, first_chunks-append, first_chunks_more, take_all)
 
 copy_fails : (x y z : ReaderView) (a b c : WriterView) (p q : List ℕ) (fault : FileFault) → Passes x y p → b.sink.failed ≡ a.sink.failed
     → FailsInCopy y z b c q fault → FailsInCopy x z a c (p ++ q) fault
@@ -143,11 +156,10 @@ module _ (keep : PositionPolicy) (Allows : Header → List ℕ → Type 0) (Refu
 
   -- a call that came to no payload
   stopped_with : (old new : ResumePorts) (stopped : Stopped) → ResumeStops Allows p old new keep Refused None stopped
-      → new.main.sink.label ≡ old.main.sink.label → ResumesKeyed keep Allows Refused p old new (Err stopped) None
+      → new.main.sink.label ≡ old.main.sink.label → ResumesMarked keep Allows Refused p old new (Err stopped) None
   stopped_with old new stopped stops named = record {
     is = record { run = None; done = tt; stopped = stops; settled = tt; named = named };
     found = refl;
-    due = tt;
   }
 
   -- before the old text
@@ -163,7 +175,7 @@ module _ (keep : PositionPolicy) (Allows : Header → List ℕ → Type 0) (Refu
   verdict_fails old new u unlocked other s f = absurd f
 
   stopped_before : (old new : ResumePorts) (fault : FileFault) → new.main.sink ≡ old.main.sink → new.old ≡ old.old
-      → BeforeOldFails Allows p old new Refused fault → ResumesKeyed keep Allows Refused p old new
+      → BeforeOldFails Allows p old new Refused fault → ResumesMarked keep Allows Refused p old new
       (Err (record { fault = fault; written = 0; position = None })) None
   stopped_before old new fault same text f =
       stopped_with old new (record { fault = fault; written = 0; position = None })
@@ -171,13 +183,13 @@ module _ (keep : PositionPolicy) (Allows : Header → List ℕ → Type 0) (Refu
 
   -- no payload came to be opened
   pub stopped_early : (old new : ResumePorts) (fault : FileFault) → new.main.sink ≡ old.main.sink → new.old ≡ old.old
-      → StartFails Allows Refused old.main.source new.main.source fault → ResumesKeyed keep Allows Refused p old new
+      → StartFails Allows Refused old.main.source new.main.source fault → ResumesMarked keep Allows Refused p old new
       (Err (record { fault = fault; written = 0; position = None })) None
   stopped_early old new fault same text f = stopped_before old new fault same text (before_fails old new fault f)
 
   -- or the position was refused
   pub refused : (old new : ResumePorts) (u : Unread) (fault : FileFault) → new.main.sink ≡ old.main.sink → new.old ≡ old.old
-      → StartForFails Allows Refused p old.main.source (reader_view new.main.source u) fault → ResumesKeyed keep Allows Refused p old new
+      → StartForFails Allows Refused p old.main.source (reader_view new.main.source u) fault → ResumesMarked keep Allows Refused p old new
       (Err (record { fault = fault; written = 0; position = None })) None
   refused old new u fault same text (inl f) = stopped_early old new fault same text f
   refused old new u fault same text (inr f) = stopped_before old new fault same text (verdict_fails old new u f.0 fault f.1 f.2)
@@ -279,10 +291,10 @@ module _ (keep : PositionPolicy) (Allows : Header → List ℕ → Type 0) (Refu
         subst (λ (f : FileFault). StopsInOld Allows p old (new s1.reader) (stop f None)) (sym is) (stops_in_old OldTextDiffers (out ++
         z.unread.bytes) le
         (old_read (out ++ z.unread.bytes) goes.1.uses).consumed (omega (arith, le, few, length-append out z.unread.bytes)) (z.unread.bytes, refl)
-        (goes.0, λ e. differs (goes.4 ∙ ap Some e)))
+        (goes.0, differs))
 
     pub copy_stopped : (fault : FileFault) → TextFails chunk_length p.index p.chain x z first s1.writer out fault
-        → ResumesKeyed keep Allows Refused p old (new s1.reader) (Err (stop fault None)) None
+        → ResumesMarked keep Allows Refused p old (new s1.reader) (Err (stop fault None)) None
     copy_stopped fault f =
         stopped_with old (new s1.reader) (stop fault None) (inr (inl (text_fails_in_old fault f))) cb.copied.wrote.named
 
@@ -354,12 +366,10 @@ module _ (keep : PositionPolicy) (Allows : Header → List ℕ → Type 0) (Refu
         by other (inr f) = absurd f
 
       -- the blocks before were not all passed over
-      skip_stopped : (m : ReaderView) (fault : FileFault) (result : Result Done Stopped)
-          → result ≡ Err (stop fault (Some p)) → SkipFails block_length p.index s1.reader m fault
-          → ResumesKeyed keep Allows Refused p old (new m) result None
-      skip_stopped m fault result is f =
-          subst (λ (r : Result Done Stopped). ResumesKeyed keep Allows Refused p old (new m) r None) (sym is)
-          (stopped_with old (new m) (stop fault (Some p)) (inr (inr (skipped_fails m fault f))) cb.copied.wrote.named)
+      pub skip_stopped : (m : ReaderView) (fault : FileFault) → SkipFails block_length p.index s1.reader m fault
+          → ResumesMarked keep Allows Refused p old (new m) (Err (stop fault (Some p))) None
+      skip_stopped m fault f =
+          stopped_with old (new m) (stop fault (Some p)) (inr (inr (skipped_fails m fault f))) cb.copied.wrote.named
 
       -- they were
       module _ (m : ReaderView) (passed : List ℕ) (size : length passed ≡ p.index * block_length) (passes : Passes s1.reader m passed) where
@@ -382,12 +392,12 @@ module _ (keep : PositionPolicy) (Allows : Header → List ℕ → Type 0) (Refu
         place_after = place_at head passed before_rest p.index p.within (omega (arith, begins.written, begins.copied_size)) begins.pulled
 
         -- the whole run
-        rest_ended : (s2 : Stage) (result : Result Done Stopped) → OpensPayload unlocked p.index before_rest s2 result
-            → ResumesKeyed keep Allows Refused p old (resume_ports (ports_at s2) l') result (Some unlocked.key)
+        pub rest_ended : (s2 : Stage) (result : Result Done Stopped) → OpensPayload unlocked p.index before_rest s2 result
+            → ResumesMarked keep Allows Refused p old (resume_ports (ports_at s2) l') result (marks_over unlocked s2.writer.tally.chain)
         rest_ended s2 result o =
             let q = o.decrypts in
             let r = run s old_bytes begins q in
-            let at = due s old_bytes begins q in
+            let found = marked s old_bytes begins q in
             let from : IsFrom p l l' r = record {
               index = refl;
               own = st.own ∙ s.id;
@@ -400,23 +410,11 @@ module _ (keep : PositionPolicy) (Allows : Header → List ℕ → Type 0) (Refu
             let wrote = wrote_then cb.copied.wrote q.wrote in
             ended s old_bytes begins q (NeverEndTogether old (resume_ports (ports_at s2) l')) first.sink wrote.bytes (passes.unfailed ∙ s.unfailed) g.2
             (never_end s2.reader s2.writer.sink)
-            (λ e. ResumesKeyed keep Allows Refused p old (resume_ports (ports_at s2) l') e (Some unlocked.key))
+            (λ e. ResumesMarked keep Allows Refused p old (resume_ports (ports_at s2) l') e (marks_over unlocked s2.writer.tally.chain))
             (λ written d none settled. record {
               is = record { run = Some r; done = (from, g.1.unfailed, d, none); stopped = tt; settled = settled; named = wrote.named };
-              found = refl;
-              due = at;
+              found = found;
             }) (λ stopped d. record {
               is = record { run = Some r; done = tt; stopped = (from, g.1.unfailed, d); settled = tt; named = wrote.named };
-              found = refl;
-              due = at;
+              found = found;
             }) result o.ended
-
-      -- they were, or not
-      pub rest_resumed : (s2 : Stage) (result : Result Done Stopped) (key : Option (List ℕ)) → ResumesRest unlocked p s1 s2 result key
-          → ResumesKeyed keep Allows Refused p old (resume_ports (ports_at s2) l') result key
-      rest_resumed s2 result None r =
-          subst (λ (w : WriterView). ResumesKeyed keep Allows Refused p old
-          (resume_ports (ports s2.reader.source w.sink) l') result None) (sym r.same) (skip_stopped s2.reader r.fault result r.ended r.why)
-      rest_resumed s2 result (Some key) (given, r) =
-          subst (λ (k : List ℕ). ResumesKeyed keep Allows Refused p old (resume_ports (ports_at s2) l') result
-          (Some k)) (sym given) (rest_ended r.now r.passed r.size r.passes s2 result r.opened)

@@ -1,6 +1,6 @@
--- What a decryption promises, done or stopped, and what reading its file again finds.
+-- What a decryption promises, done or stopped.
 use Rattle.std.specs.Prelude.{Option, ◌≢◌, ◌⊎◌, ℕ, ◌<◌, ◌≤◌, List, ◌++◌, length, ◌≡◌, Some, None, true}
-use Rattle.std.specs.Prelude.{Result, IfOk, IfErr, IfSome, OnOk, IsSomeAnd}
+use Rattle.std.specs.Prelude.{Result, IfOk, IfErr, OnOk, IsSomeAnd}
 use Rattle.age_io.specs.Taken.{Taken, Appends}
 use Rattle.age_io.specs.Supply.{Supply}
 use Rattle.age_io.specs.{Consumes, IsAtEnd, SourceView}
@@ -15,10 +15,9 @@ use Rattle.age_fault.specs.declared.fault.FileFault.{FileFault}
 use Rattle.age_fault.specs.declared.fault.FileFault.TheVariants.{Key, NonceCut, Read, Write, Memory}
 use Rattle.age_fault.specs.declared.fault.FileFault.TheVariants.{ReadNeverEnds}
 use Rattle.age_file.specs.Runs.{pull_room, InHeader, HeadFails, NeverEnds, Ports, NoneFailed, Run}
-use Rattle.age_file.specs.Runs.{IsFromStart, WritesNone, StopsInPayload, IsDone, IsPositionOf}
+use Rattle.age_file.specs.Runs.{IsFromStart, WritesNone, StopsInPayload, IsDone, MarksView, FindsMarks}
 use Rattle.age_file.specs.declared.decryption.Done.{Done}
 use Rattle.age_file.specs.declared.decryption.Stopped.{Stopped}
-use Rattle.age_file.specs.declared.position.Position.{Position}
 use Rattle.age_file.specs.declared.position.PositionPolicy.{PositionPolicy}
 
 -- ---- What was read up to a payload.
@@ -119,18 +118,11 @@ pub record Decrypts (keep : PositionPolicy) (Allows : Header → List ℕ → Ty
   -- the sink keeps its label
   pub named : new.sink.label ≡ old.sink.label
 
--- ---- A decryption that hands out the key.
+-- ---- A decryption that hands out its marks.
 
--- the key that opened the file, if it came to its payload
-abbrev pub FindsKey : Option Run → Option (List ℕ) → Type 0
-FindsKey None key = key ≡ None
-FindsKey (Some r) key = key ≡ Some r.file.key
-
--- what a decryption promises that hands out the key as well
-pub record DecryptsKeyed (keep : PositionPolicy) (Allows : Header → List ℕ → Type 0)
+-- what a decryption promises that hands out its marks as well
+pub record DecryptsMarked (keep : PositionPolicy) (Allows : Header → List ℕ → Type 0)
     (Refused : Header → KeyFault → Type 0) (old new : Ports) (result : Result Done Stopped)
-    (key : Option (List ℕ)) : Type 0 where
+    (marks : Option MarksView) : Type 0 where
   pub is : Decrypts keep Allows Refused old new result
-  pub found : FindsKey is.run key
-  -- if it came to its payload there is a position, whether it is kept or not
-  pub due : IfSome is.run (λ r. (p : Position) × IsPositionOf r p)
+  pub found : FindsMarks is.run keep marks

@@ -14,7 +14,8 @@ use Rattle.age_keys.specs.{PassphraseIdentity, IsAllowed, IsPassphraseKey, Passp
 use Rattle.age_keys.specs.{Opens, FileOf}
 use Rattle.age_keys.specs.declared.fault.KeyFault.{KeyFault}
 use Rattle.age_file.specs.Runs.{Run, IsFromStart, run_outcome, run_text, held, IsTexts, IsAuthenticRun}
-use Rattle.age_file.specs.Runs.{IsPositionOf, CarriesText, Ports, IsRun, IsDone, IsHeadFault, ReportsFault}
+use Rattle.age_file.specs.Runs.{IsPositionOf, IsPositionWithin, CarriesText, Ports, IsRun, IsDone}
+use Rattle.age_file.specs.Runs.{IsHeadFault, ReportsFault}
 use Rattle.age_file.specs.Runs.{OpenedFile, Reads, HasId, HasTag, pull_room}
 use Rattle.age_file.specs.Resumes.{IsSame, IsOldText, ResumePorts, ResumeEnds, ResumeStops, IsBoundTo, IsFrom}
 use Rattle.age_file.specs.Resumes.{IsUndamagedRest, ResumesText}
@@ -41,10 +42,14 @@ abbrev pub last : Run → List ResumedRun → Run
 last first [] = first
 last first (r ∷ earlier) = r.run
 
+-- a position of a run: of its stop, or within a part of what it wrote
+abbrev pub Hands : Run → Position → Type 0
+Hands r p = (bytes : ℕ) × IsPositionWithin r bytes p
+
 -- a position that the last run handed out
 abbrev pub HandsOut : Run → List ResumedRun → Position → Type 0
-HandsOut first [] p = IsPositionOf first p
-HandsOut first (r ∷ earlier) p = IsPositionOf r.run p ⊎ IsSame r.position p
+HandsOut first [] p = Hands first p
+HandsOut first (r ∷ earlier) p = Hands r.run p ⊎ IsSame r.position p
 
 -- a run ended with all of its text written
 abbrev pub HasEnded : Run → Type 0
@@ -200,7 +205,7 @@ abbrev pub AuthenticRuns : (Who : Type 0) → (Who → Header → List ℕ → T
 AuthenticRuns Who Allows = (who : Who) (old new : Ports) (written : ℕ) (r : Run) (text : List ℕ)
     → r.first < chunk_limit → IsAuthenticRun r text
     → (IsRun (Allows who) old new written r → IsPrefixOf (held r) text
-    × ((p : Position) → IsPositionOf r p → CarriesText text p))
+    × ((p : Position) → IsPositionOf r p ⊎ Hands r p → CarriesText text p))
     × (IsDone (Allows who) old new written r → held r ≡ text)
 
 -- a header's fault that was found in what was read is the fault of all that the source had

@@ -1,6 +1,6 @@
 -- What resuming at a position promises: from the text of the position to the end of the payload.
 use Rattle.std.specs.Prelude.{◌≡◌, ◌≢◌, ℕ, List, ◌++◌, length, codes, ◌*◌, ◌≤◌, take, Option, Some, ◌⊎◌, ◌/◌}
-use Rattle.std.specs.Prelude.{◌+◌, ◌<◌, None, true, Result, IfOk, IfErr, OnOk, IsSomeAnd, IfSome}
+use Rattle.std.specs.Prelude.{◌+◌, ◌<◌, None, true, Result, IfOk, IfErr, OnOk, IsSomeAnd}
 use Rattle.age_io.specs.Taken.{Appends}
 use Rattle.age_io.specs.Supply.{Supply}
 use Rattle.age_io.specs.{Consumes, IsAtEnd, SourceView}
@@ -21,8 +21,8 @@ use Rattle.age_file.specs.declared.position.Position.{Position}
 use Rattle.age_file.specs.Bindings.{position_front, chain_over, file_id}
 use Rattle.age_file.specs.Runs.{CarriesText, Ports, Run, HasId, HasTag, pull_room, IsByAllPulls, Reads}
 use Rattle.age_file.specs.Runs.{WritesNone, StopsInPayload, IsDone, NoneFailed, ReadFailed}
-use Rattle.age_file.specs.Runs.{WriteFailed, OpenedFile, IsTagged, IsPositionOf}
-use Rattle.age_file.specs.Decrypts.{StartFails, IsWhole, FindsKey}
+use Rattle.age_file.specs.Runs.{WriteFailed, OpenedFile, IsTagged, MarksView, FindsMarks}
+use Rattle.age_file.specs.Decrypts.{StartFails, IsWhole}
 use Rattle.age_file.specs.declared.position.PositionPolicy.{PositionPolicy}
 use Rattle.age_file.specs.declared.decryption.Done.{Done}
 use Rattle.age_file.specs.declared.decryption.Stopped.{Stopped}
@@ -251,11 +251,9 @@ pub record ResumesText (keep : PositionPolicy) (Allows : Header → List ℕ →
   -- the sink keeps its label
   pub named : new.main.sink.label ≡ old.main.sink.label
 
--- what a resumed decryption promises that hands out the key as well
-pub record ResumesKeyed (keep : PositionPolicy) (Allows : Header → List ℕ → Type 0)
+-- what a resumed decryption promises that hands out its marks as well
+pub record ResumesMarked (keep : PositionPolicy) (Allows : Header → List ℕ → Type 0)
     (Refused : Header → KeyFault → Type 0) (p : Position) (old new : ResumePorts)
-    (result : Result Done Stopped) (key : Option (List ℕ)) : Type 0 where
+    (result : Result Done Stopped) (marks : Option MarksView) : Type 0 where
   pub is : ResumesText keep Allows Refused p old new result
-  pub found : FindsKey is.run key
-  -- if it came to its payload there is a position, whether it is kept or not
-  pub due : IfSome is.run (λ r. (next : Position) × IsPositionOf r next)
+  pub found : FindsMarks is.run keep marks

@@ -1,6 +1,6 @@
 -- What a run read and wrote, where a reader may continue after it, and how it ended.
 use Rattle.std.specs.Prelude.{◌≡◌, ℕ, List, ◌⊎◌, ◌^◌, ◌*◌, ◌<◌, ◌≤◌, ◌++◌, length, Option, ◌/◌, min, [], take}
-use Rattle.std.specs.Prelude.{None, IsSomeAnd, Bool, true, false}
+use Rattle.std.specs.Prelude.{Some, None, IsSomeAnd, Bool, true, false}
 use Rattle.age_io.specs.Taken.{Appends}
 use Rattle.age_io.specs.Supply.{Supply}
 use Rattle.age_io.specs.{Consumes, IsAtEnd, SourceView, SinkView}
@@ -17,7 +17,7 @@ use Rattle.age_fault.specs.{HasFailed}
 use Rattle.age_fault.specs.declared.fault.FileFault.{FileFault}
 use Rattle.age_fault.specs.declared.fault.FileFault.TheVariants.{Head, Read, Memory, ReadNeverEnds, Stream}
 use Rattle.age_fault.specs.declared.fault.FileFault.TheVariants.{Write}
-use Rattle.age_file.specs.Bindings.{file_id, position_tag, chain_over}
+use Rattle.age_file.specs.Bindings.{file_id, position_tag, chain, chain_over}
 use Rattle.age_file.specs.declared.decryption.Stopped.{Stopped}
 use Rattle.age_file.specs.declared.position.Position.{Position}
 use Rattle.age_file.specs.declared.position.PositionPolicy.{PositionPolicy}
@@ -204,10 +204,14 @@ HasTag p f = IsTagged p f.key f.nonce
 abbrev pub CarriesText : List ℕ → Position → Type 0
 CarriesText text p = (p.index * chunk_length ≤ length text) × (p.chain ≡ chain_over p.index text)
 
--- where a reader may continue: the whole chunks that were written, copied or released as not last,
--- with the file's id, the chain over those chunks, and the tag
+-- how many chunks are written: the whole ones, copied or released as not last
+abbrev pub whole_chunks : Run → ℕ
+whole_chunks r = min (length (held r) / chunk_length) (run_outcome r).index
+
+-- where a reader may continue: after the whole chunks, with the file's id, the chain over those
+-- chunks, and the tag
 pub record IsPositionOf (r : Run) (p : Position) : Type 0 where
-  pub index : p.index ≡ min (length (held r) / chunk_length) (run_outcome r).index
+  pub index : p.index ≡ whole_chunks r
   pub own : HasId p r.file
   pub chain_is : p.chain ≡ chain_over p.index (held r)
   pub tagged : HasTag p r.file
@@ -216,6 +220,41 @@ pub record IsPositionOf (r : Run) (p : Position) : Type 0 where
 abbrev pub GivesPosition : PositionPolicy → (Position → Type 0) → Option Position → Type 0
 GivesPosition Kept Is position = IsSomeAnd position Is
 GivesPosition Dropped Is position = position ≡ None
+
+-- ---- Where a reader may continue within a part of what was written: marks.
+
+-- what the marks of a run are over: the position key and the id of its file, and its whole chunks
+pub record MarksView : Type 0 where
+  pub key : List ℕ
+  pub file_id : List ℕ
+  pub chunks : List (List ℕ)
+
+-- a position after some of these chunks, which are no more than so many bytes; after all, if they are
+-- no more
+pub record IsMarked (m : MarksView) (bytes : ℕ) (p : Position) : Type 0 where
+  pub few : p.index ≤ length m.chunks
+  pub within : p.index * chunk_length ≤ bytes
+  pub last : length m.chunks * chunk_length ≤ bytes → p.index ≡ length m.chunks
+  pub own : p.file_id ≡ m.file_id
+  pub chain_is : p.chain ≡ chain (take p.index m.chunks)
+  pub tagged : p.tag ≡ position_tag m.key p.index p.file_id p.chain
+
+-- where a reader may continue if only so many bytes of what a run wrote are there: the run's own
+-- position if its chunks are no more than these, and else one after fewer
+pub record IsPositionWithin (r : Run) (bytes : ℕ) (p : Position) : Type 0 where
+  pub few : p.index ≤ whole_chunks r
+  pub within : p.index * chunk_length ≤ bytes
+  pub last : whole_chunks r * chunk_length ≤ bytes → p.index ≡ whole_chunks r
+  pub own : HasId p r.file
+  pub chain_is : p.chain ≡ chain_over p.index (held r)
+  pub tagged : HasTag p r.file
+
+-- marks are handed out if the run came to its payload and positions are kept, and mark its positions
+abbrev pub FindsMarks : Option Run → PositionPolicy → Option MarksView → Type 0
+FindsMarks None keep marks = marks ≡ None
+FindsMarks (Some r) Dropped marks = marks ≡ None
+FindsMarks (Some r) Kept marks = IsSomeAnd marks
+    (λ m. (bytes : ℕ) (p : Position) → IsMarked m bytes p → IsPositionWithin r bytes p)
 
 -- ---- How a run ended.
 

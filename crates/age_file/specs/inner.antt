@@ -15,7 +15,7 @@ use Rattle.age_fault.specs.declared.fault.FileFault.TheVariants.{Read, ReadNever
 use Rattle.age_fault.specs.declared.fault.FileFault.TheVariants.{ShortText, Write, OldTextDiffers, OtherFile}
 use Rattle.age_fault.specs.declared.fault.FileFault.TheVariants.{PositionForged, Memory}
 use Rattle.age_file.specs.Runs.{Ports, ports, pull_room, StopsAtHeader, EndsInHeader, NoneFailed, ReadFailed}
-use Rattle.age_file.specs.Runs.{WriteFailed, IsTagged, IsByAllPulls}
+use Rattle.age_file.specs.Runs.{WriteFailed, IsTagged, IsByAllPulls, MarksView}
 use Rattle.age_file.specs.inner.Parts.{Unread, link_if, chain_if}
 use Rattle.age_file.specs.declared.tally.Tally.{Tally}
 use Rattle.age_file.specs.declared.reader.Reader.{Reader}
@@ -44,7 +44,9 @@ use Rattle.age_file.specs.Decrypts.{StartFails}
 use Rattle.age_file.specs.Encrypts.{SecretView}
 use Rattle.age_file.specs.declared.encryption.Written.{Written}
 pub mod Parts
+pub mod Marks
 unfoldable pub use Parts.*
+pub use Marks.{IsMark, IsMarkWithin}
 
 -- ---- Where a run stands, by its reader and its writer.
 
@@ -350,7 +352,7 @@ abbrev pub TextFails : ℕ → ℕ → List ℕ → ReaderView → ReaderView �
     → List ℕ → FileFault → Type 0
 TextFails n chunks links old new was now out fault = ShortCopy (chunks * n) old new was now out fault
     ⊎ ((fault ≡ OldTextDiffers) × ChunksGo n chunks old new was now out
-    × (now.tally.chain ≢ Some links) × (length new.unread.bytes ≤ pull_room))
+    × (chain (first_chunks n chunks out) ≢ links) × (length new.unread.bytes ≤ pull_room))
 
 -- this many chunks were copied, which have this chain; it goes on if positions are kept
 abbrev pub TextGoes : PositionPolicy → ℕ → ℕ → List ℕ → ReaderView → ReaderView → WriterView
@@ -375,11 +377,12 @@ pub record CopiesOld (keep : PositionPolicy) (p : Position) (old new : SourceVie
 
 -- ---- How a run's tally counts the chunks that were written. A chunk has n bytes.
 
--- if the index has risen, one more chunk is counted, with its link
-pub record AdvancesTally (index : ℕ) (links : Option (List ℕ)) (risen : ℕ) (link : Option (List ℕ))
+-- if the index has risen, one more chunk is counted
+pub record AdvancesTally (index : ℕ) (chunks : Option (List (List ℕ))) (risen : ℕ)
+    (more : Option (List (List ℕ)))
     (new : Tally) : Type 0 where
-  pub further : index < risen → (new.index ≡ risen) × (new.chain ≡ link)
-  pub still : risen ≤ index → (new.index ≡ index) × (new.chain ≡ links)
+  pub further : index < risen → (new.index ≡ risen) × (new.chain ≡ more)
+  pub still : risen ≤ index → (new.index ≡ index) × (new.chain ≡ chunks)
 
 -- all of the text except for a part was written: the chunks that are counted are the whole ones
 -- that were released as not last, and the chain is over them, whatever bytes follow
@@ -540,9 +543,9 @@ pub record IsPositionAt (unlocked : Unlocked) (index : ℕ) (links : List ℕ) (
   pub tag_is : p.tag ≡ position_tag (position_key unlocked.key unlocked.nonce) p.index p.file_id
       p.chain
 
-abbrev pub PositionAt : Unlocked → ℕ → Option (List ℕ) → Option Position → Type 0
-PositionAt unlocked index (Some links) position =
-    IsSomeAnd position (IsPositionAt unlocked index links)
+abbrev pub PositionAt : Unlocked → ℕ → Option (List (List ℕ)) → Option Position → Type 0
+PositionAt unlocked index (Some chunks) position =
+    IsSomeAnd position (IsPositionAt unlocked index (chain chunks))
 PositionAt unlocked index None position = position ≡ None
 
 -- how a run ended: with what was written, and a position if it stopped
@@ -569,19 +572,7 @@ abbrev pub HasRoomAfter : ℕ → Stage → Type 0
 HasRoomAfter blocks at = (now : ReaderView) (passed : List ℕ) → length passed ≡ blocks * block_length
     → Passes at.reader now passed → HasPlace (stage now at.writer)
 
--- not all of the blocks were passed over, and nothing was written
-pub record StopsInBlocks (p : Position) (old new : Stage) (result : Result Done Stopped) : Type 0
-  where
-    pub fault : FileFault
-    pub why : SkipFails block_length p.index old.reader new.reader fault
-    pub ended : result ≡ Err (record {
-      fault = fault;
-      written = old.writer.tally.written;
-      position = Some p;
-    })
-    pub same : new.writer ≡ old.writer
-
--- they were, and the payload was opened from there on
+-- the blocks were passed over, and the payload was opened from there on
 pub record OpensRest (unlocked : Unlocked) (blocks : ℕ) (old new : Stage)
     (result : Result Done Stopped) : Type 0 where
   pub now : ReaderView
@@ -590,12 +581,19 @@ pub record OpensRest (unlocked : Unlocked) (blocks : ℕ) (old new : Stage)
   pub passes : Passes old.reader now passed
   pub opened : OpensPayload unlocked blocks (stage now old.writer) new result
 
--- how it ended, with the key if it came to the payload
-abbrev pub ResumesRest : Unlocked → Position → Stage → Stage → Result Done Stopped
-    → Option (List ℕ) → Type 0
-ResumesRest unlocked p old new result None = StopsInBlocks p old new result
-ResumesRest unlocked p old new result (Some key) = (key ≡ unlocked.key)
-    × OpensRest unlocked p.index old new result
+-- or not all of them were, and nothing was written
+abbrev pub ResumesRest : Unlocked → ℕ → Stage → Stage → Result (Result Done Stopped) FileFault → Type 0
+ResumesRest unlocked blocks old new result = MatchResult result (OpensRest unlocked blocks old new)
+    (λ fault. SkipFails block_length blocks old.reader new.reader fault × (new.writer ≡ old.writer))
+
+-- the marks of a run, if a chain was kept
+abbrev pub marks_over : Unlocked → Option (List (List ℕ)) → Option MarksView
+marks_over unlocked (Some chunks) = Some (record {
+  key = position_key unlocked.key unlocked.nonce;
+  file_id = unlocked.id;
+  chunks = chunks;
+})
+marks_over unlocked None = None
 
 -- ---- Whether a position is a file's, and was made under its key.
 

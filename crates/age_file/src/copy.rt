@@ -9,9 +9,9 @@ ghost use Rattle.age_chunk.specs.{chunk_length, chunk_limit};
 use crate::reader::{Reader, Writer};
 use crate::start::need_bytes;
 use age_fault::{FileFault, write_all};
-use age_io::{Sink, Source};
+use age_io::{Sink, Source, Tape};
 use age_stream::CHUNK_LEN;
-use sha2::{Digest, Sha256};
+use sha2::Digest;
 
 /// Copies a chunk, and counts it.
 fn copy_chunk<S: Source, O: Sink>(
@@ -25,11 +25,8 @@ fn copy_chunk<S: Source, O: Sink>(
     ensures same_reader { SameReader S.began reader.old reader.new }
     ensures same_writer { SameWriter writer.old writer.new }
 {
-    let Some(chain) = writer.tally.chain else {
-        unreachable!();
-    };
-    let mut digest = Sha256::new();
-    digest.update(&chain);
+    let mut digest = writer.tally.digest();
+    let mut chunk = Tape::new();
     let mut left = CHUNK_LEN;
     'parts: while left > 0 {
         need_bytes(reader, FileFault::ShortText)?;
@@ -37,11 +34,11 @@ fn copy_chunk<S: Source, O: Sink>(
         let piece = &reader.intake.bytes()[..n];
         write_all(writer.sink, piece, &mut writer.tally.written)?;
         digest.update(piece);
+        chunk.note(piece);
         reader.intake.use_front(n);
         left -= n;
     }
-    let index = writer.tally.index + 1;
-    writer.tally.advance(index, Some(digest.finalize()));
+    writer.tally.count_fed(digest, &chunk);
     Ok(())
 }
 

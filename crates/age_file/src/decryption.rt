@@ -5,11 +5,12 @@ ghost use Rattle.age_chunk.specs.{chunk_limit};
 ghost use Rattle.age_io.specs.{Origin};
 ghost use Rattle.age_file.specs.Runs.{ports};
 ghost use Rattle.age_file.specs.declared.position.PositionPolicy.TheVariants.{Kept};
-ghost use Rattle.age_file.specs.Decrypts.{Decrypts, DecryptsKeyed};
+ghost use Rattle.age_file.specs.Decrypts.{Decrypts, DecryptsMarked};
 ghost use Rattle.age_file.specs.inner.{PositionAt, EndsAs, OpensPayload, HasPlace, stage_of, SameReader};
 ghost use Rattle.age_file.specs.inner.{SameWriter};
 
 use crate::intake::Intake;
+use crate::marks::Marks;
 use crate::payload::decrypt_payload;
 use crate::position::{Position, PositionPolicy};
 use crate::reader::{Reader, Writer};
@@ -17,7 +18,7 @@ use crate::start::{Lent, Unlocked, start};
 use crate::tally::Tally;
 use age_fault::FileFault;
 use age_io::{Sink, Source};
-use age_keys::{KnownKey, Unlock, payload_key, position_key};
+use age_keys::{Unlock, payload_key, position_key};
 use std::alloc::Global;
 use thiserror::Error;
 
@@ -74,9 +75,14 @@ impl Stopped {
 fn position_of(unlocked: &Unlocked, tally: &Tally) -> Option<Position>
     ensures { PositionAt unlocked.now tally.now.index tally.now.chain result }
 {
-    let chain = tally.chain?;
-    let key = position_key(&unlocked.key, &unlocked.nonce);
-    Some(Position::tagged(&key, tally.index, unlocked.id, chain))
+    match &tally.chain {
+        Some(links) => {
+            let key = position_key(&unlocked.key, &unlocked.nonce);
+            let chain = links.chain();
+            Some(Position::tagged(&key, tally.index, unlocked.id, chain))
+        }
+        None => None,
+    }
 }
 
 /// How a run ended: with what it wrote, and with the position of a stop, if a chain was kept.
@@ -155,20 +161,19 @@ pub fn decrypt_with<U: Unlock, S: Source, O: Sink>(
         (ports (S.view reader.new) (O.view writer.new)) result }
     ensures began { (from : Origin) → S.began reader.old from → S.began reader.new from }
 {
-    decrypt_keyed(alloc, positions, Lent { unlock }, reader, writer).0
+    decrypt_marked(alloc, positions, Lent { unlock }, reader, writer).0
 }
 
-/// Decrypts as [`decrypt_with`] does, and also returns the key that opened the file, if the payload
-/// was reached. By this key [`position_after`](crate::position_after) can read the file again. What
-/// opens the file is dropped before its payload is read.
-pub fn decrypt_keyed<U: Unlock + Drop, S: Source, O: Sink>(
+/// Decrypts as [`decrypt_with`] does, and also returns the marks of the run, if it came to its
+/// payload and positions are kept. What opens the file is dropped before its payload is read.
+pub fn decrypt_marked<U: Unlock + Drop, S: Source, O: Sink>(
     alloc: Global,
     positions: PositionPolicy,
     unlock: U,
     reader: &mut S,
     writer: &mut O,
-) -> (Result<Done, Stopped>, Option<KnownKey>)
-    ensures decrypts { DecryptsKeyed positions (U.allows unlock) (U.refuses unlock)
+) -> (Result<Done, Stopped>, Option<Marks>)
+    ensures decrypts { DecryptsMarked positions (U.allows unlock) (U.refuses unlock)
         (ports (S.view reader.old) (O.view writer.old))
         (ports (S.view reader.new) (O.view writer.new)) result.0 result.1 }
     ensures began { (from : Origin) → S.began reader.old from → S.began reader.new from }
@@ -190,5 +195,5 @@ pub fn decrypt_keyed<U: Unlock + Drop, S: Source, O: Sink>(
         tally,
     };
     let result = open_payload(&unlocked, 0, &mut reader, &mut writer);
-    (result, Some(KnownKey::new(*unlocked.key.bytes())))
+    (result, Marks::of(&unlocked, &writer.tally))
 }

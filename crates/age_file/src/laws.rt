@@ -6,7 +6,7 @@ ghost use Rattle.age_file.specs.declared.position.PositionPolicy.{PositionPolicy
 ghost use Rattle.age_file.specs.{RunsInARow, CallsInARow, RunsAreBound, DoneIsBound, AgeFileIsWhole};
 ghost use Rattle.age_file.specs.{RoundTrip, AuthenticRuns, HeadFaultsStay, UndamagedIsDecrypted};
 ghost use Rattle.age_file.specs.{UndamagedIsResumed, DoneGaveFile, DoneIsFile, DoneGaveRest};
-ghost use Rattle.age_file.specs.{StoppedGaveFront, RestIsFile, ReadAgain, RestReadAgain};
+ghost use Rattle.age_file.specs.{StoppedGaveFront, RestIsFile};
 
 use age_keys::{Unlock, passphrase_opens};
 use age_stanza::one_header;
@@ -58,17 +58,6 @@ pub fn round_trip()
 {
     one_header();
     passphrase_opens();
-}
-
-/// Reading again: if a decryption dropped its position and stopped in its payload, and is read
-/// again over the same bytes, by the key that it found, a position that
-/// [`position_after`](crate::position_after) finds after as many bytes as it wrote is the one with
-/// which it would have stopped, had it kept positions. So is one of a resumed decryption.
-pub fn read_again<U: Unlock>()
-    ensures decrypted { ReadAgain U U.allows U.refuses }
-    ensures resumed { RestReadAgain U U.allows U.refuses }
-{
-    one_header();
 }
 
 /// A run of [`decrypt`](crate::decrypt), or of [`resume`](crate::resume) if what that copied begins

@@ -12,7 +12,7 @@
 //! docs/LIBRARY.md says which call to use for what, and has examples.
 #![tactic(auto)]
 
-mod again;
+mod chunk_tape;
 mod copy;
 mod decryption;
 mod encryption;
@@ -20,6 +20,8 @@ mod head;
 mod inspection;
 mod intake;
 mod laws;
+mod links;
+mod marks;
 mod payload;
 mod position;
 mod position_text;
@@ -31,17 +33,17 @@ mod secret;
 mod start;
 mod tally;
 
-pub use again::position_after;
 pub use age_fault::{FileFault, flush_all, write_all};
 pub use age_io::{Failed, MemSink, MemSource, Memory, Reading, Sink, Source, Tape, Writing};
-pub use decryption::{Done, Stopped, decrypt, decrypt_keyed, decrypt_with};
+pub use decryption::{Done, Stopped, decrypt, decrypt_marked, decrypt_with};
 pub use encryption::{Written, encrypt};
 pub use inspection::{inspect, inspect_sized};
 pub use laws::{
     age_file_is_whole, authentic_runs, bound_positions, calls_in_a_row, done_gave_file,
-    done_gave_rest, head_faults_stay, read_again, round_trip, runs_in_a_row, undamaged_is_written,
+    done_gave_rest, head_faults_stay, round_trip, runs_in_a_row, undamaged_is_written,
 };
+pub use marks::Marks;
 pub use position::{Position, PositionPolicy};
 pub use report::{Report, StanzaReport, StanzaReports};
-pub use resumption::{resume, resume_keyed, resume_with};
+pub use resumption::{resume, resume_marked, resume_with};
 pub use secret::Secret;

@@ -1,23 +1,25 @@
 //! Continues a decryption that stopped.
 
-ghost use Rattle.std.specs.Prelude.{◌≡◌, [], IfOk, IfErr};
+ghost use Rattle.std.specs.Prelude.{◌≡◌, ◌<◌, [], IfOk, IfErr};
+ghost use Rattle.age_chunk.specs.{chunk_limit};
 ghost use Rattle.age_io.specs.{Origin};
 ghost use Rattle.age_file.specs.inner.{VerdictOn, StartsFor, StartForFails, HasRoomAfter};
 ghost use Rattle.age_file.specs.inner.{ResumesRest, view_of_reader, view_of_writer, stage_of, SameReader};
 ghost use Rattle.age_file.specs.inner.{SameWriter, CopiesOld, chain_if};
-ghost use Rattle.age_file.specs.{ports, resume_ports, ResumesText, ResumesKeyed};
+ghost use Rattle.age_file.specs.{ports, resume_ports, ResumesText, ResumesMarked};
 ghost use Rattle.age_file.specs.declared.position.PositionPolicy.TheVariants.{Kept};
 
 use crate::copy::copy_chunks;
 use crate::decryption::{Done, Stopped, open_payload};
 use crate::intake::Intake;
+use crate::marks::Marks;
 use crate::position::{Position, PositionPolicy, tag_of};
 use crate::reader::{Reader, Writer};
 use crate::start::{Lent, Unlocked, skip_blocks, start};
 use crate::tally::Tally;
 use age_fault::FileFault;
 use age_io::{Sink, Source};
-use age_keys::{KnownKey, Unlock, position_key};
+use age_keys::{Unlock, position_key};
 use std::alloc::Global;
 
 /// Whether a position is this file's, and was made under its key.
@@ -80,38 +82,30 @@ fn copy_old<L: Source, O: Sink>(
     };
     copy_chunks(&mut reader, position.index, writer)?;
     intake.count_on(reader.intake);
-    if writer.tally.chain != Some(position.chain) {
+    if writer.tally.chain_now() != Some(position.chain) {
         return Err(FileFault::OldTextDiffers);
     }
     writer.tally.keep(positions);
     Ok(())
 }
 
-/// Skips the blocks of the old text, and decrypts the payload from there on. A stop in these blocks
-/// hands out the position itself; past them the key that opened the file is returned too.
+/// Skips the blocks of the old text, and decrypts the payload from there on.
 fn resume_rest<S: Source, O: Sink>(
     unlocked: &Unlocked,
-    position: &Position,
+    index: u64,
     reader: &mut Reader<'_, S>,
     writer: &mut Writer<'_, O>,
-) -> (Result<Done, Stopped>, Option<KnownKey>)
-    requires { HasRoomAfter position.now.index (stage_of S.view O.view reader.old writer.old) }
-    ensures resumes { ResumesRest unlocked.now position.now
+) -> Result<Result<Done, Stopped>, FileFault>
+    requires limit { index < chunk_limit }
+    requires room { HasRoomAfter index (stage_of S.view O.view reader.old writer.old) }
+    ensures resumes { ResumesRest unlocked.now index
         (stage_of S.view O.view reader.old writer.old)
-        (stage_of S.view O.view reader.new writer.new) result.0 result.1 }
+        (stage_of S.view O.view reader.new writer.new) result }
     ensures same_reader { SameReader S.began reader.old reader.new }
     ensures same_writer { SameWriter writer.old writer.new }
 {
-    match skip_blocks(reader, position.index) {
-        Ok(()) => {}
-        Err(fault) => {
-            let stopped = Stopped::after(fault, &writer.tally, Some(*position));
-            return (Err(stopped), None);
-        }
-    }
-    let result = open_payload(unlocked, position.index, reader, writer);
-    let key = KnownKey::new(*unlocked.key.bytes());
-    (result, Some(key))
+    skip_blocks(reader, index)?;
+    Ok(open_payload(unlocked, index, reader, writer))
 }
 
 /// Continues a decryption that stopped, and hands out the position of a stop: [`resume_with`], with
@@ -174,16 +168,15 @@ pub fn resume_with<U: Unlock, S: Source, L: Source, O: Sink>(
         → L.began old_reader.new from }
 {
     let unlock = Lent { unlock };
-    resume_keyed(
+    resume_marked(
         alloc, positions, unlock, position, reader, old_reader, writer,
     )
     .0
 }
 
-/// Resumes as [`resume_with`] does, and also returns the key that opened the file, if the payload
-/// was reached. By this key [`position_after`](crate::position_after) can read the file again. What
-/// opens the file is dropped before the earlier output is copied.
-pub fn resume_keyed<U: Unlock + Drop, S: Source, L: Source, O: Sink>(
+/// Resumes as [`resume_with`] does, and also returns the marks of the run, if it came to its payload
+/// and positions are kept. What opens the file is dropped before the earlier output is copied.
+pub fn resume_marked<U: Unlock + Drop, S: Source, L: Source, O: Sink>(
     alloc: Global,
     positions: PositionPolicy,
     unlock: U,
@@ -191,8 +184,8 @@ pub fn resume_keyed<U: Unlock + Drop, S: Source, L: Source, O: Sink>(
     reader: &mut S,
     old_reader: &mut L,
     writer: &mut O,
-) -> (Result<Done, Stopped>, Option<KnownKey>)
-    ensures resumes { ResumesKeyed positions (U.allows unlock) (U.refuses unlock) position.now
+) -> (Result<Done, Stopped>, Option<Marks>)
+    ensures resumes { ResumesMarked positions (U.allows unlock) (U.refuses unlock) position.now
         (resume_ports (ports (S.view reader.old) (O.view writer.old)) (L.view old_reader.old))
         (resume_ports (ports (S.view reader.new) (O.view writer.new)) (L.view old_reader.new))
         result.0 result.1 }
@@ -230,5 +223,11 @@ pub fn resume_keyed<U: Unlock + Drop, S: Source, L: Source, O: Sink>(
             return (Err(stopped), None);
         }
     }
-    resume_rest(&unlocked, position, &mut reader, &mut writer)
+    match resume_rest(&unlocked, position.index, &mut reader, &mut writer) {
+        Ok(result) => { (result, Marks::of(&unlocked, &writer.tally)) }
+        Err(fault) => {
+            let stopped = Stopped::after(fault, &writer.tally, Some(*position));
+            (Err(stopped), None)
+        }
+    }
 }

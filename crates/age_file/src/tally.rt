@@ -1,69 +1,46 @@
 //! How far a run has come.
 
-ghost use Rattle.std.specs.Prelude.{◌≡◌, ◌<◌, ◌*◌, ℕ, List, []};
+ghost use Rattle.std.specs.Prelude.{◌≡◌, ◌<◌, ◌≤◌, ◌++◌, ◌+◌, List, ℕ, [], length, IfSome, option_map};
+ghost use Rattle.std.specs.Option.{ForSome};
+ghost use Rattle.sha2.specs.Hashers.{Holds256};
+ghost use Rattle.age_file.specs.Bindings.{chain};
 ghost use Rattle.age_file.specs.inner.Parts.{chain_if, link_if};
 ghost use Rattle.age_file.specs.declared.position.PositionPolicy.TheVariants.{Kept};
-ghost use Rattle.age_chunk.specs.{chunk_limit, chunk_length};
-ghost use Rattle.std.specs.Simd.{first_chunks};
-ghost use Rattle.age_file.specs.Again.{first_of, IsTextBefore};
+ghost use Rattle.age_chunk.specs.{chunk_limit};
 
-use crate::position::{Position, PositionPolicy, next_link};
+use crate::links::Links;
+use crate::position::PositionPolicy;
+use age_io::Tape;
+use sha2::{Digest, Sha256};
 
 /// How far a run has come: how many bytes it wrote, how many whole chunks before the last these
 /// make from the start of the text, and the chain over those, if positions are kept.
-#[derive(Clone, Copy)]
+#[derive(Drop)]
 pub(crate) struct Tally {
     pub(crate) written: u128,
     pub(crate) index: u64,
-    pub(crate) chain: Option<[u8; 32]>,
+    pub(crate) chain: Option<Links>,
     ghost within: { index < chunk_limit },
+    ghost few: { ForSome chain (λ links. length links ≤ index) },
 }
 
 impl Tally {
     ghost use Rattle.age_file.specs.inner.{AdvancesTally};
 
     /// Nothing was written.
-    #[tactic(auto, unfolding(crate::specs::Bindings::chain))]
     pub(crate) fn new(positions: PositionPolicy) -> Tally
         ensures written { result.written ≡ 0 }
         ensures index { result.index ≡ 0 }
         ensures chain { result.chain ≡ chain_if positions [] }
     {
         let chain = match positions {
-            PositionPolicy::Kept => Some([0; 32]),
+            PositionPolicy::Kept => Some(Links::new()),
             PositionPolicy::Dropped => None,
         };
         Tally {
             written: 0,
             index: 0,
             chain,
-        }
-    }
-
-    /// The text before a position was written, or nothing.
-    pub(crate) fn before(from: &Option<Position>) -> Tally
-        ensures written { result.written ≡ first_of from.now * chunk_length }
-        ensures index { result.index ≡ first_of from.now }
-        ensures chain { (copied : List ℕ) → IsTextBefore from.now copied → result.chain
-            ≡ chain_if Kept (first_chunks chunk_length (first_of from.now) copied) }
-    {
-        match from {
-            Some(position) => Tally {
-                written: position.old_len(),
-                index: position.index,
-                chain: Some(position.chain),
-            },
-            None => Tally::new(PositionPolicy::Kept),
-        }
-    }
-
-    /// The chain over one chunk more, if it is kept.
-    pub(crate) fn chain_over(&self, chunk: &[u8]) -> Option<[u8; 32]>
-        ensures { result ≡ link_if self.now.chain chunk.now }
-    {
-        match &self.chain {
-            Some(chain) => Some(next_link(chain, chunk)),
-            None => None,
         }
     }
 
@@ -91,19 +68,44 @@ impl Tally {
         if index <= self.index {
             return;
         }
-        let chain = self.chain_over(chunk);
-        self.advance(index, chain);
+        self.index = index;
+        if let Some(links) = &mut self.chain {
+            links.add(chunk);
+        }
     }
 
-    /// Counts as `count` does, with the link given.
-    pub(crate) fn advance(&mut self, index: u64, chain: Option<[u8; 32]>)
-        requires { index < chunk_limit }
-        ensures same { self.new.written ≡ self.old.written }
-        ensures counted { AdvancesTally self.old.index self.old.chain index chain self.new }
+    /// The chain, if it is kept.
+    pub(crate) fn chain_now(&self) -> Option<[u8; 32]>
+        ensures { result ≡ option_map chain self.now.chain }
     {
-        if index > self.index {
-            self.index = index;
-            self.chain = chain;
+        match &self.chain {
+            Some(links) => Some(links.chain()),
+            None => None,
+        }
+    }
+
+    /// A digest that was fed the chain, if there is one.
+    pub(crate) fn digest(&self) -> Sha256
+        ensures { IfSome self.now.chain (λ links. Holds256 result (chain links)) }
+    {
+        let mut digest = Sha256::new();
+        if let Some(links) = &self.chain {
+            digest.update(&links.chain());
+        }
+        digest
+    }
+
+    /// Counts a chunk, by a digest that was fed the chain and then the chunk.
+    pub(crate) fn count_fed(&mut self, digest: Sha256, chunk: &Tape)
+        requires limit { self.old.index + 1 < chunk_limit }
+        requires fed { IfSome self.old.chain (λ links. Holds256 digest (chain links ++ chunk.now)) }
+        ensures same { self.new.written ≡ self.old.written }
+        ensures index { self.new.index ≡ self.old.index + 1 }
+        ensures chain { self.new.chain ≡ link_if self.old.chain chunk.now }
+    {
+        self.index += 1;
+        if let Some(links) = &mut self.chain {
+            links.link(digest, chunk);
         }
     }
 }

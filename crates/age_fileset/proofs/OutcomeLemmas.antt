@@ -71,9 +71,6 @@ grows_then a b old mid new first next = record {
 pub came_one : (old new : FilesView) (o : Outcome) → new.outcomes ≡ old.outcomes ++ o ∷ [] → CameSince old new o
 came_one old new o is = record { before = []; later = []; is = is }
 
-pub came_first : (old new : FilesView) (o : Outcome) (later : List Outcome) → new.outcomes ≡ old.outcomes ++ o ∷ later → CameSince old new o
-came_first old new o later is = record { before = []; later = later; is = is }
-
 abbrev pub came_then : (puts : List Entry) (old mid new : FilesView) → PutsOnly puts mid new → (o : Outcome) → CameSince old mid o → CameSince old new o
 came_then puts old mid new more o c = record {
   before = c.before;

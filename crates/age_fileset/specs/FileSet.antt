@@ -47,8 +47,8 @@ reading_of name source = record {
 }
 
 pub data Outcome : Type 0 where
-  -- a file was opened under this name, or set back to its start: it has this to give, if contracts see
-  -- that, and is so long, if the set can say
+  -- a file was opened under this name: it has this to give, if contracts see that, and is so long, if
+  -- the set can say
   Found : List ℕ → Option (List ℕ) → Option ℕ → Outcome
   -- the same, but a file that isn't there counts as empty
   FoundOrEmpty : List ℕ → Option (List ℕ) → Option ℕ → Outcome
@@ -108,11 +108,6 @@ abbrev pub opened_as : {In : Type 0} → (In → SourceView) → (In → Option 
     → (Option (List ℕ) → Option ℕ → Outcome) → List ℕ → Result In OpenFault → List Outcome
 opened_as read size found name (Ok source) = found (read source).supply.left (size source) ∷ []
 opened_as read size found name (Err fault) = refused_as name fault
-
--- of one that was to be set back to its start, and has this to give then
-abbrev pub reread_as : List ℕ → Option (List ℕ) → Option ℕ → Result (Unit {0}) FileFault → List Outcome
-reread_as name left size (Ok done) = Found name left size ∷ []
-reread_as name left size (Err fault) = []
 
 -- of one that was to be prepared, created or made: this, or that it can't be
 abbrev pub made_as : {A : Type 0} → List Outcome → List ℕ → Result A OpenFault → List Outcome

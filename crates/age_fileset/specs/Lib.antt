@@ -6,7 +6,7 @@ pub use FileSet.{IsMemoryOr, Made, MemFails, OneStream, OpenFails, Opened, Outco
 pub use FileSet.{PutsOnly, Reading, Replaced, Settled, Shelf, Terminal, Unread, Unwritten, alike_as}
 pub use FileSet.{checked_as, empty_with, ended_with, entry, entry_of, given_names, has_name, made_as}
 pub use FileSet.{no_files, noted_if, once, opened_as, or_empty, put_as, reading_of, refused_as}
-pub use FileSet.{reread_as, seen_in, shown_in, shown_out, size_in, with_event, with_outcomes, written_as}
+pub use FileSet.{seen_in, shown_in, shown_out, size_in, with_event, with_outcomes, written_as}
 unfoldable pub use FileSet.{AllFit, puts_in, stands}
 pub use Rattle.age_fileset.specs.declared.files.OpenFault.{OpenFault}
 pub use Rattle.age_fileset.specs.declared.files.OpenFault.TheVariants.{Fault, SameFile}

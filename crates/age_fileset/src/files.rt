@@ -1,13 +1,13 @@
 //! Files by their names.
 
-ghost use Rattle.std.specs.Prelude.{◌≡◌, ◌↔◌, ℕ, true, false, List, [], ◌∷◌, Option, Some, None, option_map};
-ghost use Rattle.std.specs.Prelude.{IfOk, IfErr, IsOkUnless, OnOk, IfSome, ◌≤◌, length, IsSomeAnd};
+ghost use Rattle.std.specs.Prelude.{◌≡◌, ◌↔◌, ℕ, true, List, [], ◌∷◌, Option, Some, None, option_map};
+ghost use Rattle.std.specs.Prelude.{IfOk, IfErr, IsOkUnless, IfSome, ◌≤◌, length, IsSomeAnd};
 ghost use Rattle.age_fileset.specs.FileSet.{FilesView, IsMemoryOr, OpenFails, Opened, Prepared, Created};
 ghost use Rattle.age_fileset.specs.FileSet.{Made, Replaced, EndsOne, Found, FoundOrEmpty, Absent, Gave};
-ghost use Rattle.age_fileset.specs.FileSet.{Settled, reading_of, opened_as, reread_as, made_as, written_as};
+ghost use Rattle.age_fileset.specs.FileSet.{Settled, reading_of, opened_as, made_as, written_as};
 ghost use Rattle.age_fileset.specs.FileSet.{alike_as, noted_if, passed_names, ChecksStreams, InUse, Terminal};
 ghost use Rattle.age_fileset.specs.FileSet.{with_event, with_outcomes};
-ghost use Rattle.age_io.specs.{Named, Origin};
+ghost use Rattle.age_io.specs.{Named};
 ghost use Rattle.age_machine.specs.{Closes, Discards, OutFile};
 ghost use Rattle.age_machine.specs.Saved.{Saves};
 ghost use Rattle.age_fileset.specs.declared.files.OpenFault.TheVariants.{Fault};
@@ -102,25 +102,6 @@ pub trait FileSet {
         ensures noted { result ≡ size source.now }
         ensures seen { IfSome (Self.In.view source.now).supply.left
             (λ bytes. result ≡ Some (length bytes)) };
-
-    /// Whether a file that was opened can be read once more from its start.
-    fn can_reread(&self, _source: &Self::In) -> bool {
-        false
-    }
-
-    /// Ends a reading of a file that was opened under this name, and sets it back to its start. On a
-    /// disk it is the file that was opened, whatever the name stands for now. Refuses with `Read`
-    /// (26) if it can't, and with `Memory` (28).
-    fn reread(&mut self, alloc: Global, name: &str, source: &mut Self::In) -> Result<(), FileFault>
-        ensures over { Self.In.began source.old (Named name.now) → view self.new
-            ≡ with_outcomes (Gave (reading_of name.now (Self.In.view source.old))
-            ∷ reread_as name.now (Self.In.view source.new).supply.left (size source.new) result)
-            (view self.old) }
-        ensures same { view self.new ≡ record (view self.old) { outcomes = (view self.new).outcomes } }
-        ensures begun { OnOk result ((Self.In.view source.new).supply.given ≡ []) }
-        ensures began { (from : Origin) → Self.In.began source.old from
-            → Self.In.began source.new from }
-        ensures faults { IfErr result (IsMemoryOr FileFault.Read) };
 
     /// The reading of a file that was opened is over: contracts see from now on what it gave. Of a
     /// source that is dropped they don't.

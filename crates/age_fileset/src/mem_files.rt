@@ -7,7 +7,7 @@ ghost use Rattle.age_io.specs.Taken.{WriteAppends, Keeps};
 ghost use Rattle.age_io.specs.{Puts, Pulls, Flushes, holds, memory_supply, IsNamed, ReadConsumes};
 ghost use Rattle.age_fileset.specs.{entry_of, empty_with, PutsEntry, IsMemoryOr, or_empty, Opened, Prepared};
 ghost use Rattle.age_fileset.specs.{Created, Made, Replaced, Closed, Found, FoundOrEmpty, Absent, Gave};
-ghost use Rattle.age_fileset.specs.{Settled, ended_with, opened_as, reread_as, made_as, put_as, written_as};
+ghost use Rattle.age_fileset.specs.{Settled, ended_with, opened_as, made_as, put_as, written_as};
 ghost use Rattle.age_fileset.specs.{size_in, shown_in, shown_out, seen_in, reading_of, MemFails, AreTrue};
 ghost use Rattle.age_fileset.specs.declared.files.OpenFault.TheVariants.{Fault};
 
@@ -392,38 +392,6 @@ impl FileSet for MemFiles {
         ensures { result ≡ Some (length source.now.1.left) }
     {
         Some(source.source.remaining() as u64)
-    }
-
-    fn can_reread(&self, _source: &MemIn) -> bool
-        ensures { result ≡ true }
-    {
-        true
-    }
-
-    /// Opens a copy of the file's bytes once more. Refuses with `Read` (26) exactly if no file has
-    /// the name.
-    fn reread(&mut self, alloc: Global, name: &str, source: &mut MemIn) -> Result<(), FileFault>
-        ensures over { self.new ≡ record self.old {
-          outcomes = self.old.outcomes ++ Gave (reading_of source.old.0 (shown_in source.old))
-              ∷ reread_as name.now (Some source.new.1.left) (size_in source.new) result;
-        } }
-        ensures named { source.new.0 ≡ source.old.0 }
-        ensures begun { OnOk result (source.new.1.given ≡ []) }
-        ensures again { OnOk result (entry_of self.old.entries name.now ≡ Some source.new.1.left) }
-        ensures missing { IsErrOf result FileFault.Read
-            ↔ (entry_of self.old.entries name.now ≡ None) }
-        ensures faults { IfErr result (IsMemoryOr FileFault.Read) }
-    {
-        self.log_reading(source);
-        let Some(bytes) = bytes_of(self.entries.as_slice(), name) else {
-            return Err(FileFault::Read);
-        };
-        let mut left = Tape::new();
-        left.note(bytes);
-        let size = Some(bytes.len() as u64);
-        source.source = source_of(alloc, bytes)?;
-        self.log.found(name, Some(&left), size);
-        Ok(())
     }
 
     fn finish(&mut self, source: MemIn)

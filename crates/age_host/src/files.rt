@@ -18,7 +18,7 @@ use age_disk::{
 use age_fault::FileFault;
 use age_fileset::{FileSet, Log, OpenFault};
 use age_io::{Durability, Source, Tape};
-use age_messages::{Action, Failures, announce_rereading, announce_sync};
+use age_messages::{Action, Failures, announce_copying, announce_sync};
 use std::alloc::Global;
 use std::rt::HostRuntime;
 use std::{fs, io};
@@ -543,7 +543,11 @@ impl<'r, 'w> FileSet for HostFiles<'r, 'w> {
         self.log.opened(name);
         let opened = self.admit_in(alloc, name, false);
         match &opened {
-            Ok(source) => self.log.found(name, None, source.source.length()),
+            Ok(source) => {
+                let length = source.source.length();
+                announce_copying(self.rt, self.failures, name, length);
+                self.log.found(name, None, length);
+            }
             Err(fault) => self.log.refused(name, *fault),
         }
         opened
@@ -574,28 +578,6 @@ impl<'r, 'w> FileSet for HostFiles<'r, 'w> {
     /// The length of a regular file. Standard input has none.
     fn length(&self, source: &WatchedIn<'r, 'w>) -> Option<u64> {
         source.source.length()
-    }
-
-    /// A regular file and a block device can. A pipe can't, nor can standard input.
-    fn can_reread(&self, source: &WatchedIn<'r, 'w>) -> bool {
-        source.source.can_reread()
-    }
-
-    fn reread(
-        &mut self,
-        _alloc: Global,
-        name: &str,
-        source: &mut WatchedIn<'r, 'w>,
-    ) -> Result<(), FileFault> {
-        source.log_to(&mut self.log);
-        match source.reread() {
-            Ok(()) => {
-                announce_rereading(self.rt, self.failures);
-                self.log.found(name, None, source.source.length());
-                Ok(())
-            }
-            Err(error) => Err(fault_of(error, FileFault::Read)),
-        }
     }
 
     fn finish(&mut self, source: WatchedIn<'r, 'w>) {

@@ -20,8 +20,6 @@ use std::rt::HostRuntime;
 pub struct WatchedIn<'r, 'w> {
     pub(crate) source: HostIn,
     name: &'w str,
-    // Whether it is read once more, to find where the run had stopped.
-    is_again: bool,
     failures: &'r Failures<'w>,
 }
 
@@ -34,37 +32,13 @@ impl<'r, 'w> WatchedIn<'r, 'w> {
         WatchedIn {
             source,
             name,
-            is_again: false,
             failures,
         }
     }
 
-    /// Sets it back to its start. If the second reading ends elsewhere and no pull fails, the file
-    /// isn't what it was.
-    pub(crate) fn reread(&mut self) -> io::Result<()>
-        ensures { self.new.source ≡ record self.old.source {
-          given = [];
-          is_at_end = false;
-          size = self.new.source.size;
-        } }
-    {
-        let result = self.source.reread();
-        self.is_again = true;
-        let error = match result {
-            Ok(()) => io::Error::other("it has changed"),
-            Err(error) => error,
-        };
-        self.failures.note_unfound(self.name, error);
-        result
-    }
-
     /// Keeps what the machine answered to a pull that failed.
     fn note(&self, error: io::Error) {
-        if self.is_again {
-            self.failures.note_unfound(self.name, error);
-        } else {
-            self.failures.note(Action::Read, self.name, error);
-        }
+        self.failures.note(Action::Read, self.name, error);
     }
 
     /// Counts what a pull gave, and keeps that the file was cut off, if it was.

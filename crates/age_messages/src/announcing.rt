@@ -46,19 +46,25 @@ pub fn announce_reading(rt: &HostRuntime) {
     }
 }
 
-/// Says that a file is read once more to find the position of a stop, and how much of it, if that is
-/// much.
-pub fn announce_rereading(rt: &HostRuntime, failures: &Failures<'_>) {
-    let last = failures.last_read();
-    if last.bytes >= LONG {
-        let name = Escaped(last.name.as_bytes());
-        let size = size_line(last.bytes);
-        if let Ok(size) = str::from_utf8(size.as_slice()) {
-            let _ = eprintln!(rt;
-                "age_tool: reading {name} again ({size}) to find the position: \
-                 if the run is killed now, none is saved"
-            );
-        }
+/// Says that an earlier output is copied before the input is read on, and how long it is, if that
+/// takes long and progress is to be shown: that counts what is read of the input.
+pub fn announce_copying(
+    rt: &HostRuntime,
+    failures: &Failures<'_>,
+    name: &str,
+    length: Option<u64>,
+) {
+    let length = length.unwrap_or(0);
+    if length < LONG
+        || !failures.has_word("--progress")
+        || failures.named_by("--old") != Some(name)
+    {
+        return;
+    }
+    let name = Escaped(name.as_bytes());
+    let size = size_line(length);
+    if let Ok(size) = str::from_utf8(size.as_slice()) {
+        let _ = eprintln!(rt; "age_tool: copying {name} ({size}) first");
     }
 }
 

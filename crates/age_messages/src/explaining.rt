@@ -182,6 +182,11 @@ fn tell_position(rt: &HostRuntime, failures: &Failures<'_>) {
         && let Some(output) = failures.output.get()
     {
         tell_command(rt, saved, old_name(output));
+        if output != "/dev/null" {
+            let _ = eprintln!(rt;
+                "age_tool: hint: if IN can be read from its start, age_tool decrypt is quicker"
+            );
+        }
     } else if failures.named_by("--save").is_some() && failures.unsaved().is_none() {
         let _ = eprintln!(rt; "age_tool: no position was saved");
     }

@@ -17,8 +17,6 @@ pub enum Action {
     Open,
     /// To read it.
     Read,
-    /// To read it once more.
-    Reread,
     /// To make it.
     Create,
     /// To open it to be written, or to write it.
@@ -35,7 +33,6 @@ impl Action {
         match self {
             Action::Open => ("open ", ""),
             Action::Read => ("read ", ""),
-            Action::Reread => ("read ", " again"),
             Action::Create => ("create ", ""),
             Action::Write => ("write ", ""),
             Action::Sync => ("write ", " to disk"),
@@ -46,7 +43,7 @@ impl Action {
     /// The number of the fault that it leads to.
     pub(crate) fn fault_number(self) -> u8 {
         match self {
-            Action::Open | Action::Read | Action::Reread => 26,
+            Action::Open | Action::Read => 26,
             _ => 27,
         }
     }
@@ -226,11 +223,6 @@ impl<'w> Failures<'w> {
     pub fn note_unsaved(&self, name: &str, error: io::Error) {
         let name = self.word(name);
         self.unsaved.set(failed(Action::Save, name, error));
-    }
-
-    /// Keeps why the position of a stop wasn't found.
-    pub fn note_unfound(&self, name: &'w str, error: io::Error) {
-        self.unsaved.set(failed(Action::Reread, name, error));
     }
 
     /// Keeps where a position was saved.

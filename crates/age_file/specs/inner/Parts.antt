@@ -1,7 +1,6 @@
--- The chain if positions are kept, what of a source is unread, and the parts of a position's text.
+-- The chunks of the chain if positions are kept, what of a source is unread, and the parts of a position's text.
 -- Private: no public contract cites this module.
-use Rattle.std.specs.Prelude.{ℕ, List, Option, Some, None, ◌++◌, codes}
-use Rattle.age_file.specs.Bindings.{link, chain}
+use Rattle.std.specs.Prelude.{ℕ, List, [], ◌∷◌, Option, Some, None, ◌++◌, codes}
 use Rattle.age_file.specs.declared.position.PositionPolicy.{PositionPolicy}
 use Rattle.age_file.specs.declared.position.PositionPolicy.TheVariants.{Kept, Dropped}
 use Rattle.std.specs.Fmt.{decimal}
@@ -9,14 +8,14 @@ use Rattle.age_stanza.specs.{base64_text}
 
 -- ---- How the chain over a text goes on, if positions are kept.
 
--- the chain if positions are kept, and none if they are dropped
-abbrev pub chain_if : PositionPolicy → List (List ℕ) → Option (List ℕ)
-chain_if Kept chunks = Some (chain chunks)
+-- the chunks of the chain if positions are kept, and none if they are dropped
+abbrev pub chain_if : PositionPolicy → List (List ℕ) → Option (List (List ℕ))
+chain_if Kept chunks = Some chunks
 chain_if Dropped chunks = None
 
 -- one more link, if there is a chain
-abbrev pub link_if : Option (List ℕ) → List ℕ → Option (List ℕ)
-link_if (Some so_far) chunk = Some (link so_far chunk)
+abbrev pub link_if : Option (List (List ℕ)) → List ℕ → Option (List (List ℕ))
+link_if (Some chunks) chunk = Some (chunks ++ chunk ∷ [])
 link_if None chunk = None
 
 -- ---- What was pulled from a source and not used yet.

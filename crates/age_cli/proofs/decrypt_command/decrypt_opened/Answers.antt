@@ -1,8 +1,8 @@
-use Rattle.std.proofs.Common.{◌≡◌, ◌∙◌, refl}
+use Rattle.std.proofs.Common.{◌≡◌, refl}
 use Rattle.age_file.specs.{ports}
 use Rattle.age_fileset.specs.{CameSince}
 use Rattle.age_cli.specs.{PortsOf, ShowsReadings}
-use Rattle.age_cli.proofs.{shown_with, runs_opened}
+use Rattle.age_cli.proofs.{runs_opened}
 use Rattle.age_cli.proofs.decrypt_command.decrypt_opened.Goals as goal
 
 pub returns-clause-opened : goal.returns-clause-opened
@@ -14,16 +14,11 @@ returns-clause-opened g c = λ first later.
     let once = c.open_text-opened in
     let ended = c.conclude_decryption in
     let was = c.args.progress.now in
-    let now = ended.new.progress in
+    let now = once.new.progress in
     let size = g.F.FileSet.size c.args.source in
     runs_opened (PortsOf In Out) (CameSince first (view ended.new.files)) c.args.asked.now c.args.identity (ports (In c.args.source) (Out c.args.out))
     (ports (In once.result.source) (Out once.new.out))
     (record { source = once.result.source; sink = once.new.out; is = refl }) (view c.args.files.now) (view ended.new.files) later ended.ensures.over
-    (now ≡ was)
-    (λ coming left r. ShowsReadings size coming left (shown was) (shown now) r)
-    (λ silent. ended.ensures.silent silent ∙ once.ensures.silent silent) c.can_reread-is_reread.result
-    once.result.end once.result.key c.positions_at_first.result
-    ended.result c.can_reread-is_reread.ensures c.positions_at_first.ensures.dropped c.positions_at_first.ensures.kept once.ensures.opened
-    (λ asked whole. shown_with size (In c.args.source).supply (In once.result.source).supply (shown was) (shown once.new.progress) (shown now) ended.result
-    (once.ensures.shown asked) ended.ensures.whole ended.ensures.shown whole)
-    ended.ensures.concludes
+    (now ≡ was) (λ coming left r. ShowsReadings size coming left (shown was) (shown now) r) once.ensures.silent
+    once.result.end once.result.marks c.positions_for.result ended.result c.positions_for.ensures once.ensures.opened
+    (λ asked whole. (once.ensures.shown asked, whole)) ended.ensures.concludes

@@ -1,11 +1,10 @@
-use Rattle.std.proofs.Common.{◌≡◌, ◌∙◌, [], ◌∷◌, ◌++◌, refl, Some}
+use Rattle.std.proofs.Common.{◌≡◌, [], ◌∷◌, ◌++◌, refl}
 use Rattle.age_io.specs.{Named}
 use Rattle.age_fileset.specs.{CameSince, Gave, puts_in, reading_of}
 use Rattle.age_fileset.proofs.{came_one, came_then, does_only, gave_puts, grows_by, grows_so, grows_then}
 use Rattle.age_cli.specs.{PortsOf, ShowsReadings}
-use Rattle.age_cli.specs.inner.{again_of}
 use Rattle.age_file.specs.{ports}
-use Rattle.age_cli.proofs.{shown_with, did_came, decryption_since, outcomes_of, resumed_by}
+use Rattle.age_cli.proofs.{did_came, decryption_since, outcomes_of, resumed_by}
 use Rattle.age_cli.proofs.resume_command.resume_opened.Goals as goal
 
 pub returns-clause-grows : goal.returns-clause-grows
@@ -36,12 +35,10 @@ returns-clause-opened g c = λ begin later unread found.
     let mid = view c.finish.new.self in
     let last = view ended.new.files in
     let was = c.args.progress.now in
-    let now = ended.new.progress in
+    let now = once.new.progress in
     let gave = reading_of r.old.now (In once.new.old) in
     let is = c.finish.ensures.over r.old.now (once.ensures.old_began (Named r.old.now) c.requires.old) in
     let did = does_only first mid (Gave gave ∷ []) is (gave_puts gave) in
-    let from = Some c.args.position.now in
-    let again = again_of c.can_reread-is_reread.result once.result.end once.result.key in
     let over = ended.ensures.over in
     let read = Gave (reading_of d.from.now (In once.result.source)) in
     let more = over.before ++ read ∷ over.later in
@@ -55,11 +52,7 @@ returns-clause-opened g c = λ begin later unread found.
     (record { source = once.new.old; sink = once.new.out; is = refl }) first last later (did_came did read over)
     (record { unread = unread; size = g.F.FileSet.size c.args.old; found = found; over = later (Gave gave) came })
     (now ≡ was) (λ coming left r. ShowsReadings size coming left (shown was) (shown now) r)
-    (λ silent. ended.ensures.silent silent ∙ once.ensures.silent silent) c.can_reread-is_reread.result
-    once.result.end once.result.key
-    c.positions_at_first.result ended.result c.can_reread-is_reread.ensures c.positions_at_first.ensures.dropped c.positions_at_first.ensures.kept
-    once.ensures.resumed
-    (λ asked whole. shown_with size (In c.args.source).supply (In once.result.source).supply (shown was) (shown once.new.progress) (shown now) ended.result
-    (once.ensures.shown asked) ended.ensures.whole ended.ensures.shown whole)
-    (decryption_since d (Out once.new.out) from first mid last did (Out once.new.out).taken.bytes once.result.end again ended.result
+    once.ensures.silent once.result.end once.result.marks c.positions_for.result ended.result c.positions_for.ensures once.ensures.resumed
+    (λ asked whole. (once.ensures.shown asked, whole))
+    (decryption_since d (Out once.new.out) first mid last did (Out once.new.out).taken.bytes once.result.end once.result.marks ended.result
     ended.ensures.concludes)

@@ -1,10 +1,9 @@
-use Rattle.std.proofs.Common.{◌≡◌, ◌++◌, ◌∙◌, ℕ, List, Some, [], refl, sym, ap, subst, take, length, arith, append-nil, append_assoc, inl, inr}
+use Rattle.std.proofs.Common.{◌≡◌, ◌++◌, ◌∙◌, ℕ, List, [], refl, sym, ap, subst, take, length, arith, append-nil, inl, inr}
 use Rattle.std.proofs.lemmas.List.{length-append, length-take}
-use Rattle.sha2.specs.Hashers.{Holds256}
 use Rattle.age_stream.specs.{IsPrefixOf}
 use Rattle.age_fault.specs.{HasFailed}
 use Rattle.age_io.specs.Taken.{Appends}
-use Rattle.age_file.proofs.{err_is, passes_on, passes_same, dries_same, wrote_none, wrote_then, front_written}
+use Rattle.age_file.proofs.{err_is, passes_on, passes_same, dries_same, wrote_none, wrote_then, front_written, hashed_none, hashed_more}
 use Rattle.age_file.proofs.copy.copy_chunk.Goals as goal
 
 pub parts-init : goal.parts-init
@@ -18,12 +17,9 @@ parts-init g c =
       wrote = wrote_none _;
       failures = refl;
       index = refl;
-      chain = refl;
-      hashed = λ links kept_is.
-          let start : Holds256 c.update.new.self c.in-Some.chain = c.update.ensures [] c.new-digest.ensures in
-          let both : Some c.in-Some.chain ≡ Some links = sym c.in-Some.is ∙ kept_is in
-          let same : c.in-Some.chain ≡ links = cc in
-          subst (λ (t : List ℕ). Holds256 c.update.new.self t) (same ∙ sym (append-nil links)) start;
+      links_kept = refl;
+      noted = c.new-chunk.ensures;
+      hashed = hashed_none _ _ c.digest-digest.ensures;
     }
 
 pub returns-in_err-need_bytes-clause-copied : goal.returns-in_err-need_bytes-clause-copied
@@ -105,7 +101,7 @@ parts-preserved g c =
       });
       failures = put.answered.1 ∙ kept.failures;
       index = kept.index;
-      chain = kept.chain;
-      hashed = λ links kept_is. subst (λ (t : List ℕ). Holds256 c.update-in-parts.new.self t) (append_assoc links kept.copied (take n bytes))
-          (c.update-in-parts.ensures (links ++ kept.copied) (kept.hashed links kept_is));
+      links_kept = kept.links_kept;
+      noted = c.note.ensures ∙ ap (λ (t : List ℕ). t ++ take n bytes) kept.noted;
+      hashed = hashed_more _ _ _ kept.copied (take n bytes) c.update.ensures kept.hashed;
     }

@@ -1,4 +1,6 @@
-use Rattle.std.proofs.Common.{◌≡◌, ◌+◌, ◌++◌, ℕ, List, Some, length}
+use Rattle.std.proofs.Common.{◌≡◌, ◌+◌, ◌++◌, ℕ, List, length}
+use Rattle.std.specs.Prelude.{IfSome}
+use Rattle.age_file.specs.{chain}
 use Rattle.sha2.specs.Hashers.{Holds256}
 use Rattle.age_file.specs.inner.{Passes, view_of_reader, view_of_writer, Wrote, SameReader, SameWriter}
 use Rattle.age_chunk.specs.{chunk_length}
@@ -15,8 +17,9 @@ invariant-parts g l = record {
   wrote : Wrote (view_of_writer g.O.Sink.view l.fn.writer) (view_of_writer g.O.Sink.view l.writer) copied;
   failures : (g.O.Sink.view l.writer.sink.now).failed ≡ (g.O.Sink.view l.fn.writer.sink.now).failed;
   index : l.writer.tally.index ≡ l.fn.writer.tally.index;
-  chain : l.writer.tally.chain ≡ l.fn.writer.tally.chain;
-  hashed : (links : List ℕ) → l.fn.writer.tally.chain ≡ Some links → Holds256 l.digest (links ++ copied);
+  links_kept : l.writer.tally.chain ≡ l.fn.writer.tally.chain;
+  noted : l.chunk ≡ copied;
+  hashed : IfSome l.fn.writer.tally.chain (λ links. Holds256 l.digest (chain links ++ copied));
 }
 
 abbrev pub decreases-parts : goal.decreases-parts

@@ -3,7 +3,7 @@ use Rattle.std.proofs.lemmas.List.{length-append}
 use Rattle.std.specs.Simd.{first_chunks}
 use Rattle.age_file.specs.inner.{chain_if, link_if, view_of_reader, view_of_writer}
 use Rattle.age_file.specs.{Kept}
-use Rattle.age_file.proofs.{err_is, passes_then, wrote_then, chain_more, chunk_failed}
+use Rattle.age_file.proofs.{err_is, passes_then, wrote_then, chunks_more, chunk_failed}
 use Rattle.age_chunk.specs.{chunk_length}
 use Rattle.age_file.proofs.copy.copy_chunks.Goals as goal
 
@@ -27,8 +27,8 @@ loop-copied-preserved g c =
     let i = c.loop-copied._copied in
     let next : suc i ≡ i + 1 = omega arith in
     let links : c.copy_chunk.new.writer.tally.chain ≡ chain_if Kept (first_chunks chunk_length (i + 1) (kept.out ++ step.out)) =
-    goes.4 ∙ ap (λ (xs : Option (List ℕ)). link_if xs step.out) kept.chain_is
-    ∙ ap Some (sym (chain_more chunk_length i kept.out step.out kept.size goes.0))
+    goes.4 ∙ ap (λ (xs : Option (List (List ℕ))). link_if xs step.out) kept.chain_is
+    ∙ ap Some (sym (chunks_more chunk_length i kept.out step.out kept.size goes.0))
     ∙ ap (λ (k : ℕ). chain_if Kept (first_chunks chunk_length k (kept.out ++ step.out))) next in
     let same = c.in_ok-copy_chunk.ensures.same_reader in
     record {

@@ -1,5 +1,5 @@
 use Rattle.std.proofs.lemmas.Grind.{common_steps}
-use Rattle.std.proofs.Common.{arith, ◌++◌, rules}
+use Rattle.std.proofs.Common.{arith, rules}
 use Rattle.age_file.specs.{InHeader, HeadFails}
 use Rattle.age_file.proofs.{err_is, stops_unread, read_last, whole_of}
 use Rattle.age_file.proofs.inspection.inspect_sized.Goals as goal

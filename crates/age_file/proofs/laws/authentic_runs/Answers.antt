@@ -1,7 +1,8 @@
-use Rattle.std.proofs.lemmas.Grind.{common_steps}
-use Rattle.std.proofs.Common.{arith}
-use Rattle.age_file.proofs.{position_carries, writes_of, writes_all}
+use Rattle.age_file.proofs.{hands_carry, writes_of, writes_all}
 use Rattle.age_file.proofs.laws.authentic_runs.Goals as goal
 
 pub returns : goal.returns
-returns g c = grind (arith, common_steps, position_carries, writes_all, writes_of)
+returns g c = λ who old new written r text limit auth. (
+  λ is. (writes_of r limit is.prefix text auth, hands_carry r limit is.prefix text auth),
+  λ d. writes_all r limit d.whole d.done text auth,
+)

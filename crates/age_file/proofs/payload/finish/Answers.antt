@@ -1,6 +1,5 @@
-use Rattle.std.proofs.Common.{ap, ◌∙◌, ◌+◌, ◌-◌, ◌^◌, min, List, ℕ, [], ◌++◌, refl, inr, arith, false}
+use Rattle.std.proofs.Common.{ap, ◌∙◌, ◌+◌, ◌-◌, ◌^◌, min, ℕ, [], refl, inr, arith, false}
 use Rattle.age_io.proofs.{Appends-kept}
-use Rattle.age_stream.specs.{released}
 use Rattle.age_file.specs.inner.{opens, seals, segment}
 use Rattle.age_keys.specs.inner.{box_valid}
 use Rattle.age_file.proofs.{err_is, answer_as, end_released, wrote_none}

@@ -1,5 +1,5 @@
 use Rattle.std.proofs.lemmas.Grind.{common_steps}
-use Rattle.std.proofs.Common.{◌≡◌, sym, ap, ◌∙◌, arith}
+use Rattle.std.proofs.Common.{arith}
 use Rattle.std.proofs.lemmas.Result.{MatchResult-at_ok, MatchResult-at_err}
 use Rattle.age_file.proofs.{decimal_reads, read_as, never_refused, never_differs, was_ok, was_err}
 use Rattle.age_file.proofs.position_text.number_of.Goals as goal

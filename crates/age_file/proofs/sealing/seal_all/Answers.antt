@@ -1,5 +1,5 @@
 use Rattle.std.proofs.lemmas.Grind.{common_steps}
-use Rattle.std.proofs.Common.{refl, length, ap, sym, subst, ◌∙◌, arith, List, ℕ, [], ◌++◌}
+use Rattle.std.proofs.Common.{refl, length, ap, sym, subst, ◌∙◌, arith, ℕ, ◌++◌}
 use Rattle.age_io.proofs.{Consumes-nil}
 use Rattle.std.proofs.lemmas.List.{length-append}
 use Rattle.age_keys.specs.inner.{box_valid}

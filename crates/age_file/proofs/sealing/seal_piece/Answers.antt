@@ -1,5 +1,5 @@
 use Rattle.std.proofs.lemmas.Grind.{common_steps}
-use Rattle.std.proofs.Common.{refl, ◌+◌, ◌≡◌, ◌-◌, ◌≤◌, length, take, drop, ap, sym, subst, ◌∙◌, arith, ℕ, List, ◌++◌, append-nil, append_assoc}
+use Rattle.std.proofs.Common.{refl, ◌+◌, ◌≡◌, ◌-◌, ◌≤◌, length, take, drop, ap, sym, ◌∙◌, arith, ℕ, List, ◌++◌, append-nil, append_assoc}
 use Rattle.std.proofs.Common.{take-append-drop}
 use Rattle.std.proofs.lemmas.List.{length-take, length-drop, length-append, take_all}
 use Rattle.age_stream.proofs.{step_len_le, take_on}

@@ -1,5 +1,5 @@
 use Rattle.std.proofs.lemmas.Grind.{common_steps}
-use Rattle.std.proofs.Common.{ap, take, length, arith}
+use Rattle.std.proofs.Common.{ap, length, arith}
 use Rattle.std.proofs.lemmas.List.{length-append, length-take}
 use Rattle.age_file.proofs.{err_is}
 use Rattle.age_file.proofs.head.HeadReader.take.Goals as goal

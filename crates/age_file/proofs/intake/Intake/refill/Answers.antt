@@ -1,5 +1,5 @@
 use Rattle.std.proofs.lemmas.Grind.{common_steps}
-use Rattle.std.proofs.Common.{◌≡◌, ◌^◌, ◌≤◌, [], refl, ap, rules, arith}
+use Rattle.std.proofs.Common.{arith}
 use Rattle.std.proofs.lemmas.List.{length-append}
 use Rattle.age_io.proofs.{Consumes-nil, Consumes-kept, Consumes-trans}
 use Rattle.age_file.proofs.intake.Intake.refill.Goals as goal
