@@ -1,23 +1,18 @@
 """Decrypts whole files with the built program, cut and changed at each byte, while each read fails in turn, and resumed; and compares the
-files and positions that it writes and reads, by values of Python's hashlib, hmac, base64 and cryptography. The file key is the bytes 0 to
+files and positions that it writes and reads, by values of Python's hashlib, hmac and base64 and of tests/sealing.py. The file key is the bytes 0 to
 15, the payload nonce 100 to 115, and the one stanza, of type `x`, has an empty body."""
 import base64
 import errno
+import functools
 import hashlib
 import hmac
 import os
 import resource
 import signal
-import unittest
-
 from tests.case import Case, needs
+from tests.sealing import seal
 from tests.test_runs import feed
 from tools import shim
-
-try:
-    from cryptography.hazmat.primitives.ciphers.aead import ChaCha20Poly1305
-except ImportError:
-    ChaCha20Poly1305 = None
 
 KEY, NONCE, CHUNK = bytes(range(16)), bytes(range(100, 116)), 65_536
 # Of RFC 4648, section 4, in the order of their values.
@@ -60,12 +55,12 @@ def hkdf(key, salt, label):
 
 def payload_of(key, nonce, text):
     """The payload nonce, and the payload of a text."""
-    box = ChaCha20Poly1305(hkdf(key, nonce, b"payload"))
-    last = max(0, len(text) - 1) // CHUNK
-    blocks = (box.encrypt(i.to_bytes(11, "big") + bytes([i == last]), text[i * CHUNK : (i + 1) * CHUNK], None) for i in range(last + 1))
+    own, last = hkdf(key, nonce, b"payload"), max(0, len(text) - 1) // CHUNK
+    blocks = (seal(own, i.to_bytes(11, "big") + bytes([i == last]), text[i * CHUNK : (i + 1) * CHUNK]) for i in range(last + 1))
     return nonce + b"".join(blocks)
 
 
+@functools.cache
 def file_of(text):
     """The file of a text."""
     return FRONT[:-16] + payload_of(KEY, NONCE, text)
@@ -75,7 +70,7 @@ def file_under(word, log, random, text):
     """The file of a text under a passphrase, with these random bytes: the file key, the salt and the payload nonce."""
     key, salt, nonce = random[:16], random[16:32], random[32:]
     wrap = hashlib.scrypt(word, salt=b"age-encryption.org/v1/scrypt" + salt, n=2**log, r=8, p=1, dklen=32)
-    body = ChaCha20Poly1305(wrap).encrypt(bytes(12), key, None)
+    body = seal(wrap, bytes(12), key)
     front = b"age-encryption.org/v1\n-> scrypt %s %d\n%s\n---" % (text_of(salt), log, text_of(body))
     mac = hmac.digest(hkdf(key, bytes(32), b"header"), front, "sha256")
     return front + b" " + text_of(mac) + b"\n" + payload_of(key, nonce, text)
@@ -127,7 +122,6 @@ class EnginesTest(Case):
             self.ends(f"changed at {at}", self.decrypt(changed), 17, b"", 0)
         self.ends("another key", self.decrypt(HELLO, key=bytes(16 * [7])), 14, b"")
 
-    @unittest.skipUnless(ChaCha20Poly1305, "needs cryptography")
     def test_long(self):
         """The index of a position counts whole chunks that were wholly written."""
         file = file_of(LONG)
@@ -141,7 +135,6 @@ class EnginesTest(Case):
         self.ends("a full last chunk", self.decrypt(file), 0, LONG[: 2 * CHUNK])
         self.ends("a byte after a full last chunk", self.decrypt(file + b"\0"), 21, LONG[: 2 * CHUNK], 1)
 
-    @unittest.skipUnless(ChaCha20Poly1305, "needs cryptography")
     def test_written(self):
         """A file is the one that Python makes of the same random bytes. The salts spell the whole alphabet."""
         self.write("pass", b"correct horse")
@@ -199,7 +192,6 @@ class EnginesTest(Case):
         self.write("old", old)
         return self.confined(room, "resume", "--position", "saved", "--old", "old", "--file-key", KEY.hex())
 
-    @unittest.skipUnless(ChaCha20Poly1305, "needs cryptography")
     def test_resumed(self):
         """A stop in the copy of the old text has no position, one after it the next."""
         file = file_of(LONG)
@@ -222,7 +214,6 @@ class EnginesTest(Case):
         self.write("in", file[:91] + b"x" + file[92:])
         self.ends("another file", self.resume(position(2)), 24, b"")
 
-    @unittest.skipUnless(ChaCha20Poly1305, "needs cryptography")
     def test_positions(self):
         self.write("in", file_of(LONG))
         self.ends("a position of Python", self.resume(position(2)), 0, LONG)
