@@ -3,7 +3,7 @@ if a call fails (tools/shim.c), and computes what that leaves by `age_machine/sp
 
 - the disk that the definitions give is the real one, so they say rightly what calls do;
 - after status 0 a power cut leaves OUT as it is, and so a position, once it was said to be saved;
-- OUT is locked before it is changed;
+- OUT is locked before it is changed, and what was written is closed before status 0;
 - at each moment it leaves a position as it was, or the new one, whole;
 - a run that stops before there is a byte to write leaves OUT as it was, or empty, if it wasn't there.
 
@@ -108,6 +108,8 @@ def calls_of(record, disk):
             yield LOCKS[name], int(words[0])
         elif name == "broke":
             yield "Broke", int(words[0])
+        elif name == "close":
+            yield "Closed", int(words[0])
         elif name == "rename":
             yield "Renamed", words[0].encode(), words[1].encode()
         elif name == "unlink":
@@ -152,7 +154,7 @@ class Run:
 
     def faults(self):
         yield from self.faults_now()
-        locked = set()
+        locked, open_to_write = set(), set()
         for call in calls_of(self.record, self.disk):
             if not self.disk.is_answer(call):
                 yield "a call that the definitions don't expect"
@@ -160,8 +162,14 @@ class Run:
                 locked.add(call[1])
             if call[0] in CHANGES and self.disk.leads(self.out, call[1]) and call[1] not in locked:
                 yield "OUT may have changed before it was locked"
+            if call[0] in CHANGES:
+                open_to_write.add(call[1])
+            elif call[0] == "Closed":
+                open_to_write.discard(call[1])
             self.disk.do(call)
             yield from self.faults_now()
+        if self.ended.returncode == 0 and open_to_write:
+            yield "status 0, and what was written wasn't closed"
         yield from self.faults_at_end()
 
     def faults_now(self):

@@ -163,6 +163,18 @@ class SavingTest(FilesCase):
             self.expect(0, b"", "resume --position saved --old old --pass pass age whole", f"{mib} MiB: resumed")
             self.see(f"{mib} MiB: the text", self.read("whole") == text)
 
+    def test_harmed_output(self):
+        """A position doesn't point beyond what OUT still holds if another program removes it or cuts it off while the run goes on."""
+        for name, harm, chunks in (("removed", os.remove, 0), ("cut off", lambda path: os.truncate(path, 70000), 1)):
+            feeding = Feeding(self)
+            harm(self.path("out"))
+            feeding.stops(f"OUT was {name}", chunk_fault(2))
+            self.see(f"OUT was {name}: a position within it", any(self.is_position("saved", it) for it in range(chunks + 1)), self.read("saved"))
+        feeding = Feeding(self, "decrypt --no-sync --pass pass --save saved in out")
+        os.truncate(self.path("out"), 131072 + 5)
+        feeding.stops("OUT was made longer", chunk_fault(2))
+        self.see("OUT was made longer: a position", self.is_position("saved", 2))
+
     # ---- room for a position
 
     def test_room(self):

@@ -1,9 +1,9 @@
 /* A file system over a folder (by libfuse), whose calls fail or take time as variables of the environment say. The first word is the
  * folder; the others go to libfuse.
  *
- * FLUSH and FSYNC: closing and syncing a file fails with that error. READ: reads of what is at FROM or beyond fail with that one. NOLINK:
- * files get no second name. DELAY: each question about a file's status, and each write, takes so many milliseconds; each read of a KiB
- * takes PACE microseconds. CALLS names a file that gets a letter for each of them: g or w. */
+ * FLUSH and FSYNC: closing and syncing a file fails with that error. READ: a read of what is at FROM or beyond fails with that one, and so
+ * does each read after it. NOLINK: files get no second name. DELAY: each question about a file's status, and each write, takes so many
+ * milliseconds; each read of a KiB takes PACE microseconds. CALLS names a file that gets a letter for each of them: g or w. */
 #define FUSE_USE_VERSION 31
 #define _GNU_SOURCE
 #include <dirent.h>
@@ -49,13 +49,16 @@ static int list(const char *name, void *into, fuse_fill_dir_t fill, off_t at, st
 }
 static int opened(struct fuse_file_info *file, int fd) {
     file->fh = fd;
+    file->direct_io = getenv("READ") != NULL;
     return fd < 0 ? -errno : 0;
 }
 static int make(const char *name, mode_t mode, struct fuse_file_info *file) { return opened(file, open(under(name).text, file->flags & ~O_APPEND, mode)); }
 static int open_file(const char *name, struct fuse_file_info *file) { return opened(file, open(under(name).text, file->flags & ~O_APPEND)); }
 static int read_file(const char *name, char *into, size_t size, off_t at, struct fuse_file_info *file) {
     (void)name;
-    if (getenv("READ") && at + (off_t)size > atol(getenv("FROM"))) return failing("READ");
+    static int is_broken;
+    if (getenv("READ") && (is_broken || at + (off_t)size > atol(getenv("FROM")))) is_broken = 1;
+    if (is_broken) return failing("READ");
     long n = pread(file->fh, into, size, at);
     if (n > 0 && getenv("PACE")) usleep(atol(getenv("PACE")) * n / 1024);
     return answer(n);

@@ -10,8 +10,8 @@
  * SWAP: `folder` leads to `other` before that write to a place in a file. PIPED: before that open of `saved` to be written a pipe takes
  * its place. GONE: `out` is removed before it is opened to be written. TRIGGER names a file that gets a 1 before the first sync. SYNCED names one that gets a line for each file that is synced.
  *
- * RECORD names a file that gets each call that succeeded and changes what a regular file holds or which names a folder has, or waits
- * for the disk, and locks. A line has the name of the call and its arguments, with tabs between them: an inode where a file is meant, and a path
+ * RECORD names a file that gets each call that succeeded and changes what a regular file holds or which names a folder has, waits for
+ * the disk, locks, or closes what could be written to. A line has the name of the call and its arguments, with tabs between them: an inode where a file is meant, and a path
  * from the root where a name is. What was written follows its line. A write, a cut or a wait that was made to fail is `broke`. */
 #define _GNU_SOURCE
 #include <dlfcn.h>
@@ -114,7 +114,7 @@ static int record(void) {
     if (fd < 0) {
         int made = NEXT(open)(getenv("RECORD"), O_WRONLY | O_APPEND | O_CLOEXEC);
         fd = fcntl(made, F_DUPFD_CLOEXEC, 500);
-        close(made);
+        NEXT(close)(made);
     }
     return fd;
 }
@@ -226,6 +226,13 @@ int flock(int fd, int how) {
     ino_t file = regular(fd);
     if (file && (ended == 0 || why != EWOULDBLOCK)) note(ended == 0 ? "lock\t%lu\n" : "unlockable\t%lu\n", file);
     errno = why;
+    return ended;
+}
+
+int close(int fd) {
+    ino_t file = (fcntl(fd, F_GETFL) & O_ACCMODE) == O_RDONLY ? 0 : regular(fd);
+    int ended = NEXT(close)(fd);
+    if (file && ended == 0) note("close\t%lu\n", file);
     return ended;
 }
 

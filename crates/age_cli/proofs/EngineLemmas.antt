@@ -122,6 +122,7 @@ module _ (IsPorts : Ports → Type 0) (Came : Outcome → Type 0) (engine : Engi
             promise = stops;
             untouched = λ none. o.2.untouched (sym o.2.took ∙ none);
             kept = λ some. o.2.kept (λ none. some (o.2.took ∙ none));
+            there = λ some. o.2.there (λ none. some (o.2.took ∙ none));
             certain = λ there. subst (λ (b : List ℕ). Came (Settled durability b settled)) (sym o.2.took) (certain refl there);
           });
           outs = c.outs;

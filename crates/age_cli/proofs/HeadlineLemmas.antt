@@ -4,7 +4,7 @@ use Rattle.std.proofs.Common.{None, append-nil, append_assoc, arith, rules, ⊎_
 use Rattle.std.proofs.lemmas.List.{length-take, take_at}
 use Rattle.std.specs.Prelude.{is_some, ◌==◌, bytes_eq, OnErr, IsErrAnd, if◌then◌else◌}
 use Rattle.std.specs.Option.{option_map_or}
-use Rattle.std.specs.Io.KnownBytes.{Consumes, IsAtEnd}
+use Rattle.std.specs.Io.KnownBytes.{Consumes, IsAtEnd, prepend_known}
 use Rattle.age_io.specs.Supply.{Supply}
 use Rattle.age_io.specs.{SourceView, SinkView}
 use Rattle.age_io.specs.declared.durability.Durability.{Durability}
@@ -17,13 +17,13 @@ use Rattle.age_chunk.specs.{chunk_limit, chunk_count, chunk_length}
 use Rattle.age_stream.specs.{IsPrefixOf}
 use Rattle.age_file.proofs.{writes_all, writes_of}
 use Rattle.age_file.specs.{DecryptStops, BeginsWith, resume_ports, IsFrom, position_text, ResumeStops, Ports, Run, IsFromStart, held, IsRun, IsTexts}
-use Rattle.age_file.specs.{IsAuthenticRun, WritesNone}
+use Rattle.age_file.specs.{IsAuthenticRun, WritesNone, SecretView, AgeFile}
 use Rattle.age_file.specs.declared.decryption.Stopped.{Stopped}
 use Rattle.age_file.specs.declared.position.PositionPolicy.{PositionPolicy}
 use Rattle.age_file.specs.declared.position.Position.{Position}
 use Rattle.age_fault.specs.declared.fault.FileFault.{FileFault}
 use Rattle.age_machine.specs.{EndedFile}
-use Rattle.age_fileset.specs.{Event, FilesView, Files, Entry, entry, entry_of, Outcome, Found, FoundOrEmpty, PutsOnly, CameSince, HasGivenAll, AreTrue}
+use Rattle.age_fileset.specs.{Event, FilesView, Files, Entry, entry, entry_of, Outcome, Found, FoundOrEmpty, PutsOnly, CameSince, HasGiven, HasGivenAll, AreTrue}
 use Rattle.age_fileset.specs.{or_empty, puts_in}
 use Rattle.age_fileset.specs.declared.mem_entry.MemEntry.{MemEntry}
 use Rattle.age_fileset.proofs.{AreOthers, others_then, same_since, put_since, before_others, found_was, found_any_was, gave_all_was, grows_by, grows_none}
@@ -31,20 +31,22 @@ use Rattle.age_fileset.proofs.{all_as}
 use Rattle.age_cli_args.specs.{Asks, IsForHelp, refusals, IsIdentityOptions, IsRequest, option_text}
 use Rattle.age_cli_args.specs.declared.request.IdentityOptions.{IdentityOptions}
 use Rattle.age_cli_args.specs.declared.request.Decrypting.{Decrypting}
+use Rattle.age_cli_args.specs.declared.request.Encrypting.{Encrypting}
 use Rattle.age_cli_args.specs.declared.request.Resuming.{Resuming}
 use Rattle.age_cli_args.specs.declared.request.Request.{Request}
 use Rattle.age_cli_args.specs.declared.request.Request.TheVariants.{Inspect, Encrypt, Decrypt, Resume, Drill}
 use Rattle.age_cli_args.specs.Requests.{Requests}
 use Rattle.age_cli_args.proofs.{no_command, one_number}
-use Rattle.age_command.specs.{IsIdentity, IsSecretGiven, allows_by, refuses_by, either_name, identity_file, Follows, NamesTwice, IsOneOf, apart_from}
+use Rattle.age_command.specs.{IsIdentity, IsSecretGiven, allows_by, refuses_by, either_name, identity_file, Follows, NamesTwice, IsOneOf, apart_from, random_name, IsPassphraseIn}
 use Rattle.age_command.specs.declared.identity.Identity.{Identity}
 use Rattle.age_command.specs.declared.identity.Identity.TheVariants.{ByPassphrase, ByFileKey, ByShared}
 use Rattle.age_command.specs.declared.ending.Ending.{Ending}
 use Rattle.age_command.specs.declared.ending.Ending.TheVariants.{Words, Fault, Unsaved, Usage}
 use Rattle.age_cli.specs.Acts.{Acts}
+use Rattle.age_cli.specs.Commands.{MakesSecret, IsRandomIn}
 use Rattle.age_cli.specs.{CameFirst, Engine, HasEngineStopped, IsNotDue, IsStored, IsSavedAs, OfEngine, OpensOf, Paths, paths_of, Returned, IsUsage, IsEndingOf}
 use Rattle.age_cli.specs.{decrypt_engine, resume_engine, kept_for, status_by, StopsText, old_found, World, Obeys, DoesOther, held_for, OpensBy, IsPositionIn}
-use Rattle.age_cli.specs.{IsRead, IsWritersInput, KeepsOut, IsWritersOld, BeginsAt, IsWritersResumption, out_of, save_of}
+use Rattle.age_cli.specs.{IsRead, IsWritersInput, KeepsOut, IsWritersOld, BeginsAt, IsWritersResumption, out_of, save_of, paths_to_encrypt, EncryptLeavesOut}
 
 -- ---- What a decryption wrote, and read.
 
@@ -285,6 +287,17 @@ module _ (words : List Text) (IsPorts : Ports → Type 0) (before after : World)
         gave_all_was before.files after.files was is kept_was kept_is q all g (earlier q _ (other q refl) g.gave.found) ∙ is_given
     secret_was file given gave other name bytes is_file is_given = cc
 
+    -- what a file gave, perhaps not all of it, stood there at its beginning
+    given_was : (name bytes : List ℕ) → HasGiven since name bytes → AreOthers name puts → (rest : List ℕ) × (olds name ≡ Some (bytes ++ rest))
+    given_was name bytes g other =
+        let found = found_was before.files after.files was is kept_was kept_is name (prepend_known bytes g.left) g.size g.found
+        (earlier name _ other g.found) in
+        front_of g.left found.0 found.1 where
+          front_of : (left : Option (List ℕ)) → is_some (prepend_known bytes left) ≡ true → prepend_known bytes left ≡ olds name
+              → (rest : List ℕ) × (olds name ≡ Some (bytes ++ rest))
+          front_of None there stood = absurd (true≢false (sym there))
+          front_of (Some rest) there stood = (rest, sym stood)
+
     -- IN, and what opens it
     module _ (d : Decrypting) (old_name : Option Text) (others : (q : Text)
         → IsOneOf q (Some d.from.now ∷ option_text d.identity.pass ∷ option_text d.identity.shared ∷ old_name ∷ []) → AreOthers q puts) where
@@ -470,6 +483,85 @@ module _ (words : List Text) (IsPorts : Ports → Type 0) (before after : World)
             (λ P of. (_, of.4, resumed text s mine_all of.0 of.1 of.2 of.3)) r failed acts (λ twice. (acts.apart twice).1))
         go asked acts made = absurd (differs _ _ name is_asked.0 made.0 refl refl)
 
+  -- ---- What an encryption leaves.
+
+  joined_4 : (a b c d e : List ℕ) → (a ++ (b ++ (c ++ d))) ++ e ≡ a ++ (b ++ (c ++ (d ++ e)))
+  joined_4 a b c d e = append_assoc a (b ++ (c ++ d)) e ∙ ap (λ (l : List ℕ). a ++ l) (append_assoc b (c ++ d) e
+      ∙ ap (λ (l : List ℕ). b ++ l) (append_assoc c d e))
+
+  some_is : (a b : List ℕ) → Some a ≡ Some b → a ≡ b
+  some_is a b same = cc
+
+  encrypted : (e : Encrypting) → DoneFor (Encrypt e) (Ok tt)
+      → (secret : SecretView) × MakesSecret e (olds e.pass.now) (olds (random_name (option_text e.random))) secret
+      × (text : List ℕ) × (file : List ℕ) × (olds e.from.now ≡ Some text) × AgeFile secret text file × (news e.to.now ≡ Some file)
+  encrypted e acts =
+      let of = acts.done in
+      let secret = of.0 in
+      let made = of.1 in
+      let ends = of.2 in
+      let done = ends.promise.1 in
+      let random = random_name (option_text e.random) in
+      let puts = entry e.to.now ends.run.out.took ∷ [] in
+      let others = unread [] (paths_to_encrypt e) (Some e.pass.now) (Some random) None None (λ twice. (acts.apart twice).1) puts
+      (λ q out save. ((λ here. out (ap Some here)), tt)) in
+      let found = found_was before.files after.files was is kept_was kept_is e.from.now ends.run.before.source.supply.left ends.run.input.size
+      ends.run.input.found (earlier puts ends.puts e.from.now _ (others e.from.now (inl refl)) ends.run.input.found) in
+      let pass = gave_all_was before.files after.files was is kept_was kept_is e.pass.now made.pass made.pass_given
+      (earlier puts ends.puts e.pass.now _ (others e.pass.now (inr (inl refl))) made.pass_given.gave.found) in
+      let rand = given_was puts ends.puts random made.random made.random_given (others random (inr (inr (inl refl)))) in
+      let in_random = made.makes.random_is in
+      let read = read_from ends.run.before.source.supply.left ends.run.after.source.supply.left done.text found.0 done.read.left in
+      let rest = read.2 done.at_end.1 in
+      let took : ends.run.out.took ≡ done.file = ends.run.took ∙ (done.wrote.bytes ∙ ap (λ (l : List ℕ). l ++ done.file) ends.run.new.taken) in (
+        secret,
+        record {
+          passphrase = subst (λ (h : Option (List ℕ)). IsPassphraseIn h secret.pass) (sym pass) made.makes.passphrase;
+          log_is = made.makes.log_is;
+          within = made.makes.within;
+          random_is = record {
+            rest = in_random.rest ++ rand.0;
+            bytes = rand.1 ∙ (ap (λ (l : List ℕ). Some (l ++ rand.0)) (some_is _ _ in_random.bytes)
+                ∙ ap Some (joined_4 secret.key secret.salt secret.nonce in_random.rest rand.0));
+            key_length = in_random.key_length;
+            salt_length = in_random.salt_length;
+            nonce_length = in_random.nonce_length;
+          };
+        },
+        done.text,
+        done.file,
+        sym found.1 ∙ (read.1 ∙ ap Some (ap (λ (l : List ℕ). done.text ++ l) rest ∙ append-nil done.text)),
+        done.is,
+        put_since before.files after.files was is kept_was kept_is puts ends.puts e.to.now ends.run.out.took [] refl tt ∙ ap Some took,
+      )
+
+  pub encrypted_of : (r : Result (Unit {0}) Ending) → OnErr r (status ≡ 0 → ⊥) → Obeyed r → EncryptLeavesOut words olds news status
+  encrypted_of (Err ending) failed obeys e made zero = absurd (failed zero)
+  encrypted_of (Ok tt) failed (inl o) e (name, rows, asks, is_asked) zero = absurd (no_command words name rows o.none asks)
+  encrypted_of (Ok tt) failed (inr (inr o)) e (name, rows, asks, is_asked) zero = absurd (not_help words asks.taken o.done.0)
+  encrypted_of (Ok tt) failed (inr (inl o)) e (name, rows, asks, is_asked) zero = go o.asked o.acts (same_rows words o.asked name rows asks o.made) where
+    go : (asked : Request) → DoneFor asked (Ok tt) → IsRequest name rows asked
+        → (secret : SecretView) × MakesSecret e (olds e.pass.now) (olds (random_name (option_text e.random))) secret
+        × (text : List ℕ) × (file : List ℕ) × (olds e.from.now ≡ Some text) × AgeFile secret text file × (news e.to.now ≡ Some file)
+    go (Encrypt f) acts (is_its, mine) =
+        let its = is_asked.1 in
+        let w = encrypted f acts in
+        let random : random_name (option_text f.random) ≡ random_name (option_text e.random) = ap random_name (mine.random ∙ sym its.random) in (
+          w.0,
+          record {
+            passphrase = subst (λ (t : Text). IsPassphraseIn (olds t) w.0.pass) (same_text f.pass.now e.pass.now _ mine.pass its.pass) w.1.passphrase;
+            log_is = w.1.log_is ∙ one_number 18 _ f.log e.log mine.log its.log;
+            within = w.1.within;
+            random_is = subst (λ (t : Text). IsRandomIn (olds t) w.0) random w.1.random_is;
+          },
+          w.2,
+          w.3,
+          subst (λ (t : Text). olds t ≡ Some w.2) (same_text f.from.now e.from.now _ mine.from its.from) w.4,
+          w.5,
+          subst (λ (t : Text). news t ≡ Some w.3) (same_text f.to.now e.to.now _ mine.to its.to) w.6,
+        )
+    go asked acts mine = absurd (differs _ _ name is_asked.0 mine.0 refl refl)
+
   -- what is so if an engine ran for what is asked, with its names; otherwise nothing was put
   by_engine : (asked : Request) (P : Engine → Paths → Type 0) (r : Result (Unit {0}) Ending) → OfIts asked P
       → DoesOther words IsPorts before after Unread Unprinted Unshown Progress r asked → (q : Text)
@@ -497,6 +589,17 @@ module _ (words : List Text) (IsPorts : Ports → Type 0) (before after : World)
   spares_asked r (inr (inl o)) asked (name, rows, asks, is_asked) q out save =
       let mine = same_names name rows asked o.asked is_asked (same_rows words o.asked name rows asks o.made) in
       spared o.asked r o.acts o.answers q (λ here. out (mine.0 ∙ here)) (λ here. save (mine.1 ∙ here))
+
+  -- and nothing but OUT if all was done
+  pub spares_done : (r : Result (Unit {0}) Ending) → OnErr r (status ≡ 0 → ⊥) → Obeyed r → (asked : Request) → Requests words asked
+      → status ≡ 0 → (q : Text) → (out_of asked ≡ Some q → ⊥) → news q ≡ olds q
+  spares_done (Err ending) failed obeys asked made zero q out = absurd (failed zero)
+  spares_done (Ok x) failed (inl o) asked made zero q out = same_if o.untouched q
+  spares_done (Ok x) failed (inr (inr o)) asked made zero q out = same_if o.untouched q
+  spares_done (Ok x) failed (inr (inl o)) asked (name, rows, asks, is_asked) zero q out =
+      let mine = same_names name rows asked o.asked is_asked (same_rows words o.asked name rows asks o.made) in
+      by_engine o.asked _ (Ok x) o.acts.done o.answers q (λ engine p h is_out is_save. same (entry p.to h.run.out.took ∷ []) h.puts q
+      ((λ here. out (mine.0 ∙ (is_out ∙ ap Some here))), tt))
 
   -- and nothing was put if the words are refused
   pub spares_refused : (r : Result (Unit {0}) Ending) → Obeyed r → IsErrAnd r IsUsage → (q : Text) → news q ≡ olds q

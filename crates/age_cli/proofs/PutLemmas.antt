@@ -1,16 +1,17 @@
 -- What was put of an output, and of the file of a position.
 use Rattle.std.proofs.Common.{◌≡◌, ◌∙◌, ◌⊎◌, ⊎_elim, ◌++◌, ◌∷◌, [], ℕ, List, inl, inr, refl, ap, sym, subst, true, false, true≢false, Option, Some, None}
 use Rattle.std.proofs.Common.{Result, Ok, Err, OnOk, IfErr, append-nil}
-use Rattle.std.specs.Prelude.{IsOk, IsOkUnless, IsSomeAnd, is_some, ◌≤◌, ◌*◌}
+use Rattle.std.specs.Prelude.{IsOk, IsOkUnless, IsSomeAnd, is_some, ◌≤◌, ◌*◌, OnErr, IfSome, ◌<◌}
 use Rattle.clap.specs.Words.{Text}
 use Rattle.age_chunk.specs.{chunk_length}
 use Rattle.age_io.specs.{SinkView}
 use Rattle.age_io.specs.declared.durability.Durability.{Durability}
+use Rattle.age_io.specs.declared.durability.Durability.TheVariants.{Synced}
 use Rattle.age_fault.specs.declared.fault.FileFault.{FileFault}
 use Rattle.age_fault.specs.declared.fault.FileFault.TheVariants.{Memory, Write}
 use Rattle.age_file.specs.{position_text}
 use Rattle.age_file.specs.declared.position.Position.{Position}
-use Rattle.age_machine.specs.{Closes, Discards, EndedFile, OutFile, SavedFile}
+use Rattle.age_machine.specs.{Closes, Discards, EndedFile, OutFile, SavedFile, IsThere, IsOnDisk}
 use Rattle.age_machine.specs.Saved.{Saves}
 use Rattle.age_fileset.specs.{Unwritten, Entry, entry, FilesView, Closed, Does, PutsOnly, CameSince, IsMemoryOr, Outcome, Put, refused_as, written_as, puts_in}
 use Rattle.age_fileset.proofs.{came_one, none_plain, grows_then, grows_by, then_came, did_events, unwritten_puts}
@@ -18,7 +19,7 @@ use Rattle.age_command.proofs.{followed, longer, then_follows}
 use Rattle.age_command.specs.{Follows, is_usage, replacing}
 use Rattle.age_command.specs.declared.ending.Ending.{Ending}
 use Rattle.age_command.specs.declared.ending.Ending.TheVariants.{Fault, Unsaved}
-use Rattle.age_cli.specs.{IsEndingOf, IsLost, IsNotDue, IsStored, IsUnsavable, LacksOne, Interruption}
+use Rattle.age_cli.specs.{IsThereUnlessFailed, IsEndingOf, IsLost, IsNotDue, IsStored, IsUnsavable, LacksOne, Interruption}
 use Rattle.age_cli.specs.inner.{ClosesOut, Concludes, IsLeft, IsPut, LeavesOut, SavesStop}
 use Rattle.age_cli.proofs.OpeningLemmas.{did_came, same_events}
 use Rattle.age_fileset.specs.declared.files.OpenFault.TheVariants as refusal
@@ -50,12 +51,18 @@ left_puts sink (Ok done) old new is fails some = (entry sink.label sink.taken.by
 left_puts sink (Err fault) old new is fails some = ([], grows_lost sink.label fault old new is (inl fails), inl refl)
 
 -- how its file was left
-pub left_empty : {file : Option OutFile} (sink : SinkView) (out : EndedFile) → sink.taken.bytes ≡ [] → Discards file sink out → IsLeft sink out
-left_empty sink out none d = record { took = d.took; within = d.within; untouched = d.untouched; kept = λ some. absurd (some none) }
+pub left_empty : {durability : Durability} {file : Option OutFile} (sink : SinkView) (out : EndedFile) → sink.taken.bytes ≡ [] → Discards file sink out → IsLeft durability sink out
+left_empty sink out none d = record { took = d.took; within = d.within; untouched = d.untouched; kept = λ some. absurd (some none); there = λ some. absurd (some none) }
+
+-- it is there, or a call has failed
+there_or : {durability : Durability} {file : Option OutFile} (r : Result (Unit {0}) FileFault) (out : EndedFile) → out.file ≡ file → OnOk r (IsThere out)
+    → (durability ≡ Synced → OnOk r (IsOnDisk out)) → OnErr r (IfSome file (λ f. 0 < out.failed)) → IsThereUnlessFailed durability out
+there_or (Ok done) out same there safe caused = inl (there, safe)
+there_or (Err fault) out same there safe caused = inr (subst (λ (o : Option OutFile). IfSome o (λ f. 0 < out.failed)) (sym same) caused)
 
 pub left_whole : {durability : Durability} {file : Option OutFile} {r : Result (Unit {0}) FileFault} (sink : SinkView) (out : EndedFile) → (sink.taken.bytes ≡ [] → ⊥)
-    → Closes durability file sink r out → IsLeft sink out
-left_whole sink out some c = record { took = c.took; within = c.within; untouched = λ none. absurd (some none); kept = λ more. c.closed }
+    → Closes durability file sink r out → IsLeft durability sink out
+left_whole {r = r} sink out some c = record { took = c.took; within = c.within; untouched = λ none. absurd (some none); kept = λ more. c.closed; there = λ more unfailed. there_or r out c.same (c.there unfailed) (λ waits. c.safe waits unfailed) c.caused }
 
 -- ---- What was put to the file of the position.
 
@@ -119,7 +126,7 @@ module _ {save : Option Text} {durability : Durability} {sink : SinkView} {settl
       → PutsRest durability save settled stop.position mid new e → SavesStop save durability sink settled stop old new e
   saves_stop left same reported order (rest, more, by) = record {
     reported = reported;
-    ended = subst (λ (o : Option EndedFile). IsSomeAnd o (IsLeft sink)) (sym same) left.ended;
+    ended = subst (λ (o : Option EndedFile). IsSomeAnd o (IsLeft durability sink)) (sym same) left.ended;
     order = then_follows old.events mid.events new.events (Closed durability ∷ []) (replacing save durability) left.noted order;
     outs = left.outs;
     rest = rest;

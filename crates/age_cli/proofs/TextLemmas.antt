@@ -6,7 +6,7 @@ use Rattle.std.specs.Prelude.{IsSomeAnd, OnOk, IfErr, IsErrAnd}
 use Rattle.age_fault.specs.declared.fault.FileFault.{FileFault}
 use Rattle.age_fault.specs.declared.fault.FileFault.TheVariants.{Head, Key, NonceCut, OtherFile, PositionForged}
 use Rattle.age_file.proofs.GivenLemmas.{done_gave_file, done_gave_rest}
-use Rattle.age_file.specs.{DecryptStops, resume_ports, InOldFails, InSkippedFails, ResumeStops, Ports, Run, PayloadFails}
+use Rattle.age_file.specs.{SecretView, DecryptStops, resume_ports, InOldFails, InSkippedFails, ResumeStops, Ports, Run, PayloadFails}
 use Rattle.age_file.specs.declared.decryption.Stopped.{Stopped}
 use Rattle.age_file.specs.declared.position.Position.{Position}
 use Rattle.age_file.specs.declared.position.PositionPolicy.{PositionPolicy}
@@ -24,9 +24,13 @@ use Rattle.age_command.specs.declared.ending.Ending.TheVariants.{Fault, Unsaved}
 use Rattle.age_command.specs.declared.identity.Identity.{Identity}
 use Rattle.age_cli.specs.{CameFirst, Engine, decrypt_engine, resume_engine, durability_of, HasEngineEnded, HasEngineStopped, HasNotBegun, OfEngine, IsEndingOf}
 use Rattle.age_cli.specs.{Paths, Returned, SparesOut, StopsText, IsUsage, FailsFile, FailsInput, FailsReport, World, Obeys, DoesOther, FailsWriting, IsRefusal}
-use Rattle.age_cli.specs.{GivesFile, GivesRest, IsBeforeText, IsForText, LeavesText}
+use Rattle.age_cli.specs.Acts.{Acts}
+use Rattle.age_cli.specs.{encrypt_engine, GivesText, GivesFile, GivesRest, IsBeforeText, IsForText, LeavesOf, LeavesText, kept_for, paths_of, paths_to_encrypt}
+use Rattle.age_cli_args.specs.{IsForHelp, option_text}
+use Rattle.age_cli_args.specs.Requests.{Requests}
+use Rattle.age_fileset.proofs.{all_as}
 use Rattle.age_cli_args.specs.declared.request.Request.{Request}
-use Rattle.age_cli_args.specs.declared.request.Request.TheVariants.{Decrypt, Resume, Inspect, Drill}
+use Rattle.age_cli_args.specs.declared.request.Request.TheVariants.{Encrypt, Decrypt, Resume, Inspect, Drill}
 
 same_fault : (f g : FileFault) (e : Ending) → IsEndingOf f e → IsEndingOf g e → f ≡ g
 same_fault f g (Fault x) is was = sym is ∙ was
@@ -47,10 +51,9 @@ module _ (Fails : FileFault → Type 0) (none : Fails NonceCut → ⊥) (other :
 in_payload : (Never : Type 0) (old new : Ports) (r : Run) (f : FileFault) → IsBeforeText f → PayloadFails Never old new r f → ⊥
 in_payload Never old new r f early = not_later (PayloadFails Never old new r) (λ no. no) (λ no. no) (λ no. no) (λ h no. no) (λ k no. no) f early
 
--- ---- A decryption that is done.
+-- ---- An encryption, or a decryption, that is done.
 
-module _ (IsPorts : Ports → Type 0) (Came : Outcome → Type 0) (p : Paths) (identity : Identity) (keep : PositionPolicy) (durability : Durability)
-    (before after : FilesView) where
+module _ (IsPorts : Ports → Type 0) (Came : Outcome → Type 0) (p : Paths) (durability : Durability) (before after : FilesView) where
   leaves : (Gives : Ports → Ports → List ℕ → Type 0) (engine : Engine) (e : HasEngineEnded IsPorts Came engine p durability before after)
       (text : List ℕ) → Gives e.run.before e.run.after text → Appends e.run.before.sink.taken e.run.after.sink.taken text
       → LeavesText IsPorts Came Gives p durability after.ended
@@ -64,11 +67,19 @@ module _ (IsPorts : Ports → Type 0) (Came : Outcome → Type 0) (p : Paths) (i
     safe = e.safe;
   }
 
+  pub leaves_file : (secret : SecretView) → HasEngineEnded IsPorts Came (encrypt_engine secret) p durability before after
+      → LeavesText IsPorts Came (GivesText secret) p durability after.ended
+  leaves_file secret e =
+      let done = e.promise.1 in
+      leaves (GivesText secret) (encrypt_engine secret) e done.file (done.text, done.read, done.at_end, done.is) done.wrote
+
+module _ (IsPorts : Ports → Type 0) (Came : Outcome → Type 0) (p : Paths) (identity : Identity) (keep : PositionPolicy) (durability : Durability)
+    (before after : FilesView) where
   pub leaves_text : HasEngineEnded IsPorts Came (decrypt_engine keep identity) p durability before after
       → LeavesText IsPorts Came (GivesFile identity) p durability after.ended
   leaves_text e =
       let gave = done_gave_file (allows_by identity) e.run.before e.run.after (Ok e.promise.0) (Some e.promise.1) e.promise.2 in
-      leaves (GivesFile identity) (decrypt_engine keep identity) e gave.0 gave.1 gave.2.0
+      leaves IsPorts Came p durability before after (GivesFile identity) (decrypt_engine keep identity) e gave.0 gave.1 gave.2.0
 
   pub leaves_resumed : (from : Position) (old_name : Text) → HasEngineEnded IsPorts Came
       (resume_engine IsPorts Came keep identity from old_name) p durability before after
@@ -77,7 +88,7 @@ module _ (IsPorts : Ports → Type 0) (Came : Outcome → Type 0) (p : Paths) (i
       let h = e.promise in
       let gave = done_gave_rest (allows_by identity) from (resume_ports e.run.before h.0) (resume_ports e.run.after h.1) (Ok h.5.0)
       (Some h.5.1) h.5.2 in
-      leaves (GivesRest IsPorts Came old_name identity from) (resume_engine IsPorts Came keep identity from old_name) e gave.0
+      leaves IsPorts Came p durability before after (GivesRest IsPorts Came old_name identity from) (resume_engine IsPorts Came keep identity from old_name) e gave.0
       (h.0, h.1, h.2, h.4, gave.1, gave.2) gave.3.0
 
 -- ---- One that stopped before it wrote.
@@ -183,3 +194,39 @@ module _ (words : List Text) (IsPorts : Ports → Type 0) (before after : World)
   refused_silently r (inr (inl did)) = answered r did.asked did.answers
   refused_silently r (inr (inr declined)) = IfErr-weaker r _ _ (λ e. ⊎_elim (λ refused usage. refused.1)
       (λ help usage. absurd (true≢false (sym usage ∙ ap is_usage help.1.0)))) declined.stops
+
+-- ---- What status 0 says.
+
+leaves_asked : (IsPorts : Ports → Type 0) (before after : FilesView) (Unshown : Type 0) (Progress : Option Text → Result (Unit {0}) Ending → Type 0)
+    (asked : Request) → Acts IsPorts asked before after Unshown Progress (Ok tt) → LeavesOf IsPorts before after asked
+leaves_asked IsPorts before after Unshown Progress (Encrypt e) did =
+    let done = did.done in (
+      done.0,
+      done.1,
+      leaves_file IsPorts (CameSince before after) (paths_to_encrypt e) e.durability before after done.0 done.2,
+    )
+leaves_asked IsPorts before after Unshown Progress (Decrypt d) did =
+    let done = did.done in (
+      done.0,
+      done.1,
+      leaves_text IsPorts (CameSince before after) (paths_of d) done.0 (kept_for (option_text d.save)) d.durability before after done.2,
+    )
+leaves_asked IsPorts before after Unshown Progress (Resume r) did =
+    let done = did.done in
+    let d = r.decrypting in (
+      done.0,
+      done.1,
+      done.2,
+      all_as (CameFirst before after) (CameSince before after) (λ o first. first.came) _ _ done.3,
+      leaves_resumed
+          IsPorts (CameSince before after) (paths_of d) done.0 (kept_for (option_text d.save)) d.durability before after done.2 r.old.now done.4,
+    )
+leaves_asked IsPorts before after Unshown Progress other did = tt
+
+pub zero_leaves : (words : List Text) (IsPorts : Ports → Type 0) (before after : World) (Unread Unprinted Unshown : Type 0)
+    (Progress : Option Text → Result (Unit {0}) Ending → Type 0) → Obeys words IsPorts before after Unread Unprinted Unshown Progress (Ok tt)
+    → (words ≡ []) ⊎ (IsForHelp words ⊎ ((asked : Request) × Requests words asked × LeavesOf IsPorts before.files after.files asked))
+zero_leaves words IsPorts before after Unread Unprinted Unshown Progress (inl o) = inl o.none
+zero_leaves words IsPorts before after Unread Unprinted Unshown Progress (inr (inl o)) =
+    inr (inr (o.asked, o.made, leaves_asked IsPorts before.files after.files Unshown Progress o.asked o.acts))
+zero_leaves words IsPorts before after Unread Unprinted Unshown Progress (inr (inr o)) = inr (inl o.done.0)

@@ -299,6 +299,12 @@ pub record IsStored (Came : Outcome → Type 0) (durability : Durability) (save 
   pub is : IsSomeAnd position (λ p. IsSavedAs ending save p rest × (p.index * chunk_length ≤ settled))
   pub lost : IsLost Came ending save
 
+-- what its sink took is at its path, and on the disk, if that was to be waited for; or a call for it has
+-- failed
+abbrev pub IsThereUnlessFailed : Durability → EndedFile → Type 0
+IsThereUnlessFailed durability out = (IsThere out × (durability ≡ Synced → IsOnDisk out))
+    ⊎ IfSome out.file (λ f. 0 < out.failed)
+
 -- no output was ended, or one that took nothing and is untouched
 abbrev pub SparesOut : (before after : Option EndedFile) → Type 0
 SparesOut before after = (after ≡ before)
@@ -365,6 +371,10 @@ module _ (IsPorts : Ports → Type 0) (Came : Outcome → Type 0) where
     pub promise : engine.stops settled fault position run.before run.after
     pub untouched : run.out.took ≡ [] → IsUntouched run.after.sink.failed run.out
     pub kept : (run.out.took ≡ [] → ⊥) → run.out.is_closed ≡ true
+    -- What was put before the stop is there, so that a position goes on from it, unless a put or a call
+    -- failed.
+    pub there : (run.out.took ≡ [] → ⊥) → run.after.sink.failed ≡ 0
+        → IsThereUnlessFailed durability run.out
     pub certain : is_some p.save ≡ true → Came (Settled durability run.out.took settled)
 
   -- It ended, but the output couldn't be, as the set of files said; if it is a regular file, a call has

@@ -1,32 +1,34 @@
 -- When OUT holds nothing but what the file's writer wrote: the headline at the command line.
 use Rattle.std.specs.Prelude.{◌≡◌, ◌⊎◌, ℕ, ◌*◌, ◌≤◌, true, List, [], ◌++◌, length, take, Option, Some, None}
-use Rattle.std.specs.Prelude.{Result, Ok, Err, IfErr, IsErrAnd}
+use Rattle.std.specs.Prelude.{Result, Err, IfErr, IsErrAnd}
 use Rattle.clap.specs.Words.{Text}
 use Rattle.age_stanza.specs.{HeadText}
 use Rattle.age_chunk.specs.{chunk_count, chunk_length, block_length, chunk_limit}
-use Rattle.age_io.specs.{Shown, SourceView, SinkView}
+use Rattle.age_io.specs.{Shown, SourceView, SinkView, Consumes, IsAtEnd}
 use Rattle.age_io.specs.declared.durability.Durability.{Durability}
 use Rattle.age_io.specs.declared.durability.Durability.TheVariants.{Synced}
 use Rattle.age_stream.specs.{IsPrefixOf}
 use Rattle.age_keys.specs.{Opens}
 use Rattle.age_file.specs.{Ports, ports, Run, IsFromStart, IsTexts, IsAuthenticRun, HasId, HasTag}
 use Rattle.age_file.specs.declared.position.Position.{Position}
-use Rattle.age_file.specs.{GaveFile, GaveOld, GaveRest, position_text}
+use Rattle.age_file.specs.{GaveFile, GaveOld, GaveRest, position_text, SecretView, AgeFile}
 use Rattle.age_cli_args.specs.Requests.{Requests}
 use Rattle.age_cli_args.specs.{IsForHelp, option_text}
 use Rattle.age_cli_args.specs.declared.request.Decrypting.{Decrypting}
+use Rattle.age_cli_args.specs.declared.request.Encrypting.{Encrypting}
 use Rattle.age_cli_args.specs.declared.request.Request.TheVariants.{Encrypt, Decrypt, Resume}
 use Rattle.age_cli_args.specs.declared.request.Resuming.{Resuming}
 use Rattle.age_cli_args.specs.declared.request.IdentityOptions.{IdentityOptions}
 use Rattle.age_cli_args.specs.declared.request.Request.{Request}
-use Rattle.age_command.specs.{allows_by, identity_file, MakesBy}
+use Rattle.age_command.specs.{allows_by, identity_file, MakesBy, random_name}
 use Rattle.age_command.specs.declared.identity.Identity.{Identity}
 use Rattle.age_command.specs.declared.ending.Ending.{Ending}
 use Rattle.age_fault.specs.declared.fault.FileFault.{FileFault}
-use Rattle.age_fault.specs.declared.fault.FileFault.TheVariants.{Head, Key, NonceCut, OtherFile}
-use Rattle.age_fault.specs.declared.fault.FileFault.TheVariants.{PositionForged}
+use Rattle.age_fault.specs.declared.fault.FileFault.TheVariants.{Stream, BadPosition, ShortText, Read}
+use Rattle.age_fault.specs.declared.fault.FileFault.TheVariants.{Write, Memory, ReadNeverEnds}
+use Rattle.age_fault.specs.declared.fault.FileFault.TheVariants.{OldTextDiffers}
 use Rattle.age_fileset.specs.{Files, FilesView, Outcome, CameSince, HasGivenAll, Shelf, seen_in, entry_of}
-use Rattle.age_cli.specs.Commands.{WasRead, old_found, FailsReport}
+use Rattle.age_cli.specs.Commands.{WasRead, old_found, FailsReport, HasSecret, MakesSecret}
 use Rattle.age_machine.specs.{EndedFile, IsThere, IsOnDisk}
 use Rattle.age_cli.specs.Acts.{Acts, IsEndingOf, OpensOf, Paths, paths_of, Returned, ShowsProgress, SparesOut}
 use Rattle.age_cli.specs.Acts.{IsUsage}
@@ -117,6 +119,14 @@ ResumeKeepsOut words old new status =
     (r : Resuming) (text : List ℕ) → Requests words (Resume r) → IsWritersResumption r old text
     → KeepsOut (old r.decrypting.to.now) (new r.decrypting.to.now) status text
 
+-- After 0 of `encrypt` OUT holds the age file of all that IN held, for the passphrase and the random bytes
+-- in the files that are named.
+abbrev pub EncryptLeavesOut : List Text → (old new : Files) → ℕ → Type 0
+EncryptLeavesOut words old new status = (e : Encrypting) → Requests words (Encrypt e) → status ≡ 0
+    → (secret : SecretView) × MakesSecret e (old e.pass.now) (old (random_name (option_text e.random))) secret
+    × (text : List ℕ) × (file : List ℕ) × (old e.from.now ≡ Some text) × AgeFile secret text file
+    × (new e.to.now ≡ Some file)
+
 -- OUT and the file of `--save`, if what is asked has them
 abbrev pub out_of : Request → Option Text
 out_of (Encrypt e) = Some e.to.now
@@ -129,12 +139,14 @@ save_of (Decrypt d) = option_text d.save
 save_of (Resume r) = option_text r.decrypting.save
 save_of other = None
 
--- only OUT and the file of `--save` differ, if what is asked has them; and none, if the command line is
--- refused
+-- only OUT and the file of `--save` differ, if what is asked has them; none, if the command line is
+-- refused; and OUT alone, if all was done
 abbrev pub SparesOthers : List Text → (old new : Files) → ℕ → Type 0
 SparesOthers words old new status = ((asked : Request) → Requests words asked
     → (q : Text) → (out_of asked ≡ Some q → ⊥) → (save_of asked ≡ Some q → ⊥) → new q ≡ old q)
     × (status ≡ 2 → (q : Text) → new q ≡ old q)
+    × ((asked : Request) → Requests words asked → status ≡ 0
+    → (q : Text) → (out_of asked ≡ Some q → ⊥) → new q ≡ old q)
 
 -- A run over files in memory does so: of these ports, with a meter and sinks and a source of these
 -- types.
@@ -150,7 +162,7 @@ RunsKeepOut IsPorts Input Output Faults Progress old new =
     (ShowsProgress (CameSince before.files after.files) shown.0 shown.1) status
     → let was = entry_of old.entries in let is = entry_of new.entries in
     DecryptKeepsOut words was is status × ResumeKeepsOut words was is status
-    × SparesOthers words was is status
+    × SparesOthers words was is status × EncryptLeavesOut words was is status
 
 -- ---- What follows for a run from what its parts promise.
 
@@ -190,6 +202,16 @@ GivesRest IsPorts Came old_name identity from before after text =
     × WasRead Came (old_found from old_name) old_name first last × GaveOld from first.supply last.supply text
     × GaveRest (allows_by identity) from before.source.supply after.source.supply text
 
+-- IN gave a text, to its end, and these bytes are its age file for a secret
+abbrev pub GivesText : SecretView → Ports → Ports → List ℕ → Type 0
+GivesText secret before after file = (text : List ℕ)
+    × Consumes before.source.supply after.source.supply text × IsAtEnd after.source.supply
+    × AgeFile secret text file
+
+-- the names of an encryption
+abbrev pub paths_to_encrypt : Encrypting → Paths
+paths_to_encrypt e = record { from = e.from.now; to = e.to.now; save = None; clobber = e.clobber }
+
 -- What was read gave a text. OUT was closed with just that: it is at its path, and on the disk, if that
 -- was to be waited for.
 pub record LeavesText (IsPorts : Ports → Type 0) (Came : Outcome → Type 0)
@@ -203,14 +225,45 @@ pub record LeavesText (IsPorts : Ports → Type 0) (Came : Outcome → Type 0)
   pub there : IsThere run.out
   pub safe : durability ≡ Synced → IsOnDisk run.out
 
--- a fault that comes before OUT is written, also of a wrong passphrase
+-- ---- What status 0 says, of the words and of what the set of files notes: read this first.
+
+-- Of a decryption that is done: what opens IN is what the options say; IN gave the age file of a text, or,
+-- if it was resumed, the earlier output gave that text's chunks before the position, and IN the rest of
+-- its payload; and OUT is just that text. Of an encryption: OUT is the age file of the text that IN gave
+-- to its end, for the passphrase and the random bytes that the named files gave.
+abbrev pub LeavesOf : (Ports → Type 0) → (before after : FilesView) → Request → Type 0
+LeavesOf IsPorts before after (Encrypt e) =
+    let Came = CameSince before after in
+    (secret : SecretView) × HasSecret Came e secret
+    × LeavesText IsPorts Came (GivesText secret) (paths_to_encrypt e) e.durability after.ended
+LeavesOf IsPorts before after (Decrypt d) =
+    let Came = CameSince before after in
+    (identity : Identity) × OpensOf Came d identity
+    × LeavesText IsPorts Came (GivesFile identity) (paths_of d) d.durability after.ended
+LeavesOf IsPorts before after (Resume r) =
+    let Came = CameSince before after in
+    (identity : Identity) × OpensOf Came r.decrypting identity
+    × (from : Position) × HasGivenAll Came r.position.now (position_text from)
+    × LeavesText IsPorts Came (GivesRest IsPorts Came r.old.now identity from) (paths_of r.decrypting)
+    r.decrypting.durability after.ended
+LeavesOf IsPorts before after other = Unit {0}
+
+-- Status 0: there were no words, or help was asked for; or what the words ask for was done.
+abbrev pub ZeroLeaves : List Text → (Ports → Type 0) → (before after : FilesView) → (status : ℕ) → Type 0
+ZeroLeaves words IsPorts before after status = status ≡ 0 → (words ≡ []) ⊎ (IsForHelp words
+    ⊎ ((asked : Request) × Requests words asked × LeavesOf IsPorts before after asked))
+
+-- a fault that comes before OUT is written, also of a wrong passphrase: all but these
 abbrev pub IsBeforeText : FileFault → Type 0
-IsBeforeText (Head fault) = Unit {0}
-IsBeforeText (Key fault) = Unit {0}
-IsBeforeText NonceCut = Unit {0}
-IsBeforeText OtherFile = Unit {0}
-IsBeforeText PositionForged = Unit {0}
-IsBeforeText other = ⊥
+IsBeforeText (Stream fault) = ⊥
+IsBeforeText BadPosition = ⊥
+IsBeforeText ShortText = ⊥
+IsBeforeText Read = ⊥
+IsBeforeText Write = ⊥
+IsBeforeText Memory = ⊥
+IsBeforeText ReadNeverEnds = ⊥
+IsBeforeText OldTextDiffers = ⊥
+IsBeforeText other = Unit {0}
 
 -- a file is to be decrypted, from its start or from a position
 abbrev pub IsForText : Request → Type 0
@@ -225,23 +278,6 @@ module _ (IsPorts : Ports → Type 0) (Progress : Type 0) where
       × (shown : Option (List Shown) × Option (List Shown))
       × Acts IsPorts asked before after (progress.1 ≡ progress.0)
       (ShowsProgress (CameSince before after) shown.0 shown.1) ended
-
-  -- If a decryption is done, OUT is the text whose age file IN gave.
-  abbrev pub DoneLeavesText : Type 0
-  DoneLeavesText = (d : Decrypting) (before after : FilesView) → Obeyed (Decrypt d) before after (Ok tt)
-      → let Came = CameSince before after in
-      (identity : Identity) × OpensOf Came d identity
-      × LeavesText IsPorts Came (GivesFile identity) (paths_of d) d.durability after.ended
-
-  -- If a resumed one is, it is the text whose first chunks the earlier output gave, and the rest of
-  -- whose payload IN gave.
-  abbrev pub ResumedLeavesText : Type 0
-  ResumedLeavesText = (r : Resuming) (before after : FilesView) → Obeyed (Resume r) before after (Ok tt)
-      → let Came = CameSince before after in
-      (identity : Identity) × OpensOf Came r.decrypting identity
-      × (from : Position) × HasGivenAll Came r.position.now (position_text from)
-      × LeavesText IsPorts Came (GivesRest IsPorts Came r.old.now identity from) (paths_of r.decrypting)
-      r.decrypting.durability after.ended
 
   -- After a fault that comes before the text OUT is as it was, or the empty file that was made.
   abbrev pub EarlyFaultsSpareOut : Type 0

@@ -20,7 +20,7 @@ use Rattle.age_command.specs.declared.ending.Ending.{Ending}
 use Rattle.age_command.specs.declared.ending.Ending.TheVariants.{Fault, Usage}
 use Rattle.age_machine.specs.{Closes, EndedFile, OutFile, TouchesItself, IsUntouched}
 use Rattle.age_cli.specs.Acts.{IsEndingOf, IsNotDue, IsStored, Engine, Paths}
-use Rattle.age_cli.specs.Acts.{SparesOut, AreSame, IsUnusable, NamesOne}
+use Rattle.age_cli.specs.Acts.{SparesOut, AreSame, IsUnusable, NamesOne, IsThereUnlessFailed}
 use Rattle.age_cli.specs.declared.interruption.Interruption.{Interruption}
 use Rattle.age_io.specs.Supply.{Supply}
 use Rattle.age_file.specs.{IsMarked, IsReport, MarksView, Ports}
@@ -58,18 +58,19 @@ IsPut sink puts = (puts ≡ [])
 
 -- how the file of OUT was left after a stop, whose sink is this: untouched, if nothing was taken, and closed
 -- otherwise
-pub record IsLeft (sink : SinkView) (out : EndedFile) : Type 0 where
+pub record IsLeft (durability : Durability) (sink : SinkView) (out : EndedFile) : Type 0 where
   pub took : out.took ≡ sink.taken.bytes
   pub within : TouchesItself out
   pub untouched : sink.taken.bytes ≡ [] → IsUntouched sink.failed out
   pub kept : (sink.taken.bytes ≡ [] → ⊥) → out.is_closed ≡ true
+  pub there : (sink.taken.bytes ≡ [] → ⊥) → sink.failed ≡ 0 → IsThereUnlessFailed durability out
 
 pub record LeavesOut (durability : Durability) (sink : SinkView) (old new : FilesView) : Type 0 where
   pub outs : List Entry
   pub puts_only : PutsOnly outs old new
   pub out : IsPut sink outs
   pub noted : new.events ≡ old.events ++ Closed durability ∷ []
-  pub ended : IsSomeAnd new.ended (IsLeft sink)
+  pub ended : IsSomeAnd new.ended (IsLeft durability sink)
 
 -- OUT was closed, whose sink is this, with this result, and these were put
 pub record ClosesOut (durability : Durability) (sink : SinkView) (puts : List Entry) (old new : FilesView)
@@ -84,7 +85,7 @@ pub record ClosesOut (durability : Durability) (sink : SinkView) (puts : List En
 pub record SavesStop (save : Option Text) (durability : Durability) (sink : SinkView) (settled : ℕ)
     (stop : Interruption) (old new : FilesView) (ending : Ending) : Type 0 where
   pub reported : IsEndingOf stop.fault ending
-  pub ended : IsSomeAnd new.ended (IsLeft sink)
+  pub ended : IsSomeAnd new.ended (IsLeft durability sink)
   -- OUT is closed, and the file of the position replaced, if at all.
   pub order : Follows (Closed durability ∷ replacing save durability) old.events new.events
   -- What was put of the output comes first.

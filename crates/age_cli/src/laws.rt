@@ -1,7 +1,7 @@
 //! Laws over the definitions: each call does nothing.
 
-ghost use Rattle.age_cli.specs.{PortsOf, RunsKeepOut, RefusesInSilence, ReportsAccept, DoneLeavesText};
-ghost use Rattle.age_cli.specs.{ResumedLeavesText, EarlyFaultsSpareOut};
+ghost use Rattle.age_cli.specs.{PortsOf, RunsKeepOut, RefusesInSilence, ReportsAccept};
+ghost use Rattle.age_cli.specs.{EarlyFaultsSpareOut};
 ghost use Rattle.age_fileset.specs.{shown_in, shown_out};
 
 use age_file::{Sink, Source};
@@ -11,8 +11,9 @@ use age_io::Meter;
 /// The headline of [`run`](crate::run) over files in memory, as they stand before it and when it
 /// returns: whatever the status, OUT is as it was or holds a beginning of the plaintext, while no
 /// block of IN opens except as its writer sealed it; 0 means all of the plaintext; and only OUT and
-/// the file of `--save` differ. The plaintext has at most 2^48 chunks, and the earlier output of
-/// `resume` begins with those before its position.
+/// the file of `--save` differ, after 0 OUT alone. The plaintext has at most 2^48 chunks, and the
+/// earlier output of `resume` begins with those before its position. After 0 of `encrypt` OUT is the
+/// age file of all that IN held, for what the files of `--pass` and `--random` held.
 pub fn runs_keep_out<I: Source, O: Sink, E: Sink, P: Meter>(before: &MemFiles, after: &MemFiles)
     ensures { RunsKeepOut (PortsOf shown_in shown_out) I O E P before.now after.now }
 {
@@ -27,14 +28,8 @@ pub fn refusals_are_silent<F: FileSet, I: Source, O: Sink, P: Meter>()
     ensures reported { ReportsAccept }
 {}
 
-/// Decryptions over any set of files, the machine's among them. If one from the start is done, what
-/// IN gave is the age file of a text; if one from a position is, the earlier output gave a text's
-/// chunks before it, and IN the rest of its payload. OUT was closed with just that text: if it is a
-/// regular file and the disk answers as expected, it is at its path, and without `--no-sync` a power
-/// cut leaves nothing else there. After a fault that comes before the text, also of a wrong
-/// passphrase, OUT is as it was, or the empty file that was made.
-pub fn decryptions_leave_text<F: FileSet, P: Meter>()
-    ensures done { DoneLeavesText (PortsOf F.In.view F.Out.view) P }
-    ensures resumed { ResumedLeavesText (PortsOf F.In.view F.Out.view) P }
-    ensures spared { EarlyFaultsSpareOut (PortsOf F.In.view F.Out.view) P }
+/// Decryptions over any set of files, the machine's among them: after a fault that comes before the
+/// text, also of a wrong passphrase, OUT is as it was, or the empty file that was made.
+pub fn early_faults_spare_out<F: FileSet, P: Meter>()
+    ensures { EarlyFaultsSpareOut (PortsOf F.In.view F.Out.view) P }
 {}

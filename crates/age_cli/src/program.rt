@@ -10,6 +10,7 @@ ghost use Rattle.clap.specs.Walk.{texts};
 ghost use Rattle.age_cli.specs.{PortsOf, ending_status, ShowsProgress, world, IsRefusal, Obeys, Prints};
 ghost use Rattle.age_cli.specs.{FailsWriting};
 ghost use Rattle.age_cli.specs.Runs.{Runs};
+ghost use Rattle.age_cli.specs.Headline.{ZeroLeaves};
 ghost use Rattle.age_fileset.specs.{CameSince};
 ghost use Rattle.age_cli.specs.inner.{IsForOutput};
 
@@ -112,6 +113,12 @@ fn status(ending: &Ending) -> u8
 /// `drill` delivers the payload of IN by a script, and writes a line for each line of it. Help that
 /// is asked for goes to the output, with status 0.
 ///
+/// Status 0 of a decryption, over any set of files, the machine's among them: IN gave the age file of
+/// a text, or, if it was resumed, the earlier output and IN gave its parts; and OUT was closed with
+/// just that text. Of an encryption: OUT was closed with just the age file of the text that IN gave
+/// to its end. If OUT is a regular file and the disk answers as expected, it is at its path, and
+/// without `--no-sync` a power cut leaves nothing else there.
+///
 /// With `--progress`, `progress` is shown how many bytes IN has, if the set of files can say so,
 /// and how many of them each pull gave, and then that the reading is over, before a fault is
 /// reported. If IN is read once more to find a position, it is shown that reading too, after the
@@ -125,7 +132,9 @@ pub fn run<F: FileSet, I: Source, O: Sink, E: Sink, P: Meter>(
     faults: &mut E,
     progress: &mut P,
 ) -> u8
-    ensures { Runs (texts words.now) (PortsOf F.In.view F.Out.view)
+    ensures zero { ZeroLeaves (texts words.now) (PortsOf F.In.view F.Out.view) (F.view files.old)
+        (F.view files.new) result }
+    ensures runs { Runs (texts words.now) (PortsOf F.In.view F.Out.view)
         (world (F.view files.old) (I.view input.old) (O.view output.old))
         (world (F.view files.new) (I.view input.new) (O.view output.new))
         (E.view faults.old) (E.view faults.new) (faults.new ≡ faults.old)

@@ -4,7 +4,7 @@ use Rattle.std.specs.Prelude.{Ok, Err, IfOk, IfSome, OnOk, OnErr, MatchResult, i
 use Rattle.age_io.specs.{one_more}
 use Rattle.age_io.specs.declared.durability.Durability.{Durability}
 use Rattle.age_io.specs.declared.durability.Durability.TheVariants.{Synced}
-use Rattle.age_machine.specs.{FileCall, EndedFile, Closes, OutFile, OutView, TouchesFile, text_of, LeadsTo, IsSafe}
+use Rattle.age_machine.specs.{FileCall, EndedFile, Closes, OutFile, OutView, TouchesFile, text_of, IsThereAs, IsSafe}
 use Rattle.age_machine.specs.{IsKept, SavedFile, PutsAtOnce}
 use Rattle.age_machine.specs.Saved.{Saves}
 use Rattle.age_disk.specs.{HasNode, sink_of, IsTaking, FileId}
@@ -71,7 +71,7 @@ module _ (durability : Durability) (out : OutView) (failed : ℕ) (failing : Boo
   pub file_closes : {E : Type 0} (r : Result (Unit {0}) E) → OnOk r (out.is_lost ≡ false)
       → (durability ≡ Synced → out.failed ≡ 0
       → OnOk r (IsSafe out.file.path (text_of out.calls) calls))
-      → (out.failed ≡ 0 → OnOk r (LeadsTo out.file.path out.file.number (text_of out.calls) calls)) → OnErr r (0 < count)
+      → (out.failed ≡ 0 → OnOk r (IsThereAs out.file (text_of out.calls) calls)) → OnErr r (0 < count)
       → Closes durability (Some out.file) (sink_of failed failing took) r (ended which)
   file_closes r sure safe there caused =
       subst (λ (w : Option OutFile). Closes durability (Some out.file) (sink_of failed failing took) r
@@ -80,7 +80,7 @@ module _ (durability : Durability) (out : OutView) (failed : ℕ) (failing : Boo
         closed = refl;
         same = refl;
         within = within;
-        there = sure_of (λ t. LeadsTo out.file.path out.file.number t calls) r sure there;
+        there = sure_of (λ t. IsThereAs out.file t calls) r sure there;
         safe = λ synced. sure_of (λ t. IsSafe out.file.path t calls) r sure (safe synced);
         caused = caused;
       })

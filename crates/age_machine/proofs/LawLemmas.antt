@@ -1,15 +1,15 @@
 -- A disk, and what a power cut leaves of it, for each law.
 use Rattle.std.proofs.lemmas.Grind.{common_steps}
-use Rattle.std.proofs.Common.{◌≡◌, ◌⊎◌, inl, inr, ⊎_elim, ℕ, ◌+◌, List, [], ◌∷◌, ◌++◌, Option, Some, None, true, false, length, refl, sym, ◌∙◌, ap, subst}
+use Rattle.std.proofs.Common.{◌≡◌, inl, inr, ⊎_elim, ℕ, List, [], ◌∷◌, ◌++◌, Option, Some, None, true, false, length, refl, sym, ◌∙◌, ap, subst}
 use Rattle.std.proofs.Common.{◌<◌, ◌^◌, arith}
 use Rattle.std.proofs.lemmas.Bool.{false≢true}
-use Rattle.std.proofs.lemmas.List.{append-nil, drop_all}
+use Rattle.std.proofs.lemmas.List.{append-nil, drop_all, take_all}
 use Rattle.age_machine.specs.{Made, Opened, Wrote, Cut, Synced, Linked, Renamed, Removed, SyncedNames, Locked, Regular, at_path, after_call}
-use Rattle.age_machine.specs.{after_calls, IsAmong, MayLead, MayLeave, AllAnswered, SavesWhole, IsSafe, filled, renamed, linked, bare, bare_but, overwritten}
+use Rattle.age_machine.specs.{after_calls, IsAmong, MayLead, MayLeave, AllAnswered, SavesWhole, IsSafe, CanLeave, filled, renamed, linked, bare, bare_but, overwritten}
 use Rattle.age_machine.specs.{put_out, HasOneLock, number_of, Node}
 use Rattle.age_machine.specs.Disk.{Disk}
 use Rattle.age_machine.proofs.OutLemmas.{opened_beside}
-use Rattle.age_machine.proofs.SaveLemmas.{path_same, path_other, file_same, file_renamed, file_linked, throughout_last}
+use Rattle.age_machine.proofs.SaveLemmas.{path_same, path_other, file_same, file_renamed, file_linked, throughout_last, sized_within}
 
 -- ---- What a power cut may leave.
 
@@ -56,19 +56,20 @@ module _ (n : ℕ) (from path bytes : List ℕ) (apart : from ≡ path → ⊥) 
   pub unwaited : SavesWhole path bytes [] (SyncedNames path ∷ Renamed from path ∷ filled n from bytes) → ⊥
   unwaited saves =
       ⊎_elim never (garbage bytes) (throughout_last path _ [] (SyncedNames path ∷ Renamed from path ∷ filled n from bytes) saves
-      bare (tt, (tt, answered)) (Some (0 ∷ bytes)) (torn n path bytes (after_call (SyncedNames path) (after_call (Renamed from path) wrote)) at_once
+      bare (tt, (tt, answered)) (tt, (tt, (tt, (tt, (tt, tt))))) (Some (0 ∷ bytes))
+      (torn n path bytes (after_call (SyncedNames path) (after_call (Renamed from path) wrote)) at_once
       (file_same n false begun.is_kept)))
 
   pub renamed_first : SavesWhole path bytes [] (SyncedNames path ∷ Synced n ∷ Renamed from path ∷ filled n from bytes) → ⊥
   renamed_first saves =
       let all : saves.since ≡ SyncedNames path ∷ Synced n ∷ Renamed from path ∷ filled n from bytes =
       sym (append-nil saves.since) ∙ sym saves.are in
-      let each = rw all at (saves.each bare (tt, (tt, (tt, answered)))) in
+      let each = rw all at (saves.each bare (tt, (tt, (tt, answered))) (tt, (tt, (tt, (tt, (tt, (tt, tt))))))) in
       ⊎_elim never (garbage bytes) (each.1.1.0 (Some (0 ∷ bytes)) (torn n path bytes (after_call (Renamed from path) wrote) at_once (file_same n false begun.is_kept)))
 
   pub names_unwaited : IsSafe path bytes (Renamed from path ∷ Synced n ∷ filled n from bytes) → ⊥
   names_unwaited safe =
-      nothing (safe bare (tt, (tt, answered)) None (None, inr (old (sym before)), refl)) where
+      nothing (safe bare (tt, (tt, answered)) (tt, (tt, (tt, (tt, (tt, tt))))) None (None, inr (old (sym before)), refl)) where
         synced : Disk
         synced = after_call (Synced n) wrote
 
@@ -81,11 +82,18 @@ module _ (n : ℕ) (from path bytes : List ℕ) (apart : from ≡ path → ⊥) 
         nothing : None ≡ Some bytes → ⊥
         nothing same = cc
 
-  pub both_answered : (AllAnswered path (renamed n from path bytes) bare × MayLeave (after_calls (renamed n from path bytes) bare) path (Some bytes))
-      × (AllAnswered path (linked n from path bytes) bare × MayLeave (after_calls (linked n from path bytes) bare) path (Some bytes))
+  pub both_answered : CanLeave path bytes (renamed n from path bytes) bare × CanLeave path bytes (linked n from path bytes) bare
   both_answered = (
-    ((tt, (tt, (tt, answered))), (Some n, inl (sym at_once), (bytes, refl, λ kept. sym held))),
-    ((tt, (tt, (free, (tt, answered)))), (Some n, inl (sym second), (bytes, refl, λ kept. sym held))),
+    record {
+      answered = (tt, (tt, (tt, answered)));
+      waited = (tt, (tt, (tt, (tt, (tt, (tt, tt))))));
+      leaves = (Some n, inl (sym at_once), (bytes, refl, λ kept. sym held));
+    },
+    record {
+      answered = (tt, (tt, (free, (tt, answered))));
+      waited = (tt, (tt, (tt, (tt, (tt, (tt, (tt, tt)))))));
+      leaves = (Some n, inl (sym second), (bytes, refl, λ kept. sym held));
+    },
   ) where
     second : (after_call (Removed from) (after_call (Linked from path) wrote)).file path ≡ Some n
     second = path_other from path None (after_call (Linked from path) wrote).file apart ∙ file_linked n from path wrote apart there
@@ -101,23 +109,66 @@ module _ (n : ℕ) (path bytes : List ℕ) where
   there_already : (bare_but path n).file path ≡ Some n
   there_already = path_same path (Some n) bare.file
 
-  pub outs_answered : (AllAnswered path (overwritten n path bytes) (bare_but path n) × HasOneLock n (overwritten n path bytes) (Opened path n (Regular true) ∷ []))
-      × (AllAnswered path (put_out n path bytes) bare × HasOneLock n (put_out n path bytes) (Opened path n (Regular true) ∷ []))
-  outs_answered = (
-    ((tt, (tt, (tt, (tt, (tt, ((refl, there_already, refl), tt)))))), opened_beside n path (overwritten n path bytes) (4, omega arith, refl)),
-    ((tt, (tt, (tt, (tt, ((refl, nowhere path n), tt))))), opened_beside n path (put_out n path bytes) (3, omega arith, refl)),
-  )
-
   pub unsynced : IsSafe path bytes (SyncedNames path ∷ Wrote n 0 bytes ∷ Locked n ∷ Made path n ∷ []) → ⊥
   unsynced safe =
       let made : Disk = after_call (Made path n) bare in
-      garbage bytes (safe bare (tt, (tt, (tt, ((refl, nowhere path n), tt)))) (Some (0 ∷ bytes))
+      garbage bytes (safe bare (tt, (tt, (tt, ((refl, nowhere path n), tt)))) (tt, (tt, (tt, (tt, tt)))) (Some (0 ∷ bytes))
       (torn n path bytes (after_calls (SyncedNames path ∷ Wrote n 0 bytes ∷ Locked n ∷ Made path n ∷ []) bare)
       (path_same path (Some n) bare.file) (file_same n false made.is_kept)))
 
   pub cut_last : IsSafe path bytes (SyncedNames path ∷ Cut n (length bytes) ∷ Synced n ∷ Wrote n 0 bytes ∷ Locked n ∷ Opened path n (Regular true) ∷ []) → ⊥
   cut_last safe =
       let synced : Disk = after_calls (Synced n ∷ Wrote n 0 bytes ∷ Locked n ∷ Opened path n (Regular true) ∷ []) (bare_but path n) in
-      garbage bytes (safe (bare_but path n) (tt, (tt, (tt, (tt, (tt, ((refl, there_already, refl), tt)))))) (Some (0 ∷ bytes))
+      garbage bytes (safe (bare_but path n) (tt, (tt, (tt, (tt, (tt, ((refl, there_already, refl), tt)))))) (tt, (tt, (tt, (tt, (tt, (tt, tt))))))
+      (Some (0 ∷ bytes))
       (torn n path bytes (after_calls (SyncedNames path ∷ Cut n (length bytes) ∷ Synced n ∷ Wrote n 0 bytes
       ∷ Locked n ∷ Opened path n (Regular true) ∷ []) (bare_but path n)) there_already (file_same n false synced.is_kept)))
+
+-- it gets its bytes by two writes
+module _ (n : ℕ) (path bytes more : List ℕ) where
+  -- it holds what was written, and more of it
+  wrote_first : (disk : Disk) → disk.bytes n ≡ [] → (after_call (Wrote n 0 bytes) disk).bytes n ≡ bytes
+  wrote_first disk empty = grind (arith, common_steps, append-nil, drop_all, file_same)
+
+  wrote_more : (disk : Disk) → disk.bytes n ≡ bytes → (after_call (Wrote n (length bytes) more) disk).bytes n ≡ bytes ++ more
+  wrote_more disk holds = grind (arith, common_steps, append-nil, drop_all, file_same, sized_within, take_all)
+
+  cut_there : (disk : Disk) → disk.bytes n ≡ bytes → (after_call (Cut n (length bytes)) disk).bytes n ≡ bytes
+  cut_there disk holds = grind (arith, common_steps, file_same, sized_within, take_all)
+
+  leaves_both : (disk : Disk) → disk.file path ≡ Some n → disk.bytes n ≡ bytes ++ more → MayLeave disk path (Some (bytes ++ more))
+  leaves_both disk leads holds = (Some n, inl (sym leads), (bytes ++ more, refl, λ kept. sym holds))
+
+  pub outs_answered : (CanLeave path (bytes ++ more) (overwritten n path bytes more) (bare_but path n)
+      × HasOneLock n (overwritten n path bytes more) (Opened path n (Regular true) ∷ []))
+      × (CanLeave path (bytes ++ more) (put_out n path bytes more) bare × HasOneLock n (put_out n path bytes more) (Opened path n (Regular true) ∷ []))
+  outs_answered = (
+    (
+      record {
+        answered = (tt, (tt, (tt, (tt, (tt, (tt, ((refl, there_already n path bytes, refl), tt)))))));
+        waited = (tt, (tt, (tt, (tt, (tt, (tt, (tt, tt)))))));
+        leaves =
+            leaves_both (after_calls (overwritten n path bytes more) (bare_but path n)) (there_already n path bytes)
+            (wrote_more cut (cut_there wrote (wrote_first (bare_but path n) refl)));
+      },
+      opened_beside n path (overwritten n path bytes more) (5, omega arith, refl),
+    ),
+    (
+      record {
+        answered = (tt, (tt, (tt, (tt, (tt, ((refl, nowhere path n), tt))))));
+        waited = (tt, (tt, (tt, (tt, (tt, (tt, tt))))));
+        leaves =
+            leaves_both (after_calls (put_out n path bytes more) bare) (path_same path (Some n) bare.file)
+            (wrote_more (after_call (Wrote n 0 bytes) made) (wrote_first made (file_same n [] bare.bytes)));
+      },
+      opened_beside n path (put_out n path bytes more) (4, omega arith, refl),
+    ),
+  ) where
+    wrote : Disk
+    wrote = after_call (Wrote n 0 bytes) (bare_but path n)
+
+    cut : Disk
+    cut = after_call (Cut n (length bytes)) wrote
+
+    made : Disk
+    made = after_call (Made path n) bare

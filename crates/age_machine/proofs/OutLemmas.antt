@@ -1,11 +1,11 @@
 -- A file that is written in place, call by call.
 use Rattle.std.proofs.lemmas.Grind.{common_steps}
-use Rattle.std.proofs.Common.{◌≡◌, ◌⊎◌, inl, inr, ⊎_elim, ℕ, zero, suc, ◌+◌, ◌<◌, List, [], ◌∷◌, ◌++◌, Bool, true, false, not, Option, None, length, take, drop}
-use Rattle.std.proofs.Common.{refl, sym, ◌∙◌, ap, subst, arith, rules, length-append, length-take}
+use Rattle.std.proofs.Common.{◌≡◌, ◌⊎◌, inl, inr, ⊎_elim, ℕ, zero, suc, ◌+◌, ◌<◌, List, [], ◌∷◌, ◌++◌, Bool, true, false, Option, None, length}
+use Rattle.std.proofs.Common.{refl, sym, ◌∙◌, ap, subst, arith, length-append, length-take}
 use Rattle.std.specs.Prelude.{Contains, Result, Ok, Err, OnOk, OnErr, is_ok}
 use Rattle.std.proofs.lemmas.Bool.{cases_Bool}
 use Rattle.std.proofs.lemmas.List.{append-nil, take_at, drop_all}
-use Rattle.age_machine.specs.{FileCall, Made, Opened, Wrote, Broke, Synced, Unwaited, Locked, Unlockable, Removed, SyncedNames, UnwaitedNames, IsOf, CountsFailure, Waited}
+use Rattle.age_machine.specs.{FileCall, Made, Opened, Wrote, Broke, Synced, Unwaited, Closed, Locked, Unlockable, Removed, SyncedNames, UnwaitedNames, CountsFailure, Waited}
 use Rattle.age_machine.specs.declared.in_place.Opening.{Opening}
 use Rattle.age_machine.specs.declared.in_place.Opening.TheVariants as way
 use Rattle.age_machine.specs.declared.machine.Kind.{Kind}
@@ -13,7 +13,7 @@ use Rattle.age_machine.specs.{Regular, sized, after_call, after_calls, IsAmong, 
 use Rattle.age_machine.specs.{OutFile, opening_of, is_making, text_of, IsOn, AllOn, MayChange, IsClaimed, LocksFirst, TouchesFile, HasOneLock, IsUnchanged}
 use Rattle.age_machine.specs.{HasWritten, IsBegun, IsJustOpened, IsOut}
 use Rattle.age_machine.specs.Disk.{Disk}
-use Rattle.age_machine.specs.inner.{AllOf, IsAbout, IsHeld, IsInPlace, StaysHeld, RemovesAt, is_waited}
+use Rattle.age_machine.specs.inner.{IsHeld, IsInPlace, StaysHeld, RemovesAt, is_waited}
 use Rattle.age_machine.proofs.SaveLemmas.{path_same, file_same, file_other, led, leaves_fewer, leaves_new, leaves_synced, contains_first, contains_later}
 use Rattle.age_machine.proofs.SaveLemmas.{if_either, if_made, if_waited, saves_loudly, saves_none, saves_quietly, sized_within}
 
@@ -47,11 +47,11 @@ module _ (path : List ℕ) (n : ℕ) where
 
 -- ---- What stays so.
 
-pub held_more : (path : List ℕ) (n : ℕ) (opening call : FileCall) (calls : List FileCall) → IsOn path n call
+pub held_more : (path : List ℕ) (n : ℕ) (opening call : FileCall) (calls : List FileCall) → IsOn path n calls call
     → IsHeld path n opening calls → IsHeld path n opening (call ∷ calls)
 held_more path n opening call calls on held = grind (arith, common_steps, claimed_later, contains_later)
 
-pub held_one : (path : List ℕ) (n : ℕ) (opening call : FileCall) (old new : List FileCall) → IsOn path n call → new ≡ call ∷ old
+pub held_one : (path : List ℕ) (n : ℕ) (opening call : FileCall) (old new : List FileCall) → IsOn path n old call → new ≡ call ∷ old
     → StaysHeld path n opening old new
 held_one path n opening call old new on is held = rw is (held_more path n opening call old on held)
 
@@ -61,18 +61,18 @@ held_named path n opening old new either held =
     if_either (IsHeld path n opening) (SyncedNames path) (UnwaitedNames path) old new held (held_more path n opening (SyncedNames path) old refl held)
     (held_more path n opening (UnwaitedNames path) old refl held) either
 
-on_of : (path : List ℕ) (n : ℕ) (call : FileCall) → IsOf n call → IsOn path n call
-on_of path n (Made p m) of = absurd of
-on_of path n call of = search rules
+pub held_settled : (path : List ℕ) (n : ℕ) (opening : FileCall) (old new : List FileCall)
+    → (new ≡ old) ⊎ Waited (Synced n) (Unwaited n) old new → StaysHeld path n opening old new
+held_settled path n opening old new either held =
+    if_either (IsHeld path n opening) (Synced n) (Unwaited n) old new held (held_more path n opening (Synced n) old refl held)
+    (held_more path n opening (Unwaited n) old refl held) either
 
-held_all : (path : List ℕ) (n : ℕ) (opening : FileCall) (since old : List FileCall) → AllOf n since → IsHeld path n opening old
-    → IsHeld path n opening (since ++ old)
-held_all path n opening [] old all held = held
-held_all path n opening (call ∷ since) old all held =
-    held_more path n opening call (since ++ old) (on_of path n call all.0) (held_all path n opening since old all.1 held)
-
-pub held_about : (path : List ℕ) (n : ℕ) (opening : FileCall) (old new : List FileCall) → IsAbout n old new → StaysHeld path n opening old new
-held_about path n opening old new about held = rw about.are (held_all path n opening about.since old about.all held)
+-- It was closed, and then its name was waited for, or not.
+pub closed_named : (path : List ℕ) (n : ℕ) (mid new : List FileCall) → Contains mid (Closed n)
+    → (new ≡ mid) ⊎ Waited (SyncedNames path) (UnwaitedNames path) mid new → Contains new (Closed n)
+closed_named path n mid new closed =
+    if_either (λ (calls : List FileCall). Contains calls (Closed n)) (SyncedNames path) (UnwaitedNames path) mid new closed
+    (contains_later (SyncedNames path) (Closed n) mid closed) (contains_later (UnwaitedNames path) (Closed n) mid closed)
 
 -- ---- What is known by the call that opened it.
 
@@ -101,7 +101,7 @@ touches_held file opening calls made held =
 
 -- it is removed, or not
 module _ (file : OutFile) where
-  touches_more : (call : FileCall) (calls : List FileCall) → IsOn file.path file.number call → (MayChange file.number call → ⊥)
+  touches_more : (call : FileCall) (calls : List FileCall) → IsOn file.path file.number calls call → (MayChange file.number call → ⊥)
       → TouchesFile file calls → TouchesFile file (call ∷ calls)
   touches_more call calls on quiet touches = grind (arith, common_steps, contains_later)
 
@@ -163,12 +163,12 @@ module _ (path : List ℕ) (n m : ℕ) (other : m ≡ n → ⊥) where
   apart_by : (k : ℕ) → k ≡ n → k ≡ m → ⊥
   apart_by k is same = other (sym same ∙ is)
 
-  other_kept : (call : FileCall) → IsOn path n call → (disk : Disk) → (after_call call disk).bytes m ≡ disk.bytes m
-  other_kept call h0 disk = grind (arith, common_steps, apart_by, file_other)
+  other_kept : (before : List FileCall) (call : FileCall) → IsOn path n before call → (disk : Disk) → (after_call call disk).bytes m ≡ disk.bytes m
+  other_kept before call h0 disk = grind (arith, common_steps, apart_by, file_other)
 
   pub others_kept : (calls : List FileCall) → AllOn path n calls → (disk : Disk) → (after_calls calls disk).bytes m ≡ disk.bytes m
   others_kept [] on disk = refl
-  others_kept (call ∷ calls) on disk = other_kept call on.0 (after_calls calls disk) ∙ others_kept calls on.1 disk
+  others_kept (call ∷ calls) on disk = other_kept calls call on.0 (after_calls calls disk) ∙ others_kept calls on.1 disk
 
 -- ---- What it holds.
 
@@ -214,7 +214,7 @@ module _ (path : List ℕ) (n : ℕ) (opening : Opening) (is_stale is_lost is_cl
   out_wrote part sum now later claimed is some added same =
       rw is (record {
         opened = contains_later (Wrote n written part) call calls out.opened;
-        on = (refl, out.on);
+        on = ((refl, sym out.written), out.on);
         written =
             length-append (text_of calls) part ∙ (ap (λ (k : ℕ). k + length part) out.written ∙ sym added);
         same = λ none. absurd (empty none);
@@ -303,7 +303,7 @@ saves_made : (path : List ℕ) (n : ℕ) → SavesWhole path [] [] (Made path n 
 saves_made path n = grind (arith, common_steps, file_other, file_same, leaves_new, path_same, saves_loudly, saves_none)
 
 saves_opened : (path : List ℕ) (n : ℕ) (kind : Kind) → SavesWhole path [] [] (Opened path n kind ∷ [])
-saves_opened path n kind = saves_quietly path [] [] (Opened path n kind) [] (saves_none path [] []) (λ disk answers left leaves. leaves)
+saves_opened path n kind = saves_quietly path [] [] (Opened path n kind) [] (saves_none path [] []) (λ disk answers waited left leaves. leaves)
 
 -- what was made where nothing was is removed
 leaves_taken : (path : List ℕ) (n : ℕ) (disk : Disk) → disk.file path ≡ None → (left : Option (List ℕ))
@@ -330,7 +330,7 @@ fresh_made path n calls h0 = grind (arith, common_steps)
 -- and it is removed
 saves_removed : (path : List ℕ) (n : ℕ) (calls : List FileCall) → IsJustOpened n (Made path n) calls → SavesWhole path [] [] (Removed path ∷ calls)
 saves_removed path n calls fresh =
-    saves_quietly path [] [] (Removed path) calls (saves_claimed path n (Made path n ∷ []) calls (saves_made path n) fresh) (λ disk answers left leaves.
+    saves_quietly path [] [] (Removed path) calls (saves_claimed path n (Made path n ∷ []) calls (saves_made path n) fresh) (λ disk answers waited left leaves.
     let made = fresh_made path n calls fresh disk answers.1 in
     rw made.0 (leaves_taken path n disk made.1 left (rw made.0 at leaves)))
 

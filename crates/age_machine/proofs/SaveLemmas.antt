@@ -2,12 +2,12 @@
 use Rattle.std.proofs.lemmas.Grind.{common_steps}
 use Rattle.std.proofs.lemmas.Bool.Decides.{eqb_tells}
 use Rattle.std.proofs.Common.{◌≡◌, ◌⊎◌, inl, inr, ℕ, List, [], ◌∷◌, Bool, Option, Some, None, refl, sym, ◌∙◌, ap, subst, rules, ⊎_elim, ◌+◌, ◌-◌, ◌≤◌, ◌++◌}
-use Rattle.std.proofs.Common.{false, length, take, drop, not, arith, append_assoc, length-append, length-drop, take-add}
+use Rattle.std.proofs.Common.{false, length, take, drop, arith, append_assoc, length-append, length-drop, take-add}
 use Rattle.std.specs.Prelude.{bytes_eq, if◌then◌else◌, Contains, Result, Ok, Err, OnOk, OnErr, replicate}
 use Rattle.std.proofs.lemmas.Bool.{false_from_ne_true, eq-eqb, ne_eqb}
 use Rattle.std.proofs.lemmas.Slice.Eq.{bytes_eq-Decides}
-use Rattle.age_machine.specs.{FileCall, Made, Wrote, IsOf, Linked, Renamed, Removed, SyncedNames, at_path, for_file, changed, after_call, IsAmong, MayLead}
-use Rattle.age_machine.specs.{MayLeaveFile, MayLeave, Synced, Unwaited, Missing, UnwaitedNames, MayHave, Waited, after_calls, sized, written, AllAnswered, IsBeside, IsKept}
+use Rattle.age_machine.specs.{FileCall, Made, Wrote, Closed, IsOf, Linked, Renamed, Removed, SyncedNames, at_path, for_file, changed, after_call, IsAmong, MayLead}
+use Rattle.age_machine.specs.{MayLeaveFile, MayLeave, Synced, Unwaited, Missing, UnwaitedNames, MayHave, Waited, after_calls, sized, written, AllAnswered, AllWaited, IsBeside, IsKept}
 use Rattle.age_machine.specs.{AtEachMoment, Throughout, SavesWhole, SparesFile, HasMade, IsLonger, IsWithin, AllWithin, Touches, IsSafe, Replaces, HasBeside}
 use Rattle.age_machine.specs.Disk.{Disk}
 use Rattle.age_machine.specs.inner.{Has, AllOf, IsAbout, HasTried, HasPlaced, Fills, IsInPlace, IsReady, WritesOver, CutsOff}
@@ -165,26 +165,33 @@ if_either P waits cant old new none one other = ⊎_elim (λ same. subst P (sym 
 
 module _ (path : List ℕ) (P : Disk → List FileCall → Type 0) (old : List FileCall) where
   pub throughout_none : ((disk : Disk) → P disk old) → Throughout path P old old
-  throughout_none here = record { since = []; are = refl; each = λ disk answers. here disk }
+  throughout_none here = record { since = []; are = refl; each = λ disk answers waited. here disk }
 
   pub throughout_more : (call : FileCall) (calls : List FileCall) → Throughout path P old calls
-      → ((disk : Disk) → AllAnswered path (call ∷ calls) disk → P disk (call ∷ calls)) → Throughout path P old (call ∷ calls)
+      → ((disk : Disk) → AllAnswered path (call ∷ calls) disk → AllWaited (call ∷ calls) → P disk (call ∷ calls)) → Throughout path P old (call ∷ calls)
   throughout_more call calls before here = record {
     since = call ∷ before.since;
     are = ap (λ (l : List FileCall). call ∷ l) before.are;
-    each = λ disk answers. (subst (λ (l : List FileCall). P disk (call ∷ l)) before.are (here disk answers), before.each disk answers.1);
+    each = λ disk answers waited. (
+      subst (λ (l : List FileCall). P disk (call ∷ l)) before.are (here disk answers waited),
+      before.each disk answers.1 waited.1,
+    );
   }
 
   at_last : (Q : List FileCall → Type 0) (since : List FileCall) → AtEachMoment Q since old → Q (since ++ old)
   at_last Q [] each = each
   at_last Q (call ∷ since) each = each.0
 
-  pub throughout_last : (calls : List FileCall) → Throughout path P old calls → (disk : Disk) → AllAnswered path calls disk → P disk calls
-  throughout_last calls all disk answers = subst (P disk) (sym all.are) (at_last (P disk) all.since (all.each disk answers))
+  pub throughout_last : (calls : List FileCall) → Throughout path P old calls → (disk : Disk) → AllAnswered path calls disk → AllWaited calls → P disk calls
+  throughout_last calls all disk answers waited = subst (P disk) (sym all.are) (at_last (P disk) all.since (all.each disk answers waited))
 
 answers_then : (path : List ℕ) (since old : List FileCall) (disk : Disk) → AllAnswered path (since ++ old) disk → AllAnswered path old disk
 answers_then path [] old disk answers = answers
 answers_then path (call ∷ since) old disk answers = answers_then path since old disk answers.1
+
+waited_then : (since old : List FileCall) → AllWaited (since ++ old) → AllWaited old
+waited_then [] old waited = waited
+waited_then (call ∷ since) old waited = waited_then since old waited.1
 
 each_then : (P Q : List FileCall → Type 0) (second first old : List FileCall) → AtEachMoment P first old
     → AtEachMoment Q second (first ++ old) → ((calls : List FileCall) → Q calls → P calls) → AtEachMoment P (second ++ first) old
@@ -201,11 +208,12 @@ throughout_then : (path : List ℕ) (P Q : Disk → List FileCall → Type 0) (o
 throughout_then path P Q old mid new first second carry = record {
   since = second.since ++ first.since;
   are = rw (second.are, first.are, append_assoc);
-  each = λ disk answers. let were : AllAnswered path mid disk =
+  each = λ disk answers waited. let were : AllAnswered path mid disk =
       answers_then path second.since mid disk (subst (λ (l : List FileCall). AllAnswered path l disk) second.are answers) in
-      each_then (P disk) (Q disk) second.since first.since old (first.each disk were)
-      (subst (AtEachMoment (Q disk) second.since) first.are (second.each disk answers))
-      (carry disk (throughout_last path P old mid first disk were));
+      let was : AllWaited mid = waited_then second.since mid (subst AllWaited second.are waited) in
+      each_then (P disk) (Q disk) second.since first.since old (first.each disk were was)
+      (subst (AtEachMoment (Q disk) second.since) first.are (second.each disk answers waited))
+      (carry disk (throughout_last path P old mid first disk were was));
 }
 
 -- ---- What a power cut leaves.
@@ -221,18 +229,18 @@ saves_then path bytes old mid new first second =
 
 -- after a call that lets the path lead to these bytes
 pub saves_loudly : (path bytes : List ℕ) (old : List FileCall) (call : FileCall) (calls : List FileCall) → SavesWhole path bytes old calls
-    → ((disk : Disk) → AllAnswered path (call ∷ calls) disk → (left : Option (List ℕ)) → MayLeave (after_calls (call ∷ calls) disk) path left
-    → MayLeave (after_calls calls disk) path left ⊎ (left ≡ Some bytes)) → SavesWhole path bytes old (call ∷ calls)
+    → ((disk : Disk) → AllAnswered path (call ∷ calls) disk → AllWaited (call ∷ calls) → (left : Option (List ℕ))
+    → MayLeave (after_calls (call ∷ calls) disk) path left → MayLeave (after_calls calls disk) path left ⊎ (left ≡ Some bytes)) → SavesWhole path bytes old (call ∷ calls)
 saves_loudly path bytes old call calls saves loud =
-    throughout_more path _ old call calls saves (λ disk answers left leaves.
-    ⊎_elim (λ was. throughout_last path _ old calls saves disk answers.1 left was) (λ is. inr is) (loud disk answers left leaves))
+    throughout_more path _ old call calls saves (λ disk answers waited left leaves.
+    ⊎_elim (λ was. throughout_last path _ old calls saves disk answers.1 waited.1 left was) (λ is. inr is) (loud disk answers waited left leaves))
 
 -- where the path leads nowhere else
 pub saves_quietly : (path bytes : List ℕ) (old : List FileCall) (call : FileCall) (calls : List FileCall) → SavesWhole path bytes old calls
-    → ((disk : Disk) → AllAnswered path (call ∷ calls) disk → (left : Option (List ℕ))
+    → ((disk : Disk) → AllAnswered path (call ∷ calls) disk → AllWaited (call ∷ calls) → (left : Option (List ℕ))
     → MayLeave (after_calls (call ∷ calls) disk) path left → MayLeave (after_calls calls disk) path left) → SavesWhole path bytes old (call ∷ calls)
 saves_quietly path bytes old call calls saves quiet =
-    saves_loudly path bytes old call calls saves (λ disk answers left leaves. inl (quiet disk answers left leaves))
+    saves_loudly path bytes old call calls saves (λ disk answers waited left leaves. inl (quiet disk answers waited left leaves))
 
 -- ---- What stays at the path.
 
@@ -297,7 +305,7 @@ module _ (path from : List ℕ) (n : ℕ) (old : List FileCall) where
     has =
         has_more path from n old call calls beside.has (λ since made. within_of path from n call since of made);
     apart = beside.apart;
-    saves = λ bytes. saves_quietly path bytes old call calls (beside.saves bytes) (λ disk answers.
+    saves = λ bytes. saves_quietly path bytes old call calls (beside.saves bytes) (λ disk answers waited.
         leaves_apart n path (after_calls calls disk) (after_call call (after_calls calls disk))
         (apart_of n path call (after_calls calls disk) of) (beside.elsewhere disk answers.1));
     spares =
@@ -324,7 +332,7 @@ module _ (path from : List ℕ) (n : ℕ) (old : List FileCall) where
       };
       apart = longer.2;
       saves = λ bytes. saves_quietly path bytes old (Made from n) old (saves_none path bytes old)
-          (λ disk answers. leaves_apart n path (after_calls old disk) (after_call (Made from n) (after_calls old disk))
+          (λ disk answers waited. leaves_apart n path (after_calls old disk) (after_call (Made from n) (after_calls old disk))
           (apart_made n path from (after_calls old disk) longer.2) answers.0.1);
       spares =
           spares_quietly path old (Made from n) old (spares_none path old) (λ disk answers m is.
@@ -366,6 +374,10 @@ module _ {E : Type 0} (to : Spot) (path bytes : List ℕ) (wanted : Durability) 
 pub either_way : {X E P Q G : Type 0} (r : Result X E) → OnOk r P → OnErr r Q → (P → G) → (Q → G) → G
 either_way (Ok x) done failed if_done if_failed = if_done done
 either_way (Err e) done failed if_done if_failed = if_failed failed
+
+pub on_ok_both : {X E : Type 0} (P Q : Type 0) (r : Result X E) → OnOk r P → OnOk r Q → OnOk r (P × Q)
+on_ok_both P Q (Ok x) first second = (first, second)
+on_ok_both P Q (Err e) first second = tt
 
 pub on_ok : {X E P : Type 0} (r : Result X E) → P → OnOk r P
 on_ok (Ok x) holds = holds
@@ -432,7 +444,16 @@ pub fills_waited : (n : ℕ) (bytes : List ℕ) (old wrote cut waited : List Fil
     → Waited (Synced n) (Unwaited n) cut waited → Fills n bytes old waited
 fills_waited n bytes old wrote cut waited writes cuts = grind (arith, common_steps, file_same, if_waited, whole)
 
+-- and it is closed
+pub fills_closed : (n : ℕ) (bytes : List ℕ) (old calls : List FileCall) → Fills n bytes old calls → Fills n bytes old (Closed n ∷ calls)
+fills_closed n bytes old calls fills = record { on = λ path disk answers waited. fills.on path disk answers.1 waited.1 }
+
 -- ---- How a file that was filled comes to its path.
+
+pub placed_closed : (path : List ℕ) (n : ℕ) (bytes : List ℕ) (calls : List FileCall) → IsInPlace path n bytes calls
+    → IsInPlace path n bytes (Closed n ∷ calls)
+placed_closed path n bytes calls put =
+    record { file = λ disk answers. put.file disk answers.1; has = λ disk answers waited. put.has disk answers.1 waited.1 }
 
 pub safe_named : (path : List ℕ) (n : ℕ) (bytes : List ℕ) (calls new : List FileCall) → IsInPlace path n bytes calls
     → Waited (SyncedNames path) (UnwaitedNames path) calls new → IsSafe path bytes new
@@ -469,14 +490,14 @@ module _ (path from : List ℕ) (n : ℕ) (bytes : List ℕ) (old : List FileCal
         tried = tried_beside spot.Free new beside;
         apart = beside.apart;
         file = beside.file;
-        has = λ synced disk answers. (fills synced).on path disk answers (kept.sound disk);
+        has = λ synced disk answers waited. (fills synced).on path disk answers waited (kept.sound disk);
       }
 
   -- after one more call, by which the path may come to lead to it
   tried_more : (to : Spot) (call : FileCall) (calls : List FileCall) → ((since : List FileCall) → Contains since (Made from n) → IsWithin path since call)
       → (to ≡ spot.Free → (disk : Disk) → AllAnswered path (call ∷ calls) disk → (m : ℕ)
       → (after_calls calls disk).file path ≡ Some m → (after_calls (call ∷ calls) disk).file path ≡ Some m)
-      → (wanted ≡ wait.Synced → (disk : Disk) → AllAnswered path (call ∷ calls) disk → (left : Option (List ℕ))
+      → (wanted ≡ wait.Synced → (disk : Disk) → AllAnswered path (call ∷ calls) disk → AllWaited (call ∷ calls) → (left : Option (List ℕ))
       → MayLeave (after_calls (call ∷ calls) disk) path left → MayLeave (after_calls calls disk) path left ⊎ (left ≡ Some bytes))
       → Tried to calls → Tried to (call ∷ calls)
   tried_more to call calls within spares saves tried = record {
@@ -487,43 +508,43 @@ module _ (path from : List ℕ) (n : ℕ) (bytes : List ℕ) (old : List FileCal
 
   ready_missing : (calls : List FileCall) → Ready calls → Ready (Missing path ∷ calls)
   ready_missing calls ready = record {
-    tried = tried_more spot.Free (Missing path) calls (λ since made. refl) (λ free disk answers m is. is) (λ synced disk answers left leaves. inl leaves) ready.tried;
+    tried = tried_more spot.Free (Missing path) calls (λ since made. refl) (λ free disk answers m is. is) (λ synced disk answers waited left leaves. inl leaves) ready.tried;
     apart = ready.apart;
     file = λ disk answers. ready.file disk answers.1;
-    has = λ synced disk answers. ready.has synced disk answers.1;
+    has = λ synced disk answers waited. ready.has synced disk answers.1 waited.1;
   }
 
   pub ready_may : (calls linked : List FileCall) → Ready calls → MayHave (Linked from path) calls linked → Ready linked
   ready_may calls linked ready = if_made Ready (Linked from path) calls linked ready (record {
     tried = tried_more spot.Free (Linked from path) calls (λ since made. ((n, made), refl)) (λ free disk answers m is. absurd (nothing m (sym answers.0 ∙ is)))
-        (λ synced disk answers. leaves_linked n from path (after_calls calls disk) ready.apart (ready.file disk answers.1) bytes
-        (ready.has synced disk answers.1)) ready.tried;
+        (λ synced disk answers waited. leaves_linked n from path (after_calls calls disk) ready.apart (ready.file disk answers.1) bytes
+        (ready.has synced disk answers.1 waited.1)) ready.tried;
     apart = ready.apart;
     file = λ disk answers. path_other path from _ (after_calls calls disk).file (λ same. ready.apart (sym same)) ∙ ready.file disk answers.1;
-    has = λ synced disk answers. ready.has synced disk answers.1;
+    has = λ synced disk answers waited. ready.has synced disk answers.1 waited.1;
   })
 
   pub tried_removed : (to : Spot) (calls new : List FileCall) → (from ≡ path → ⊥) → Tried to calls → MayHave (Removed from) calls new → Tried to new
   tried_removed to calls new apart tried =
       if_made (Tried to) (Removed from) calls new tried (tried_more to (Removed from) calls (λ since made. (n, made))
       (λ free disk answers m is. path_other from path None (after_calls calls disk).file apart ∙ is)
-      (λ synced disk answers left leaves. inl (leaves_removed path from (after_calls calls disk) apart left leaves)) tried)
+      (λ synced disk answers waited left leaves. inl (leaves_removed path from (after_calls calls disk) apart left leaves)) tried)
 
   pub tried_named : (to : Spot) (calls new : List FileCall) → Tried to calls
       → (new ≡ calls) ⊎ Waited (SyncedNames path) (UnwaitedNames path) calls new → Tried to new
   tried_named to calls new tried =
       if_either (Tried to) (SyncedNames path) (UnwaitedNames path) calls new tried
       (tried_more to (SyncedNames path) calls (λ since made. refl) (λ free disk answers m is. is)
-      (λ synced disk answers left leaves. inl (leaves_synced path (after_calls calls disk) left leaves)) tried)
-      (tried_more to (UnwaitedNames path) calls (λ since made. refl) (λ free disk answers. absurd answers.0) (λ synced disk answers. absurd answers.0) tried)
+      (λ synced disk answers waited left leaves. inl (leaves_synced path (after_calls calls disk) left leaves)) tried)
+      (tried_more to (UnwaitedNames path) calls (λ since made. refl) (λ free disk answers m is. is) (λ synced disk answers waited left leaves. inl leaves) tried)
 
   -- it is renamed
   renamed : (to : Spot) (calls : List FileCall) → Ready calls
       → (to ≡ spot.Free → (disk : Disk) → AllAnswered path calls disk → (after_calls calls disk).file path ≡ None) → Tried to (Renamed from path ∷ calls)
   renamed to calls ready none = tried_more to (Renamed from path) calls (λ since made. ((n, made), refl))
       (λ free disk answers m is. absurd (nothing m (sym (none free disk answers.1) ∙ is)))
-      (λ synced disk answers. leaves_renamed n from path (after_calls calls disk) ready.apart (ready.file disk answers.1) bytes
-      (ready.has synced disk answers.1)) (tried_ready to calls ready)
+      (λ synced disk answers waited. leaves_renamed n from path (after_calls calls disk) ready.apart (ready.file disk answers.1) bytes
+      (ready.has synced disk answers.1 waited.1)) (tried_ready to calls ready)
 
   -- where it is then
   put_renamed : (calls new : List FileCall) → Ready calls → wanted ≡ wait.Synced → new ≡ Renamed from path ∷ calls → IsInPlace path n bytes new
@@ -561,11 +582,11 @@ module _ (path from : List ℕ) (n : ℕ) (bytes : List ℕ) (old : List FileCal
       tried = tried_removed spot.Free linked new ready.apart (tried_ready spot.Free linked (ready_may calls linked ready (inr is))) may;
       done = λ synced. let put : IsInPlace path n bytes linked = rw is (record {
         file = λ disk answers. file_linked n from path (after_calls calls disk) ready.apart (ready.file disk answers.1);
-        has = λ disk answers. ready.has synced disk answers.1;
+        has = λ disk answers waited. ready.has synced disk answers.1 waited.1;
       }) in
           if_made (IsInPlace path n bytes) (Removed from) linked new put (record {
             file = λ disk answers. path_other from path None (after_calls linked disk).file ready.apart ∙ put.file disk answers.1;
-            has = λ disk answers. put.has disk answers.1;
+            has = λ disk answers waited. put.has disk answers.1 waited.1;
           }) may;
     }
 

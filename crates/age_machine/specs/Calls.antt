@@ -20,6 +20,8 @@ pub data FileCall : Type 0 where
   -- what a file holds has reached the disk; the system can't wait for it
   Synced : ℕ → FileCall
   Unwaited : ℕ → FileCall
+  -- what a run has of a file was closed, and the system said of nothing of it that it has failed
+  Closed : ℕ → FileCall
   -- this run alone has a file, until it ends; the system has no lock for it, so every run may have it
   Locked : ℕ → FileCall
   Unlockable : ℕ → FileCall
@@ -43,6 +45,7 @@ IsOf n (Broke m) = m ≡ n
 IsOf n (Measured m len) = m ≡ n
 IsOf n (Synced m) = m ≡ n
 IsOf n (Unwaited m) = m ≡ n
+IsOf n (Closed m) = m ≡ n
 IsOf n (Locked m) = m ≡ n
 IsOf n (Unlockable m) = m ≡ n
 IsOf n call = ⊥

@@ -1,7 +1,7 @@
 -- What calls leave on a disk, also if the power is cut after one of them.
 use Rattle.std.specs.Prelude.{◌≡◌, ◌⊎◌, ℕ, ◌+◌, ◌-◌, List, [], ◌∷◌, ◌++◌, length, take, drop, replicate}
 use Rattle.std.specs.Prelude.{Option, Some, None, Bool, true, false, not, bytes_eq, nat_eq, if◌then◌else◌}
-use Rattle.age_machine.specs.Calls.{FileCall, Made, Opened, Wrote, Cut, Broke, Measured, Synced, Unwaited}
+use Rattle.age_machine.specs.Calls.{FileCall, Made, Opened, Wrote, Cut, Broke, Measured, Synced, Unwaited, Closed}
 use Rattle.age_machine.specs.Calls.{Locked, Unlockable, Missing, Linked, Renamed, Removed, SyncedNames}
 use Rattle.age_machine.specs.Calls.{UnwaitedNames}
 
@@ -68,6 +68,7 @@ after_call (Broke n) disk = record disk {
 after_call (Measured n len) disk = disk
 after_call (Synced n) disk = record disk { is_kept = for_file n (not (disk.is_lost n)) disk.is_kept }
 after_call (Unwaited n) disk = disk
+after_call (Closed n) disk = disk
 after_call (Locked n) disk = disk
 after_call (Unlockable n) disk = disk
 after_call (Missing path) disk = disk

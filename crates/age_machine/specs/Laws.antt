@@ -1,11 +1,11 @@
 -- What may become of a file that is put to a path, or written in place, with a call less, or with two
 -- in another order.
-use Rattle.std.specs.Prelude.{◌≡◌, ◌≢◌, ◌<◌, ◌^◌, ℕ, List, [], ◌∷◌, length, Some, None, true, false, Contains}
+use Rattle.std.specs.Prelude.{◌≡◌, ◌≢◌, ◌<◌, ◌^◌, ℕ, List, [], ◌∷◌, ◌++◌, length, Some, None, true, false, Contains}
 use Rattle.age_machine.specs.Calls.{FileCall, Made, Opened, Wrote, Cut, Measured, Synced, Locked, Unlockable}
 use Rattle.age_machine.specs.Calls.{Linked, Renamed, Removed, SyncedNames}
 use Rattle.age_machine.specs.declared.machine.Kind.TheVariants.{Regular}
 use Rattle.age_machine.specs.Disk.{Disk, at_path, after_calls, MayLeave}
-use Rattle.age_machine.specs.Saves.{AllAnswered, SavesWhole, IsSafe, HasMade}
+use Rattle.age_machine.specs.Saves.{AllAnswered, AllWaited, SavesWhole, IsSafe, HasMade}
 use Rattle.age_machine.specs.Outs.{AllOn, MayChange, LocksFirst}
 use Rattle.age_machine.specs.Numbers.{number_of}
 use Rattle.age_machine.specs.declared.node.Node.{Node}
@@ -32,12 +32,16 @@ bare = record {
   is_lost = λ _. false;
 }
 
+-- A disk answers these calls, could be waited for, and a power cut may leave these bytes at a path.
+pub record CanLeave (path bytes : List ℕ) (calls : List FileCall) (disk : Disk) : Type 0 where
+  pub answered : AllAnswered path calls disk
+  pub waited : AllWaited calls
+  pub leaves : MayLeave (after_calls calls disk) path (Some bytes)
+
 abbrev pub WaitsAreAnswered : Type 0
 WaitsAreAnswered = (n : ℕ) (from path bytes : List ℕ) → from ≢ path
-    → (AllAnswered path (renamed n from path bytes) bare
-    × MayLeave (after_calls (renamed n from path bytes) bare) path (Some bytes))
-    × (AllAnswered path (linked n from path bytes) bare
-    × MayLeave (after_calls (linked n from path bytes) bare) path (Some bytes))
+    → CanLeave path bytes (renamed n from path bytes) bare
+    × CanLeave path bytes (linked n from path bytes) bare
 
 abbrev pub TornIfUnwaited : Type 0
 TornIfUnwaited = (n : ℕ) (from path bytes : List ℕ) → from ≢ path
@@ -58,14 +62,17 @@ LostIfNamesUnwaited = (n : ℕ) (from path bytes : List ℕ) → from ≢ path
 abbrev pub bare_but : List ℕ → ℕ → Disk
 bare_but path n = record bare { file = at_path path (Some n) bare.file }
 
--- the calls of an output that was there, and of one that is made, the newest first
-abbrev pub overwritten : ℕ → List ℕ → List ℕ → List FileCall
-overwritten n path bytes =
-    SyncedNames path ∷ Synced n ∷ Cut n (length bytes) ∷ Wrote n 0 bytes ∷ Locked n
-    ∷ Opened path n (Regular true) ∷ []
+-- the calls of an output that was there, and of one that is made, which gets its bytes by two writes;
+-- the newest first
+abbrev pub overwritten : ℕ → List ℕ → (bytes more : List ℕ) → List FileCall
+overwritten n path bytes more =
+    SyncedNames path ∷ Synced n ∷ Wrote n (length bytes) more ∷ Cut n (length bytes)
+    ∷ Wrote n 0 bytes ∷ Locked n ∷ Opened path n (Regular true) ∷ []
 
-abbrev pub put_out : ℕ → List ℕ → List ℕ → List FileCall
-put_out n path bytes = SyncedNames path ∷ Synced n ∷ Wrote n 0 bytes ∷ Locked n ∷ Made path n ∷ []
+abbrev pub put_out : ℕ → List ℕ → (bytes more : List ℕ) → List FileCall
+put_out n path bytes more =
+    SyncedNames path ∷ Synced n ∷ Wrote n (length bytes) more ∷ Wrote n 0 bytes ∷ Locked n
+    ∷ Made path n ∷ []
 
 abbrev pub TornIfUnsynced : Type 0
 TornIfUnsynced = (n : ℕ) (path bytes : List ℕ)
@@ -97,11 +104,11 @@ SecondRunIsHarmless = (n : ℕ) (one other : List FileCall) → HasOneLock n one
 
 -- the calls of an output are answered, while another run has opened it too
 abbrev pub OutsAreAnswered : Type 0
-OutsAreAnswered = (n : ℕ) (path bytes : List ℕ)
-    → (AllAnswered path (overwritten n path bytes) (bare_but path n)
-    × HasOneLock n (overwritten n path bytes) (Opened path n (Regular true) ∷ []))
-    × (AllAnswered path (put_out n path bytes) bare
-    × HasOneLock n (put_out n path bytes) (Opened path n (Regular true) ∷ []))
+OutsAreAnswered = (n : ℕ) (path bytes more : List ℕ)
+    → (CanLeave path (bytes ++ more) (overwritten n path bytes more) (bare_but path n)
+    × HasOneLock n (overwritten n path bytes more) (Opened path n (Regular true) ∷ []))
+    × (CanLeave path (bytes ++ more) (put_out n path bytes more) bare
+    × HasOneLock n (put_out n path bytes more) (Opened path n (Regular true) ∷ []))
 
 abbrev pub ChangedIfLockedLate : Type 0
 ChangedIfLockedLate = (n : ℕ) (path bytes : List ℕ)

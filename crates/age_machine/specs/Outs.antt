@@ -1,7 +1,8 @@
 -- A file that is written in place, by a machine that makes no other calls.
-use Rattle.std.specs.Prelude.{◌≡◌, ◌⊎◌, ℕ, List, [], ◌∷◌, ◌++◌, Bool, true, false, Contains}
-use Rattle.age_machine.specs.Calls.{FileCall, Made, Opened, Wrote, Cut, Broke, Locked, Unlockable, Removed}
+use Rattle.std.specs.Prelude.{◌≡◌, ◌⊎◌, ◌≤◌, ℕ, List, [], ◌∷◌, ◌++◌, length, Bool, true, false, Contains}
+use Rattle.age_machine.specs.Calls.{FileCall, Made, Opened, Wrote, Cut, Broke, Closed, Locked, Unlockable, Removed}
 use Rattle.age_machine.specs.Calls.{SyncedNames, UnwaitedNames, IsOf}
+use Rattle.age_machine.specs.Saves.{LeadsTo}
 use Rattle.age_machine.specs.declared.in_place.Opening.{Opening}
 use Rattle.age_machine.specs.declared.in_place.Opening.TheVariants as way
 use Rattle.age_machine.specs.declared.machine.Kind.TheVariants.{Regular}
@@ -42,18 +43,27 @@ has_changed (Wrote n at part ∷ calls) = true
 has_changed (Cut n len ∷ calls) = true
 has_changed (call ∷ calls) = has_changed calls
 
--- This call is about this path or this file; each of these is.
-abbrev pub IsOn : List ℕ → ℕ → FileCall → Type 0
-IsOn path n (Made p m) = (p ≡ path) × (m ≡ n)
-IsOn path n (Opened p m kind) = (p ≡ path) × (m ≡ n)
-IsOn path n (Removed p) = p ≡ path
-IsOn path n (SyncedNames p) = p ≡ path
-IsOn path n (UnwaitedNames p) = p ≡ path
-IsOn path n call = IsOf n call
+-- After these calls, this one is about this path or this file, which only the first of all opens or
+-- makes. What was written stays: a write goes to its end, and a cut leaves it. Each of these is so.
+abbrev pub IsOn : List ℕ → ℕ → (before : List FileCall) → FileCall → Type 0
+IsOn path n before (Made p m) = (p ≡ path) × (m ≡ n) × (before ≡ [])
+IsOn path n before (Opened p m kind) = (p ≡ path) × (m ≡ n) × (before ≡ [])
+IsOn path n before (Wrote m at part) = (m ≡ n) × (at ≡ length (text_of before))
+IsOn path n before (Cut m len) = (m ≡ n) × (length (text_of before) ≤ len)
+IsOn path n before (Removed p) = p ≡ path
+IsOn path n before (SyncedNames p) = p ≡ path
+IsOn path n before (UnwaitedNames p) = p ≡ path
+IsOn path n before call = IsOf n call
 
 abbrev pub AllOn : List ℕ → ℕ → List FileCall → Type 0
 AllOn path n [] = Unit {0}
-AllOn path n (call ∷ calls) = IsOn path n call × AllOn path n calls
+AllOn path n (call ∷ calls) = IsOn path n calls call × AllOn path n calls
+
+-- Its path leads to it, and it holds exactly these bytes, whatever has reached the disk; and it was
+-- closed.
+abbrev pub IsThereAs : OutFile → List ℕ → List FileCall → Type 0
+IsThereAs file bytes calls =
+    LeadsTo file.path file.number bytes calls × Contains calls (Closed file.number)
 
 -- ---- Of two runs one writes to a file.
 

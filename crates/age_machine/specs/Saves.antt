@@ -1,15 +1,15 @@
 -- What it means that a file is put to a path at once, whatever fails and whenever the power is cut.
 use Rattle.std.specs.Prelude.{◌≡◌, ◌≢◌, ◌⊎◌, ℕ, List, [], ◌∷◌, ◌++◌, length, Option, Some, None, true, false}
 use Rattle.std.specs.Prelude.{Contains}
-use Rattle.age_machine.specs.Calls.{FileCall, Made, Opened, Wrote, Cut, Broke, Measured, Synced, Unwaited}
+use Rattle.age_machine.specs.Calls.{FileCall, Made, Opened, Wrote, Cut, Broke, Measured, Synced, Unwaited, Closed}
 use Rattle.age_machine.specs.Calls.{Locked, Unlockable, Missing, Linked, Renamed, Removed}
 use Rattle.age_machine.specs.Calls.{SyncedNames, UnwaitedNames}
 use Rattle.age_machine.specs.declared.machine.Kind.TheVariants.{Regular}
 use Rattle.age_machine.specs.Disk.{Disk, after_calls, MayLead, MayLeave}
 
--- A disk on which this call is the next one answers as one that can be waited for. A file that is
--- made is a new one, to which the path may not lead, and comes where nothing is, as a link does. What
--- is opened is the regular file at its path, and no call about it has failed.
+-- A disk on which this call is the next one answers. A file that is made is a new one, to which the
+-- path may not lead, and comes where nothing is, as a link does. What is opened is the regular file at
+-- its path, and no call about it has failed.
 abbrev pub IsAnswered : List ℕ → FileCall → Disk → Type 0
 IsAnswered path (Made p n) disk = (disk.file p ≡ None) × (MayLead disk path (Some n) → ⊥)
 IsAnswered path (Opened p n kind) disk =
@@ -17,8 +17,6 @@ IsAnswered path (Opened p n kind) disk =
 IsAnswered path (Measured n len) disk = length (disk.bytes n) ≡ len
 IsAnswered path (Missing p) disk = disk.file p ≡ None
 IsAnswered path (Linked from to) disk = disk.file to ≡ None
-IsAnswered path (Unwaited n) disk = ⊥
-IsAnswered path (UnwaitedNames p) disk = ⊥
 IsAnswered path call disk = Unit {0}
 
 -- each of these calls is answered so
@@ -27,17 +25,27 @@ AllAnswered path [] disk = Unit {0}
 AllAnswered path (call ∷ calls) disk =
     IsAnswered path call (after_calls calls disk) × AllAnswered path calls disk
 
+-- The system could wait for the disk, if that is what this call was to do; so it could for each.
+abbrev pub IsWaited : FileCall → Type 0
+IsWaited (Unwaited n) = ⊥
+IsWaited (UnwaitedNames p) = ⊥
+IsWaited call = Unit {0}
+
+abbrev pub AllWaited : List FileCall → Type 0
+AllWaited [] = Unit {0}
+AllWaited (call ∷ calls) = IsWaited call × AllWaited calls
+
 -- this holds of the calls at each moment: after the old ones, and after each of those since
 abbrev pub AtEachMoment : (List FileCall → Type 0) → List FileCall → List FileCall → Type 0
 AtEachMoment P [] old = P old
 AtEachMoment P (call ∷ since) old = P (call ∷ (since ++ old)) × AtEachMoment P since old
 
--- on each disk that answers
+-- on each disk that answers, if the system could wait for it
 pub record Throughout (path : List ℕ) (P : Disk → List FileCall → Type 0) (old new : List FileCall)
     : Type 0 where
   pub since : List FileCall
   pub are : new ≡ since ++ old
-  pub each : (disk : Disk) → AllAnswered path new disk → AtEachMoment (P disk) since old
+  pub each : (disk : Disk) → AllAnswered path new disk → AllWaited new → AtEachMoment (P disk) since old
 
 -- A power cut leaves at a path what it might have left after the old calls, or these bytes.
 abbrev pub SavesWhole : List ℕ → List ℕ → List FileCall → List FileCall → Type 0
@@ -45,13 +53,13 @@ SavesWhole path bytes old = Throughout path (λ disk calls. (left : Option (List
     → MayLeave (after_calls calls disk) path left
     → MayLeave (after_calls old disk) path left ⊎ (left ≡ Some bytes)) old
 
--- A power cut leaves these bytes at a path and nothing else.
+-- A power cut leaves these bytes at a path and nothing else, if the system could wait for the disk.
 abbrev pub IsSafe : List ℕ → List ℕ → List FileCall → Type 0
-IsSafe path bytes calls = (disk : Disk) → AllAnswered path calls disk
+IsSafe path bytes calls = (disk : Disk) → AllAnswered path calls disk → AllWaited calls
     → (left : Option (List ℕ)) → MayLeave (after_calls calls disk) path left → left ≡ Some bytes
 
--- On each disk that answers, a path leads to this file, of just these bytes, about which no call has
--- failed.
+-- On each disk that answers, waited for or not, a path leads to this file, of just these bytes, about
+-- which no call has failed.
 abbrev pub LeadsTo : List ℕ → ℕ → List ℕ → List FileCall → Type 0
 LeadsTo path n bytes calls = (disk : Disk) → AllAnswered path calls disk
     → ((after_calls calls disk).file path ≡ Some n) × ((after_calls calls disk).bytes n ≡ bytes)
@@ -85,6 +93,7 @@ IsWithin path calls (Broke n) = HasMade n calls
 IsWithin path calls (Measured n len) = HasMade n calls
 IsWithin path calls (Synced n) = HasMade n calls
 IsWithin path calls (Unwaited n) = HasMade n calls
+IsWithin path calls (Closed n) = HasMade n calls
 IsWithin path calls (Locked n) = HasMade n calls
 IsWithin path calls (Unlockable n) = HasMade n calls
 IsWithin path calls (Missing p) = p ≡ path

@@ -3,7 +3,7 @@
 ghost use Rattle.std.specs.Prelude.{◌≡◌, ◌≢◌, ◌⊎◌, ◌≤◌, ◌<◌, ◌∷◌, string_bytes, IfOk, IfErr, OnOk, OnErr};
 ghost use Rattle.std.specs.Prelude.{MatchOption, length};
 ghost use Rattle.age_io.specs.declared.durability.Durability.TheVariants as wait;
-ghost use Rattle.age_machine.specs.Calls.{Made, Synced, Unwaited, Waited};
+ghost use Rattle.age_machine.specs.Calls.{Made, Broke, Synced, Unwaited, Waited};
 ghost use Rattle.age_machine.specs.Saves.{IsLonger};
 ghost use Rattle.age_machine.specs.Beside.{IsKept};
 ghost use Rattle.age_machine.specs.declared.beside.Unplaced.TheVariants.{Memory};
@@ -109,6 +109,8 @@ pub(crate) fn settle<M: Machine>(
     ensures synced { OnOk result (durability ≡ wait.Synced
         → Waited (Synced (M.number file.now)) (Unwaited (M.number file.now))
         (M.calls machine.old) (M.calls machine.new)) }
+    ensures broken { OnErr result
+        (M.calls machine.new ≡ Broke (M.number file.now) ∷ M.calls machine.old) }
     ensures counted { M.failed machine.old ≤ M.failed machine.new }
     ensures caused { OnErr result (M.failed machine.old < M.failed machine.new) }
 {

@@ -438,7 +438,10 @@ impl Machine for HostMachine {
 
     fn close(&mut self, file: &HostFile) -> io::Result<()> {
         match close_copy(&self.rt, &file.file) {
-            Ok(()) => Ok(()),
+            Ok(()) => {
+                self.calls.note(&Word::Closed(file.node));
+                Ok(())
+            }
             Err(error) => Err(self.break_file(file, error)),
         }
     }

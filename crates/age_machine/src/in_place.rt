@@ -1,12 +1,13 @@
 //! A regular file that is written in place.
 
 ghost use Rattle.std.specs.Prelude.{◌≡◌, ◌⊎◌, ◌≤◌, ◌<◌, ◌+◌, ◌^◌, ◌∷◌, ◌++◌, [], ℕ, List, length, take};
-ghost use Rattle.std.specs.Prelude.{string_bytes, true, false, is_some, IfOk, OnOk, OnErr};
+ghost use Rattle.std.specs.Prelude.{string_bytes, true, false, is_some, Contains, IfOk, OnOk, OnErr};
 ghost use Rattle.std.specs.Io.{WritesAtMost};
 ghost use Rattle.age_io.specs.declared.durability.Durability.TheVariants as wait;
-ghost use Rattle.age_machine.specs.Calls.{FileCall, Locked, Unlockable, SyncedNames, UnwaitedNames, Waited};
-ghost use Rattle.age_machine.specs.Saves.{SavesWhole, IsSafe, LeadsTo};
-ghost use Rattle.age_machine.specs.Outs.{opening_of, is_making, text_of, has_changed, IsClaimed, TouchesFile};
+ghost use Rattle.age_machine.specs.Calls.{FileCall, Closed, Locked, Unlockable, SyncedNames, UnwaitedNames, Waited};
+ghost use Rattle.age_machine.specs.Saves.{SavesWhole, IsSafe};
+ghost use Rattle.age_machine.specs.Outs.{opening_of, is_making, text_of, has_changed, IsClaimed};
+ghost use Rattle.age_machine.specs.Outs.{TouchesFile, IsThereAs};
 ghost use Rattle.age_machine.specs.Held.{IsBegun};
 ghost use Rattle.age_machine.specs.inner.Steps.{IsInPlace, StaysHeld, RemovesAt, is_waited};
 
@@ -114,8 +115,9 @@ fn cut_stale<M: Machine>(
     is_stale: bool,
     written: u64,
 ) -> io::Result<()>
-    ensures held { (path : List ℕ) (opening : FileCall) → StaysHeld path (M.number file.now) opening
-        (M.calls machine.old) (M.calls machine.new) }
+    ensures held { (path : List ℕ) (opening : FileCall)
+        → length (text_of (M.calls machine.old)) ≤ written → StaysHeld path (M.number file.now)
+        opening (M.calls machine.old) (M.calls machine.new) }
     ensures cut { OnOk result ((path text : List ℕ) → length text ≡ written
         → IsBegun path (M.number file.now) is_stale text (M.calls machine.old)
         → IsBegun path (M.number file.now) false text (M.calls machine.new)) }
@@ -139,8 +141,9 @@ fn finish<M: Machine>(
     shape: &Shape,
     durability: Durability,
 ) -> io::Result<()>
-    ensures held { (path : List ℕ) (opening : FileCall) → StaysHeld path (M.number file.now) opening
-        (M.calls machine.old) (M.calls machine.new) }
+    ensures held { (path : List ℕ) (opening : FileCall)
+        → length (text_of (M.calls machine.old)) ≤ shape.now.len → StaysHeld path
+        (M.number file.now) opening (M.calls machine.old) (M.calls machine.new) }
     ensures finished { OnOk result (durability ≡ wait.Synced → (path text : List ℕ)
         → length text ≡ shape.now.len
         → IsBegun path (M.number file.now) is_stale text (M.calls machine.old)
@@ -197,8 +200,9 @@ fn close_named<M: Machine>(
     ensures held { (opened : FileCall) → StaysHeld path.now (M.number file.now) opened
         (M.calls machine.old) (M.calls machine.new) }
     ensures named { OnOk result (durability ≡ wait.Synced → is_waited opening ≡ true
-        → Waited (SyncedNames path.now) (UnwaitedNames path.now) (M.calls machine.old)
-        (M.calls machine.new)) }
+        → Waited (SyncedNames path.now) (UnwaitedNames path.now)
+        (Closed (M.number file.now) ∷ M.calls machine.old) (M.calls machine.new)) }
+    ensures closed { OnOk result (Contains (M.calls machine.new) (Closed (M.number file.now))) }
     ensures begun { OnOk result ((text : List ℕ)
         → IsBegun path.now (M.number file.now) false text (M.calls machine.old)
         → IsBegun path.now (M.number file.now) false text (M.calls machine.new)) }
@@ -476,8 +480,8 @@ impl<M: Machine + Drop> Out<M> {
     pub fn end(mut self, durability: Durability) -> Ended<M>
         ensures safe { durability ≡ wait.Synced → self.failed ≡ 0 → OnOk result.end
             (IsSafe self.file.path (text_of self.calls) (M.calls result.machine)) }
-        ensures there { self.failed ≡ 0 → OnOk result.end
-            (LeadsTo self.file.path self.file.number (text_of self.calls) (M.calls result.machine)) }
+        ensures there { self.failed ≡ 0 → OnOk result.end (IsThereAs self.file (text_of self.calls)
+            (M.calls result.machine)) }
         ensures sure { OnOk result.end (self.is_lost ≡ false) }
         ensures within { TouchesFile self.file (M.calls result.machine) }
         ensures caused { OnErr result.end ((self.is_lost ≡ true)

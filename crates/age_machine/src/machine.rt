@@ -3,7 +3,7 @@
 ghost use Rattle.std.specs.Prelude.{◌≡◌, ◌≤◌, ◌<◌, ℕ, List, ◌∷◌, take, length, true, false, IfOk};
 ghost use Rattle.std.specs.Prelude.{OnOk, OnErr, MatchOption};
 ghost use Rattle.age_machine.specs.Calls.{FileCall, Made, Opened, Wrote, Cut, Broke, Measured, Synced};
-ghost use Rattle.age_machine.specs.Calls.{Unwaited, Locked, Unlockable, Missing, Linked, Renamed, Removed};
+ghost use Rattle.age_machine.specs.Calls.{Unwaited, Closed, Locked, Unlockable, Missing, Linked, Renamed, Removed};
 ghost use Rattle.age_machine.specs.Calls.{SyncedNames, UnwaitedNames, MayHave, Waited, CountsFailure};
 
 use std::io;
@@ -129,7 +129,7 @@ pub trait Machine {
     /// Lets the system say whether what was written has failed, as it does when a file is closed. It
     /// stays open.
     fn close(&mut self, file: &Self::File) -> io::Result<()>
-        ensures ok { OnOk result (calls self.new ≡ calls self.old) }
+        ensures ok { OnOk result (calls self.new ≡ Closed (number file.now) ∷ calls self.old) }
         ensures err { OnErr result (calls self.new ≡ Broke (number file.now) ∷ calls self.old) }
         ensures counted { CountsFailure result (failed self.old) (failed self.new) };
 

@@ -22,6 +22,7 @@ pub(crate) enum Word<'a> {
     Measured(Node, u64),
     Synced(Node),
     Unwaited(Node),
+    Closed(Node),
     Locked(Node),
     Unlockable(Node),
     Missing(&'a str),

@@ -1,6 +1,6 @@
 -- Which calls are noted. Private: no public contract cites this module.
 use Rattle.std.specs.Prelude.{List, [], ◌∷◌}
-use Rattle.age_machine.specs.Calls.{FileCall, Made, Opened, Wrote, Cut, Broke, Measured, Synced, Unwaited}
+use Rattle.age_machine.specs.Calls.{FileCall, Made, Opened, Wrote, Cut, Broke, Measured, Synced, Unwaited, Closed}
 use Rattle.age_machine.specs.Calls.{Locked, Unlockable, Missing, Linked, Renamed, Removed}
 use Rattle.age_machine.specs.Calls.{SyncedNames, UnwaitedNames}
 use Rattle.age_machine.specs.Numbers.{number_of}
@@ -19,6 +19,7 @@ file_call_of (word.Broke node) = Broke (number_of node)
 file_call_of (word.Measured node len) = Measured (number_of node) len
 file_call_of (word.Synced node) = Synced (number_of node)
 file_call_of (word.Unwaited node) = Unwaited (number_of node)
+file_call_of (word.Closed node) = Closed (number_of node)
 file_call_of (word.Locked node) = Locked (number_of node)
 file_call_of (word.Unlockable node) = Unlockable (number_of node)
 file_call_of (word.Missing path) = Missing path.now

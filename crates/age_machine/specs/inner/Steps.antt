@@ -5,7 +5,7 @@ use Rattle.age_io.specs.declared.durability.Durability.{Durability}
 use Rattle.age_io.specs.declared.durability.Durability.TheVariants as wait
 use Rattle.age_machine.specs.Calls.{FileCall, Removed, SyncedNames, UnwaitedNames, IsOf, MayHave, Waited}
 use Rattle.age_machine.specs.Disk.{Disk, after_calls}
-use Rattle.age_machine.specs.Saves.{AllAnswered, SavesWhole, SparesFile}
+use Rattle.age_machine.specs.Saves.{AllAnswered, AllWaited, SavesWhole, SparesFile}
 use Rattle.age_machine.specs.Beside.{HasBeside}
 use Rattle.age_machine.specs.Outs.{AllOn, IsClaimed, LocksFirst}
 use Rattle.age_machine.specs.declared.in_place.Opening.{Opening}
@@ -47,7 +47,7 @@ Has n text disk = (disk.bytes n ≡ text) × (disk.is_kept n ≡ true)
 
 -- a file of which no call has failed gets these bytes, which reach the disk
 pub record Fills (n : ℕ) (bytes : List ℕ) (old new : List FileCall) : Type 0 where
-  pub on : (path : List ℕ) (disk : Disk) → AllAnswered path new disk
+  pub on : (path : List ℕ) (disk : Disk) → AllAnswered path new disk → AllWaited new
       → (after_calls old disk).is_lost n ≡ false → Has n bytes (after_calls new disk)
 
 -- ---- A file that is written in place.
@@ -78,7 +78,8 @@ pub record RemovesAt (path : List ℕ) (old new : List FileCall) : Type 0 where
 -- it is at the path
 pub record IsInPlace (path : List ℕ) (n : ℕ) (bytes : List ℕ) (calls : List FileCall) : Type 0 where
   pub file : (disk : Disk) → AllAnswered path calls disk → (after_calls calls disk).file path ≡ Some n
-  pub has : (disk : Disk) → AllAnswered path calls disk → Has n bytes (after_calls calls disk)
+  pub has : (disk : Disk) → AllAnswered path calls disk → AllWaited calls
+      → Has n bytes (after_calls calls disk)
 
 -- what holds after that was tried
 pub record HasTried (to : Spot) (durability : Durability) (path from : List ℕ) (n : ℕ)
@@ -100,7 +101,7 @@ pub record IsReady (durability : Durability) (path from : List ℕ) (n : ℕ) (b
   pub tried : HasTried spot.Free durability path from n bytes old calls
   pub apart : from ≢ path
   pub file : (disk : Disk) → AllAnswered path calls disk → (after_calls calls disk).file from ≡ Some n
-  pub has : durability ≡ wait.Synced → (disk : Disk) → AllAnswered path calls disk
+  pub has : durability ≡ wait.Synced → (disk : Disk) → AllAnswered path calls disk → AllWaited calls
       → Has n bytes (after_calls calls disk)
 
 -- a file that is ready is put to the path

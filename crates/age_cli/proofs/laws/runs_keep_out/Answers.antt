@@ -1,6 +1,6 @@
 use Rattle.std.proofs.Common.{List, subst, sym, ap}
 use Rattle.age_fileset.specs.{FilesView, AreTrue, Outcome}
-use Rattle.age_cli.proofs.{headline_of, resumed_headline_of, spares_asked, spares_refused, failed_by, usage_by}
+use Rattle.age_cli.proofs.{encrypted_of, spares_done, headline_of, resumed_headline_of, spares_asked, spares_refused, failed_by, usage_by}
 use Rattle.age_cli.proofs.laws.runs_keep_out.Goals as goal
 
 pub returns : goal.returns
@@ -19,5 +19,7 @@ returns g c = λ words before after faults_old faults_new input output faults pr
         spares_asked words _ before after _ _ _ _ status was is kept_was kept_is ran.ended ran.obeys,
         λ two. spares_refused words _ before after _ _ _ _ status was is kept_was kept_is ran.ended ran.obeys
             (usage_by ran.ended status ran.status_is two),
+        spares_done words _ before after _ _ _ _ status was is kept_was kept_is ran.ended failed ran.obeys,
       ),
+      encrypted_of words _ before after _ _ _ _ status was is kept_was kept_is ran.ended failed ran.obeys,
     )

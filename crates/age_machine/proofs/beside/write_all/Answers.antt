@@ -1,4 +1,4 @@
-use Rattle.std.proofs.Common.{◌≡◌, ◌-◌, ◌≤◌, ◌∷◌, List, ℕ, length, drop, take, ap, ◌∙◌, refl, arith, length-drop}
+use Rattle.std.proofs.Common.{◌≡◌, ◌-◌, ◌≤◌, List, ℕ, length, drop, take, ap, ◌∙◌, refl, arith, length-drop}
 use Rattle.std.proofs.lemmas.List.{take_rest}
 use Rattle.age_machine.proofs.{about_more, writes_more}
 use Rattle.age_machine.proofs.beside.write_all.Goals as goal

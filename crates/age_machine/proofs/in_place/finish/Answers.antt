@@ -1,13 +1,16 @@
-use Rattle.age_machine.proofs.{held_about, begun_settled, on_ok, place_waited}
+use Rattle.std.proofs.Common.{refl}
+use Rattle.age_machine.specs.{Broke}
+use Rattle.age_machine.proofs.{held_one, held_settled, begun_settled, on_ok, place_waited}
 use Rattle.age_machine.proofs.in_place.finish.Goals as goal
 
 pub returns-in_err-settle-clause-held : goal.returns-in_err-settle-clause-held
-returns-in_err-settle-clause-held g c = λ path opening held. held_about path _ opening _ _ c.settle.ensures.about (c.cut_stale.ensures.held path opening held)
+returns-in_err-settle-clause-held g c =
+    λ path opening short held. held_one path _ opening (Broke _) _ _ refl c.in_err-settle.ensures.broken (c.cut_stale.ensures.held path opening short held)
 
 pub returns-clause-held : goal.returns-clause-held
 returns-clause-held g c =
-    λ path opening held. rw c.check.ensures.same
-    (held_about path _ opening _ _ c.settle.ensures.about (c.cut_stale.ensures.held path opening held))
+    λ path opening short held. rw c.check.ensures.same
+    (held_settled path _ opening _ _ c.in_ok-settle.ensures.either (c.cut_stale.ensures.held path opening short held))
 
 pub returns-clause-finished : goal.returns-clause-finished
 returns-clause-finished g c = on_ok c.check.result

@@ -8,7 +8,7 @@ invariant_of-self g c =
     let out = c.self.invariant in
     let some : 0 < c.self.inside.written =
     omega (arith, c.requires, ap (λ v. length (text_of v.calls)) c.self.view_is, out.written) in
-    out_after _ _ c.self.inside.opening _ _ _ _ _ _ out false _ _ _ some (c.cut_stale.ensures.held _ _) c.cut_stale.ensures.text (λ sound. c.in-Ok.ensures.cut _ _ out.written
+    out_after _ _ c.self.inside.opening _ _ _ _ _ _ out false _ _ _ some (c.cut_stale.ensures.held _ _ (omega (arith, out.written))) c.cut_stale.ensures.text (λ sound. c.in-Ok.ensures.cut _ _ out.written
     (out.begun (sym c.in-Ok.ensures.counted ∙ sound))) (λ is. omega (arith, out.lost is, c.in-Ok.ensures.counted))
 
 pub invariant_of-self-in-Err : goal.invariant_of-self-in-Err
@@ -16,5 +16,5 @@ invariant_of-self-in-Err g c =
     let out = c.self.invariant in
     let some : 0 < c.self.inside.written =
     omega (arith, c.requires, ap (λ v. length (text_of v.calls)) c.self.view_is, out.written) in
-    out_after _ _ c.self.inside.opening _ _ _ _ _ _ out _ _ _ _ some (c.cut_stale.ensures.held _ _) c.cut_stale.ensures.text
+    out_after _ _ c.self.inside.opening _ _ _ _ _ _ out _ _ _ _ some (c.cut_stale.ensures.held _ _ (omega (arith, out.written))) c.cut_stale.ensures.text
     (λ sound. absurd (omega (arith, sound, c.in-Err.ensures))) (λ is. omega (arith, c.in-Err.ensures))

@@ -1,7 +1,7 @@
-use Rattle.std.proofs.Common.{◌∙◌, length, refl, ap, sym}
+use Rattle.std.proofs.Common.{◌∙◌, length, refl, ap, sym, arith}
 use Rattle.std.proofs.lemmas.Result.{on_ok_weaker}
 use Rattle.age_machine.specs.{OutView, text_of}
-use Rattle.age_machine.proofs.{safe_named, leads_begun, out_held, touches_held, touches_now, waited_for}
+use Rattle.age_machine.proofs.{safe_named, placed_closed, leads_begun, on_ok_both, out_held, touches_held, touches_now, waited_for}
 use Rattle.age_machine.proofs.in_place.Out.end.Goals as goal
 
 pub returns-in-Ok-clause-safe : goal.returns-in-Ok-clause-safe
@@ -13,10 +13,10 @@ returns-in-Ok-clause-safe g c =
     let claimed = rw (← c.self.view_is) at c.in_default.ensures.claimed in
     let stays = rw c.as_str.ensures.value at c.close_named-closed.ensures.held in
     let named = rw c.as_str.ensures.value at c.close_named-closed.ensures.named in
-    let held = stays _ (c.finish-finished.ensures.held _ _ (out_held _ _ opening _ _ _ _ _ _ c.self.invariant claimed)) in
+    let held = stays _ (c.finish-finished.ensures.held _ _ (omega (arith, long)) (out_held _ _ opening _ _ _ _ _ _ c.self.invariant claimed)) in
     rw (← same.0, ← same.2, ← c.self.view_is)
-    (on_ok_weaker c.close_named-closed.result (λ named disk answers. safe_named _ _ _ _ closed (c.in-Ok.ensures.finished synced _ _ long (c.self.invariant.begun unfailed))
-    (named synced (waited_for _ _ opening closed disk held.opened answers)) disk answers) named)
+    (on_ok_weaker c.close_named-closed.result (λ named disk answers waited. safe_named _ _ _ _ closed (placed_closed _ _ _ _ (c.in-Ok.ensures.finished synced _ _ long (c.self.invariant.begun unfailed)))
+    (named synced (waited_for _ _ opening closed disk held.opened answers)) disk answers waited) named)
 
 pub returns-in-Ok-clause-there : goal.returns-in-Ok-clause-there
 returns-in-Ok-clause-there g c =
@@ -26,21 +26,25 @@ returns-in-Ok-clause-there g c =
     let long = ap (λ (v : OutView). length (text_of v.calls)) c.self.view_is ∙ sym c.shape-shape.ensures in
     let keeps = rw c.as_str.ensures.value at c.close_named-closed.ensures.begun in
     rw (← same.0, ← same.2, ← c.self.view_is)
+    (on_ok_both _ _ c.close_named-closed.result
     (on_ok_weaker c.close_named-closed.result (λ keeps. leads_begun _ _ _ closed (keeps _ (c.in-Ok.ensures.begun _ _ long (c.self.invariant.begun unfailed)))) keeps)
+    c.close_named-closed.ensures.closed)
 
 pub returns-in-Ok-clause-within : goal.returns-in-Ok-clause-within
 returns-in-Ok-clause-within g c =
+    let long = ap (λ (v : OutView). length (text_of v.calls)) c.self.view_is ∙ sym c.shape-shape.ensures in
     let claimed = rw (← c.self.view_is) at c.in_default.ensures.claimed in
     let stays = rw c.as_str.ensures.value at c.close_named-closed.ensures.held in
     rw (← c.claim-claimed.ensures.same.0, ← c.self.view_is)
-    (touches_held _ _ _ refl (stays _ (c.finish-finished.ensures.held _ _ (out_held _ _ c.self.inside.opening _ _ _ _ _ _ c.self.invariant claimed))))
+    (touches_held _ _ _ refl (stays _ (c.finish-finished.ensures.held _ _ (omega (arith, long)) (out_held _ _ c.self.inside.opening _ _ _ _ _ _ c.self.invariant claimed))))
 
 pub returns-clause-within : goal.returns-clause-within
 returns-clause-within g c =
+    let long = ap (λ (v : OutView). length (text_of v.calls)) c.self.view_is ∙ sym c.shape-shape.ensures in
     let claimed = rw (← c.self.view_is) at c.in_default.ensures.claimed in
     let stays = rw c.as_str.ensures.value at c.close_named-closed.ensures.held in
     rw (← c.claim-claimed.ensures.same.0, ← c.self.view_is)
-    (touches_held _ _ _ refl (stays _ (c.finish-finished.ensures.held _ _ (out_held _ _ c.self.inside.opening _ _ _ _ _ _ c.self.invariant claimed))))
+    (touches_held _ _ _ refl (stays _ (c.finish-finished.ensures.held _ _ (omega (arith, long)) (out_held _ _ c.self.inside.opening _ _ _ _ _ _ c.self.invariant claimed))))
 
 pub returns-in-Err-clause-within : goal.returns-in-Err-clause-within
 returns-in-Err-clause-within g c =
