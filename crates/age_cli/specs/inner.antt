@@ -1,5 +1,4 @@
--- What only private code cites: how a part of the program ended, the second reading of an input,
--- and the files of a command.
+-- What only private code cites: how a part of the program ended, and the files of a command.
 use Rattle.std.specs.Prelude.{◌≡◌, ◌≢◌, ◌⊎◌, ℕ, ◌++◌, ◌∷◌, [], List, Option, None, Result, Ok, Err, IsErrAnd}
 use Rattle.std.specs.Prelude.{true, IsSomeAnd, length, Some, IfSome, Bool, is_some, IsErr, OnOk, IfErr}
 use Rattle.std.specs.Prelude.{if◌then◌else◌, IfOk}

@@ -121,8 +121,7 @@ fn status(ending: &Ending) -> u8
 ///
 /// With `--progress`, `progress` is shown how many bytes IN has, if the set of files can say so,
 /// and how many of them each pull gave, and then that the reading is over, before a fault is
-/// reported. If IN is read once more to find a position, it is shown that reading too, after the
-/// fault's line.
+/// reported.
 pub fn run<F: FileSet, I: Source, O: Sink, E: Sink, P: Meter>(
     alloc: Global,
     words: &[&str],
