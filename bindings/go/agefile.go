@@ -43,9 +43,10 @@ var (
 // on). NumberHeaderOrNonceCut says that the file ends in its header or in the 16 bytes after it,
 // NumberMisused that an argument is out of range.
 type Fault struct {
-	Number uint32
-	Chunk  int64 // -1 if it isn't about one chunk
-	byKey  bool  // the header was opened by a file key, which 14 is about
+	Number   uint32
+	Chunk    int64  // -1 if it isn't about one chunk
+	Argument string // with NumberMisused, which argument is out of range, and what its range is
+	byKey    bool   // the header was opened by a file key, which 14 is about
 }
 
 func (f *Fault) Error() string {
@@ -85,6 +86,9 @@ var meanings = map[uint32]string{
 }
 
 func (f *Fault) meaning() string {
+	if f.Argument != "" {
+		return f.Argument
+	}
 	if f.Number == NumberMacMismatch && f.byKey {
 		return "the file key doesn't fit, or the header was altered"
 	}
@@ -119,16 +123,49 @@ func blockFault(number C.uint32_t, reader *C.age_c_reader) *Fault {
 	return &Fault{Number: uint32(number), Chunk: -1}
 }
 
+// A rule is what the library asks of an argument, and whether it is kept.
+type rule struct {
+	kept bool
+	text string
+}
+
+// headerFault is the fault of a call that has no chunk. With NumberMisused it names the first of these
+// rules that isn't kept.
+func headerFault(number C.uint32_t, rules ...rule) *Fault {
+	fault := &Fault{Number: uint32(number), Chunk: -1}
+	for _, it := range rules {
+		if number == C.AGE_C_MISUSED && !it.kept && fault.Argument == "" {
+			fault.Argument = it.text
+		}
+	}
+	return fault
+}
+
+func passphraseRule(passphrase []byte) rule {
+	n := len(passphrase)
+	return rule{n > 0 && n <= C.AGE_C_PASS_MAX, "the passphrase must have 1 to 65,536 bytes"}
+}
+
+func workRule(name string, factor int) rule {
+	return rule{factor > 0 && factor <= MaxWork, name + " must be 1 to 22"}
+}
+
+func lengthRule(name string, bytes []byte, want int) rule {
+	return rule{len(bytes) == want, fmt.Sprintf("%s must have %d bytes", name, want)}
+}
+
 // A Key opens the header of a file.
 type Key struct {
 	open  func(front []byte, reader *C.age_c_reader) C.uint32_t
+	rules []rule // for its arguments
 	byKey bool
 }
 
 // Passphrase is a passphrase. Work factors above maxWork are refused: an untrusted file may demand
 // 4 GiB of memory.
 func Passphrase(passphrase []byte, maxWork int) Key {
-	return Key{open: func(front []byte, reader *C.age_c_reader) C.uint32_t {
+	rules := []rule{passphraseRule(passphrase), workRule("maxWork", maxWork)}
+	return Key{rules: rules, open: func(front []byte, reader *C.age_c_reader) C.uint32_t {
 		return C.age_c_open_passphrase(place(front), length(front), place(passphrase),
 			length(passphrase), work(maxWork), reader)
 	}}
@@ -136,7 +173,8 @@ func Passphrase(passphrase []byte, maxWork int) Key {
 
 // FileKey is the file key, 16 bytes.
 func FileKey(key []byte) Key {
-	return Key{byKey: true, open: func(front []byte, reader *C.age_c_reader) C.uint32_t {
+	rules := []rule{lengthRule("the file key", key, 16)}
+	return Key{byKey: true, rules: rules, open: func(front []byte, reader *C.age_c_reader) C.uint32_t {
 		return C.age_c_open_key(place(front), length(front), place(key), length(key), reader)
 	}}
 }
@@ -146,7 +184,8 @@ func FileKey(key []byte) Key {
 // X25519(identity, 9), and ReadHeader gives SHARE: bindings/README.md shows how to compute them
 // ("Files for an X25519 key").
 func SharedSecret(secret, recipient []byte) Key {
-	return Key{open: func(front []byte, reader *C.age_c_reader) C.uint32_t {
+	rules := []rule{lengthRule("secret", secret, 32), lengthRule("recipient", recipient, 32)}
+	return Key{rules: rules, open: func(front []byte, reader *C.age_c_reader) C.uint32_t {
 		return openShared(front, secret, recipient, reader)
 	}}
 }

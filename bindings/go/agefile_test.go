@@ -538,11 +538,34 @@ func TestMessages(t *testing.T) {
 		{data[:len(data)-5], pw(), "agefile: the file is damaged or cut off (17 ChunkDamaged, chunk 3)"},
 		{data[:50], pw(), "agefile: the file ends in its header or just after it (254 HeaderOrNonceCut)"},
 		{append(full, 0), pw(), "agefile: something was appended to the file (21 Trailing)"},
-		{data, Passphrase(nil, MaxWork), "agefile: an argument is out of range (255 Misused)"},
+		{data, Passphrase(nil, MaxWork), "agefile: the passphrase must have 1 to 65,536 bytes (255 Misused)"},
+		{data, Passphrase(make([]byte, 65537), 0), "agefile: the passphrase must have 1 to 65,536 bytes (255 Misused)"},
+		{data, Passphrase([]byte("pw"), 0), "agefile: maxWork must be 1 to 22 (255 Misused)"},
+		{data, Passphrase([]byte("pw"), 23), "agefile: maxWork must be 1 to 22 (255 Misused)"},
+		{data, Passphrase([]byte("pw"), -1), "agefile: maxWork must be 1 to 22 (255 Misused)"},
+		{data, FileKey(make([]byte, 15)), "agefile: the file key must have 16 bytes (255 Misused)"},
+		{data, SharedSecret(make([]byte, 31), make([]byte, 32)), "agefile: secret must have 32 bytes (255 Misused)"},
+		{data, SharedSecret(make([]byte, 32), nil), "agefile: recipient must have 32 bytes (255 Misused)"},
 	} {
 		if err := faultOf(it.data, it.key, false); err == nil || err.Error() != it.text {
 			t.Errorf("%v, not %s", err, it.text)
 		}
+	}
+	for _, it := range []struct {
+		passphrase string
+		factor     int
+		argument   string
+	}{
+		{"", 1, "the passphrase must have 1 to 65,536 bytes"}, {strings.Repeat("w", 65537), 0, "the passphrase must have 1 to 65,536 bytes"},
+		{"pw", 0, "the work factor must be 1 to 22"}, {"pw", 23, "the work factor must be 1 to 22"}, {"pw", 1 << 32, "the work factor must be 1 to 22"},
+	} {
+		var fault *Fault
+		if _, err := Create(io.Discard, []byte(it.passphrase), it.factor); !errors.As(err, &fault) || fault.Number != NumberMisused || fault.Argument != it.argument {
+			t.Errorf("%v, not %s", err, it.argument)
+		}
+	}
+	if _, err := CreateKey(io.Discard, make([]byte, 15), nil); err == nil || err.Error() != "agefile: the file key must have 16 bytes (255 Misused)" {
+		t.Error(err)
 	}
 }
 

@@ -55,7 +55,9 @@ func (r *Reader) begin(key Key) error {
 			r.front = r.front[r.stream.reader.payload_at:]
 			return nil
 		case answer != C.AGE_C_MORE || err == io.EOF:
-			return &Fault{Number: uint32(answer), Chunk: -1, byKey: key.byKey}
+			fault := headerFault(answer, key.rules...)
+			fault.byKey = key.byKey
+			return fault
 		}
 	}
 }

@@ -15,8 +15,11 @@ import (
 // the length of the text. Only if the error is nil has out all of it: the last chunk, which proves the
 // length, is opened first. If parts fail, the error is that of the first one; those after it stop.
 func DecryptTo(out io.WriterAt, file io.ReaderAt, size int64, key Key, workers int) (int64, error) {
-	if out == nil || workers < 1 {
-		return 0, errors.New("agefile: nothing to write to, or no worker")
+	if out == nil {
+		return 0, errors.New("agefile: out is nil")
+	}
+	if workers < 1 {
+		return 0, errors.New("agefile: workers must be 1 or more")
 	}
 	text, err := OpenAt(file, size, key)
 	if err != nil {

@@ -37,7 +37,8 @@ var errClosed = errors.New("agefile: the file is closed")
 // has to spend: 2^work KiB of memory. 18 is usual.
 func Create(out io.Writer, passphrase []byte, factor int) (*Writer, error) {
 	front := make([]byte, C.AGE_C_SEAL_FRONT)
-	return begin(out, nil, 48, front, func(w *Writer, random []byte, n *C.size_t) C.uint32_t {
+	rules := []rule{passphraseRule(passphrase), workRule("the work factor", factor)}
+	return begin(out, nil, 48, front, rules, func(w *Writer, random []byte, n *C.size_t) C.uint32_t {
 		return C.age_c_seal_passphrase(place(passphrase), length(passphrase), work(factor),
 			place(random), length(random), place(front), length(front), n, &w.stream.writer)
 	})
@@ -48,18 +49,18 @@ func Create(out io.Writer, passphrase []byte, factor int) (*Writer, error) {
 // "-> X25519 SHARE" and those of the body, each ended by a newline.
 func CreateKey(out io.Writer, fileKey, stanzas []byte) (*Writer, error) {
 	if len(fileKey) != 16 {
-		return nil, &Fault{Number: NumberMisused, Chunk: -1}
+		return nil, headerFault(C.AGE_C_MISUSED, lengthRule("the file key", fileKey, 16))
 	}
 	front := make([]byte, len(stanzas)+C.AGE_C_SEAL_FRONT)
-	return begin(out, fileKey, 32, front, func(w *Writer, random []byte, n *C.size_t) C.uint32_t {
+	return begin(out, fileKey, 32, front, nil, func(w *Writer, random []byte, n *C.size_t) C.uint32_t {
 		return C.age_c_seal_key(place(stanzas), length(stanzas), place(random), length(random),
 			place(front), length(front), n, &w.stream.writer)
 	})
 }
 
 // begin makes a writer by a call that puts what begins the file into front. It is given so many
-// random bytes, the first of which are the key.
-func begin(out io.Writer, key []byte, size int, front []byte,
+// random bytes, the first of which are the key, and other arguments, which have these rules.
+func begin(out io.Writer, key []byte, size int, front []byte, rules []rule,
 	call func(w *Writer, random []byte, n *C.size_t) C.uint32_t) (*Writer, error) {
 	if out == nil {
 		return nil, errNil
@@ -76,7 +77,7 @@ func begin(out io.Writer, key []byte, size int, front []byte,
 		random[i] = 0
 	}
 	if answer != 0 {
-		return nil, &Fault{Number: uint32(answer), Chunk: -1}
+		return nil, headerFault(answer, rules...)
 	}
 	return w, w.put(front[:written])
 }
@@ -103,7 +104,7 @@ func (w *Writer) put(sealed []byte) error {
 // wrote passes on what a call wrote.
 func (w *Writer) wrote(answer C.uint32_t, written C.size_t) error {
 	if answer != 0 {
-		w.err = &Fault{Number: uint32(answer), Chunk: -1}
+		w.err = headerFault(answer)
 		return w.err
 	}
 	if written == 0 {

@@ -250,7 +250,7 @@ func stanzaFor(recipient string, fileKey []byte, exchange Exchange, aead func(ke
 	}
 	var none C.age_c_reader
 	if answer := openShared(alone.Bytes(), secret, point, &none); answer != 0 {
-		return nil, &Fault{Number: uint32(answer), Chunk: -1}
+		return nil, headerFault(answer)
 	}
 	return stanza, nil
 }

@@ -10,6 +10,8 @@ pub const AGE_C_BLOCK: usize = 65_552;
 pub const AGE_C_FRONT_MAX: usize = 1_048_592;
 /// Room that [`age_c_seal_passphrase`] asks for, and [`age_c_seal_key`] beside its stanzas.
 pub const AGE_C_SEAL_FRONT: usize = 256;
+/// Bytes of a passphrase; at least 1.
+pub const AGE_C_PASS_MAX: usize = 65_536;
 /// The greatest work factor.
 pub const AGE_C_WORK_MAX: u32 = 22;
 /// The bytes end inside the header or the payload's nonce.

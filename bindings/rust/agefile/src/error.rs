@@ -5,6 +5,11 @@ use std::ffi::CStr;
 use std::fmt;
 use std::io::{self, ErrorKind};
 
+/// An argument that isn't allowed, which the library doesn't get.
+pub(crate) fn refused(text: String) -> io::Error {
+    io::Error::new(ErrorKind::InvalidInput, text)
+}
+
 /// A fault, by its number in docs/FAULTS.md, and its chunk if it has one.
 ///
 /// An [`io::Error`] carries it: [`AgeError::of`] finds it there.
@@ -15,6 +20,8 @@ pub struct AgeError {
     pub number: u32,
     /// The number of the chunk that it is about, from 0.
     pub chunk: Option<u64>,
+    /// With 255, which argument is out of range, and what its range is.
+    pub argument: Option<&'static str>,
     /// The header was opened by a file key, which 14 is about.
     by_file_key: bool,
 }
@@ -25,7 +32,16 @@ impl AgeError {
         AgeError {
             number,
             chunk: None,
+            argument: None,
             by_file_key,
+        }
+    }
+
+    /// With 255, the fault of this argument.
+    pub(crate) fn about(self, argument: Option<&'static str>) -> AgeError {
+        AgeError {
+            argument: argument.filter(|_| self.number == AGE_C_MISUSED),
+            ..self
         }
     }
 
@@ -34,6 +50,7 @@ impl AgeError {
         AgeError {
             number,
             chunk: matches!(number, 17..=20 | 22).then_some(reader.fault_chunk),
+            argument: None,
             by_file_key: false,
         }
     }
@@ -106,7 +123,8 @@ impl AgeError {
 
 impl fmt::Display for AgeError {
     fn fmt(&self, f: &mut fmt::Formatter<'_>) -> fmt::Result {
-        write!(f, "{} ({} {}", self.meaning(), self.number, self.name())?;
+        let meaning = self.argument.unwrap_or(self.meaning());
+        write!(f, "{meaning} ({} {}", self.number, self.name())?;
         match self.chunk {
             Some(chunk) => write!(f, ", chunk {chunk})"),
             None => f.write_str(")"),

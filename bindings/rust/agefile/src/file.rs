@@ -9,7 +9,7 @@ use age_c_sys::{
 use std::fmt;
 use std::io::{self, BufRead, ErrorKind, Read, Seek, SeekFrom};
 
-const CHUNK: u64 = AGE_C_CHUNK as u64;
+pub(crate) const CHUNK: u64 = AGE_C_CHUNK as u64;
 const BLOCK: u64 = AGE_C_BLOCK as u64;
 
 /// Opens a block, or what is left at the end, and returns the length of its text.
@@ -106,7 +106,12 @@ impl<R: Read + Seek> AgeFile<R> {
     ///
     /// Those of [`AgeFile::open`].
     pub fn reopen<S: Read + Seek>(&self, file: S) -> io::Result<AgeFile<S>> {
-        AgeFile::open(file, Key::FileKey(&self.reader.file_key))
+        AgeFile::open(file, self.file_key())
+    }
+
+    /// What opens the same file once more.
+    pub(crate) fn file_key(&self) -> Key<'_> {
+        Key::FileKey(&self.reader.file_key)
     }
 
     /// The length of the text.

@@ -2,8 +2,11 @@
 
 use crate::x25519::{self, Exchange, Identity};
 use crate::MAX_WORK;
-use age_c_sys::{age_c_open_key, age_c_open_passphrase, age_c_open_shared, AgeCReader};
+use age_c_sys::{
+    age_c_open_key, age_c_open_passphrase, age_c_open_shared, AgeCReader, AGE_C_PASS_MAX,
+};
 use std::fmt;
+use std::ops::RangeInclusive;
 
 /// What opens the header of a file. Its `Debug` shows no secret.
 #[derive(Clone, Copy)]
@@ -33,6 +36,15 @@ pub enum Key<'a> {
         /// The keys, as [`Identity::parse`] takes them from a key file.
         identities: &'a [Identity],
     },
+}
+
+/// The work factors that there are.
+pub(crate) const WORK: RangeInclusive<u32> = 1..=MAX_WORK;
+
+/// What the library refuses of a passphrase.
+pub(crate) fn wrong_passphrase(passphrase: &[u8]) -> Option<&'static str> {
+    let is_wrong = passphrase.is_empty() || passphrase.len() > AGE_C_PASS_MAX;
+    is_wrong.then_some("the passphrase must have 1 to 65,536 bytes")
 }
 
 /// Opens a header by an X25519 shared secret and the recipient that it was computed for.
@@ -78,6 +90,24 @@ impl<'a> Key<'a> {
 
     pub(crate) fn is_file_key(&self) -> bool {
         matches!(self, Key::FileKey(_))
+    }
+
+    /// Which of its arguments the library refuses.
+    pub(crate) fn wrong_argument(&self) -> Option<&'static str> {
+        let told = |wrong: bool, text| wrong.then_some(text);
+        match *self {
+            Key::Passphrase {
+                passphrase,
+                max_work,
+            } => wrong_passphrase(passphrase)
+                .or(told(!WORK.contains(&max_work), "max_work must be 1 to 22")),
+            Key::FileKey(key) => told(key.len() != 16, "the file key must have 16 bytes"),
+            Key::Shared { secret, recipient } => {
+                told(secret.len() != 32, "secret must have 32 bytes")
+                    .or(told(recipient.len() != 32, "recipient must have 32 bytes"))
+            }
+            Key::X25519 { .. } => None,
+        }
     }
 
     /// Opens the header that these bytes begin with.

@@ -29,8 +29,10 @@ mod header;
 mod key;
 mod once;
 mod reader;
+mod recipients;
 mod salvage;
 mod state;
+mod workers;
 mod writer;
 mod x25519;
 
@@ -40,7 +42,9 @@ pub use header::{Header, Stanza, WholeFile};
 pub use key::Key;
 pub use once::{decrypt, encrypt};
 pub use reader::{AgeReader, Opening};
+pub use recipients::Wrap;
 pub use salvage::{salvage, Salvaged};
+pub use workers::decrypt_to;
 pub use writer::AgeWriter;
 pub use x25519::{parse_recipient, Exchange, Identity, MAX_TRIES};
 

@@ -35,7 +35,8 @@ fn read_header<R: Read>(
 ) -> io::Result<()> {
     let answer = read_front(file, front, |front| key.open(front, reader))?;
     if answer != 0 {
-        return Err(AgeError::of_header(answer, key.is_file_key()).into());
+        let fault = AgeError::of_header(answer, key.is_file_key());
+        return Err(fault.about(key.wrong_argument()).into());
     }
     front.drain(..reader.payload_at as usize);
     Ok(())

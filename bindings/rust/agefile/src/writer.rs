@@ -1,5 +1,6 @@
 //! A writer.
 
+use crate::key::{wrong_passphrase, WORK};
 use crate::state::State;
 use crate::AgeError;
 use age_c_sys::{
@@ -53,7 +54,7 @@ impl Failure {
 }
 
 /// Bytes of the system's random generator.
-fn random<const N: usize>() -> io::Result<State<[u8; N]>> {
+pub(crate) fn random<const N: usize>() -> io::Result<State<[u8; N]>> {
     let mut bytes = State::new([0; N]);
     File::open("/dev/urandom")?.read_exact(&mut *bytes)?;
     Ok(bytes)
@@ -66,7 +67,9 @@ impl<W: Write> AgeWriter<W> {
         // the file key, the salt and the nonce
         let random = random::<48>()?;
         let mut front = [0; AGE_C_SEAL_FRONT];
-        AgeWriter::begin(out, &mut front, |front, written, writer| {
+        let wrong = wrong_passphrase(passphrase)
+            .or((!WORK.contains(&work)).then_some("work must be 1 to 22"));
+        AgeWriter::begin(out, &mut front, wrong, |front, written, writer| {
             // SAFETY: each slice is as long as it says, and none is null; nothing overlaps.
             unsafe {
                 age_c_seal_passphrase(
@@ -92,7 +95,7 @@ impl<W: Write> AgeWriter<W> {
         let mut random = random::<32>()?;
         random[..16].copy_from_slice(file_key);
         let mut front = vec![0; stanzas.len() + AGE_C_SEAL_FRONT];
-        AgeWriter::begin(out, &mut front, |front, written, writer| {
+        AgeWriter::begin(out, &mut front, None, |front, written, writer| {
             // SAFETY: as above.
             unsafe {
                 age_c_seal_key(
@@ -109,17 +112,19 @@ impl<W: Write> AgeWriter<W> {
         })
     }
 
-    /// Begins a file by a call that puts what stands before the payload into `front`.
+    /// Begins a file by a call that puts what stands before the payload into `front`, and which may
+    /// refuse an argument.
     fn begin(
         mut out: W,
         front: &mut [u8],
+        wrong: Option<&'static str>,
         call: impl FnOnce(&mut [u8], &mut usize, &mut AgeCWriter) -> u32,
     ) -> io::Result<AgeWriter<W>> {
         let mut stream = State::<AgeCWriteStream>::default();
         let mut written = 0;
         let answer = call(front, &mut written, &mut stream.writer);
         if answer != 0 {
-            return Err(AgeError::of_header(answer, false).into());
+            return Err(AgeError::of_header(answer, false).about(wrong).into());
         }
         out.write_all(&front[..written])?;
         Ok(AgeWriter {

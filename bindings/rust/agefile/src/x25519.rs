@@ -1,17 +1,25 @@
 //! Keys of age-keygen.
 
+use crate::error::refused;
 use crate::header::{Header, Stanza};
 use crate::key::open_shared;
 use crate::state::State;
 use age_c_sys::AgeCReader;
 use std::fmt;
-use std::io::{self, ErrorKind};
+use std::io;
 
 /// How many pairs of an [`Identity`] and an X25519 stanza are tried, since a stranger's header may
 /// have ten thousand of them. After that the fault is 13, `WrongKey`.
 pub const MAX_TRIES: usize = 16_384;
 
 const WRONG_KEY: u32 = 13;
+
+/// The point 9, by which a secret gives its recipient.
+pub(crate) const NINE: [u8; 32] = {
+    let mut nine = [0; 32];
+    nine[0] = 9;
+    nine
+};
 const LETTERS: &[u8; 32] = b"qpzry9x8gf2tvdw0s3jn54khce6mua7l";
 const BASE64: &[u8; 64] = b"ABCDEFGHIJKLMNOPQRSTUVWXYZabcdefghijklmnopqrstuvwxyz0123456789+/";
 
@@ -34,7 +42,7 @@ impl Identity {
     ///
     /// # Errors
     ///
-    /// [`ErrorKind::InvalidInput`] if a line is another one, or if there is no key.
+    /// [`InvalidInput`](io::ErrorKind::InvalidInput) if a line is another one, or if there is no key.
     pub fn parse(text: &str) -> io::Result<Vec<Identity>> {
         let mut found = Vec::new();
         for (number, line) in text.lines().enumerate() {
@@ -57,13 +65,9 @@ impl Identity {
 ///
 /// # Errors
 ///
-/// [`ErrorKind::InvalidInput`] if it is none.
+/// [`InvalidInput`](io::ErrorKind::InvalidInput) if it is none.
 pub fn parse_recipient(text: &str) -> io::Result<[u8; 32]> {
     bech32("age", text).ok_or_else(|| refused("not a recipient of age-keygen".into()))
-}
-
-fn refused(text: String) -> io::Error {
-    io::Error::new(ErrorKind::InvalidInput, text)
 }
 
 /// The 32 bytes of a Bech32 text (BIP 173) with this prefix.
@@ -110,17 +114,20 @@ fn share_of(text: &str) -> Option<[u8; 32]> {
     (values.len() == 43).then(|| std::array::from_fn(byte))
 }
 
-/// A header of this stanza, whose MAC is wrong, with what begins a payload.
-fn alone(share: &str, body: &[u8]) -> Vec<u8> {
+/// Base64 without padding.
+pub(crate) fn base64(held: &[u8]) -> String {
     let bit = |at: usize| {
-        body.get(at / 8)
+        held.get(at / 8)
             .map_or(0, |it| usize::from(*it) >> (7 - at % 8) & 1)
     };
-    let letter = |at| BASE64[(0..6).fold(0, |sum, it| sum << 1 | bit(6 * at + it))];
-    let body: Vec<u8> = (0..(8 * body.len()).div_ceil(6)).map(letter).collect();
-    let begin = format!("age-encryption.org/v1\n-> X25519 {share}\n");
-    let end = format!("\n--- {}\n{}", "A".repeat(43), "\0".repeat(16));
-    [begin.as_bytes(), &body, end.as_bytes()].concat()
+    let letter = |at| char::from(BASE64[(0..6).fold(0, |sum, it| sum << 1 | bit(6 * at + it))]);
+    (0..(8 * held.len()).div_ceil(6)).map(letter).collect()
+}
+
+/// A header of this stanza, whose MAC is wrong, with what begins a payload.
+fn alone(share: &str, body: &[u8]) -> String {
+    let (body, mac, nonce) = (base64(body), "A".repeat(43), "\0".repeat(16));
+    format!("age-encryption.org/v1\n-> X25519 {share}\n{body}\n--- {mac}\n{nonce}")
 }
 
 /// Opens the header that these bytes begin with by one of these keys.
@@ -141,11 +148,9 @@ pub(crate) fn open(
         return answer;
     }
     header.stanzas.retain(|it| it.kind == "X25519");
-    let mut nine = [0; 32];
-    nine[0] = 9;
     let mut left = MAX_TRIES;
     for identity in identities {
-        let recipient = exchange(&identity.0, &nine);
+        let recipient = exchange(&identity.0, &NINE);
         for stanza in header.stanzas.iter().take(left) {
             let answer = try_stanza(exchange, identity, &recipient, stanza, front, reader);
             if answer != WRONG_KEY {
@@ -175,7 +180,7 @@ fn try_stanza(
     let of_it = alone(&stanza.args[0], &stanza.body);
     let is_zero = *secret == [0; 32];
     let mut none = State::<AgeCReader>::default();
-    if is_zero || open_shared(&of_it, &*secret, recipient, &mut none) == WRONG_KEY {
+    if is_zero || open_shared(of_it.as_bytes(), &*secret, recipient, &mut none) == WRONG_KEY {
         return WRONG_KEY;
     }
     open_shared(front, &*secret, recipient, reader)

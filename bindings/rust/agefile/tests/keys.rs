@@ -1,7 +1,14 @@
-//! Keys of age-keygen, files in memory, and readers that are opened once more.
+//! Keys and recipients of age-keygen, files in memory, and readers that are opened once more.
 
-use agefile::{decrypt, encrypt, parse_recipient, AgeError, AgeFile, Identity, Key, MAX_TRIES};
-use std::io::{self, Cursor, Read, Seek, SeekFrom};
+mod primitives;
+
+use agefile::{
+    decrypt, encrypt, parse_recipient, salvage, AgeError, AgeFile, AgeReader, AgeWriter,
+};
+use agefile::{Identity, Key, MAX_TRIES};
+use primitives::{wrap, x25519};
+use std::io::{self, Cursor, ErrorKind, Read, Seek, SeekFrom, Write};
+use std::process::{Command, Stdio};
 use std::sync::atomic::{AtomicUsize, Ordering};
 
 /// What age made, beside this folder; nothing if it stands alone.
@@ -14,9 +21,26 @@ fn of_age(name: &str) -> Option<Vec<u8>> {
 }
 
 fn keys() -> Option<(String, Vec<Identity>)> {
-    let text = String::from_utf8(of_age("key.txt")?).unwrap();
+    keys_of("key.txt")
+}
+
+fn keys_of(name: &str) -> Option<(String, Vec<Identity>)> {
+    let text = String::from_utf8(of_age(name)?).unwrap();
     let found = Identity::parse(&text).unwrap();
     Some((text, found))
+}
+
+/// The recipient that a file of age-keygen names.
+fn public_of(text: &str) -> &str {
+    let after = text.split("public key: ").nth(1).unwrap();
+    after.lines().next().unwrap()
+}
+
+fn key_of(identities: &[Identity]) -> Key<'_> {
+    Key::X25519 {
+        exchange: &x25519,
+        identities,
+    }
 }
 
 fn bytes_of(digits: &str) -> [u8; 32] {
@@ -24,14 +48,6 @@ fn bytes_of(digits: &str) -> [u8; 32] {
 }
 
 const SHARE: &str = "638382e5d3ca40d1939596d1e9900497fcf3957a4f75e0d473ef9a566670521a";
-
-/// X25519 of the key in key.txt and two points: 9, and the share of one.age.
-fn exchange(_: &[u8; 32], point: &[u8; 32]) -> [u8; 32] {
-    match point[0] {
-        9 => bytes_of("ebaa24287c1e692527056fc5ea4806639e8c56c9257e953b6dc556e8be34d20f"),
-        _ => bytes_of("a63e711bbe766ac02492dac2ddac009640a5dec3407e1d76637592c111245643"),
-    }
-}
 
 fn number(found: io::Result<Vec<u8>>) -> u32 {
     AgeError::of(&found.unwrap_err()).unwrap().number
@@ -42,37 +58,87 @@ fn reads_files_for_keys() {
     let Some((text, identities)) = keys() else {
         return; // this folder stands alone
     };
-    let public = text
-        .split("public key: ")
-        .nth(1)
-        .unwrap()
-        .lines()
-        .next()
-        .unwrap();
     assert_eq!(
-        parse_recipient(public).unwrap(),
-        exchange(&[0; 32], &[9; 32])
+        parse_recipient(public_of(&text)).unwrap(),
+        bytes_of("ebaa24287c1e692527056fc5ea4806639e8c56c9257e953b6dc556e8be34d20f")
     );
-    let key = Key::X25519 {
-        exchange: &exchange,
-        identities: &identities,
-    };
+    let (key, (_, others)) = (key_of(&identities), keys_of("other.txt").unwrap());
     let data = of_age("one.age").unwrap();
+    let both = of_age("two.age").unwrap();
+    assert_eq!(decrypt(&both, key).unwrap(), b"hello, both\n");
+    assert_eq!(decrypt(&both, key_of(&others)).unwrap(), b"hello, both\n");
     assert_eq!(decrypt(&data, key).unwrap(), b"hello, recipient\n");
     assert_eq!(number(decrypt(&of_age("other.age").unwrap(), key)), 13);
     assert_eq!(number(decrypt(&of_age("passphrase.age").unwrap(), key)), 12);
     assert_eq!(number(decrypt(&data[..90], key)), 254);
-    let none = Key::X25519 {
-        exchange: &exchange,
-        identities: &[],
-    };
-    assert_eq!(number(decrypt(&data, none)), 13);
+    assert_eq!(number(decrypt(&data, key_of(&[]))), 13);
+    assert_eq!(number(decrypt(&data, key_of(&others))), 13);
     let zero = Key::X25519 {
         exchange: &|_, _| [0; 32],
         identities: &identities,
     };
     assert_eq!(number(decrypt(&data, zero)), 13);
     assert_eq!(format!("{key:?} {identities:?}"), "Key::X25519 [Identity]");
+}
+
+/// What age decrypts of a file by key.txt, if it is installed.
+fn by_age(data: &[u8]) -> Option<Vec<u8>> {
+    let path = concat!(env!("CARGO_MANIFEST_DIR"), "/../../tests/age/key.txt");
+    let mut age = Command::new("age")
+        .args(["-d", "-i", path])
+        .stdin(Stdio::piped())
+        .stdout(Stdio::piped())
+        .spawn()
+        .ok()?;
+    age.stdin.take().unwrap().write_all(data).unwrap();
+    Some(age.wait_with_output().unwrap().stdout)
+}
+
+/// Files for one recipient and for two, which their keys open, here and in age.
+#[test]
+fn writes_files_for_recipients() {
+    let (Some((one, mine)), Some((two, others))) = (keys(), keys_of("other.txt")) else {
+        return;
+    };
+    let of = |recipients: &[&str]| {
+        let mut file = AgeWriter::create_x25519(Vec::new(), &x25519, &wrap, recipients)?;
+        file.write_all(b"a text")?;
+        file.finish()
+    };
+    let data = of(&[public_of(&one)]).unwrap();
+    assert_eq!(decrypt(&data, key_of(&mine)).unwrap(), b"a text");
+    assert_eq!(number(decrypt(&data, key_of(&others))), 13);
+    let data = of(&[public_of(&two), public_of(&one)]).unwrap();
+    assert_eq!(decrypt(&data, key_of(&mine)).unwrap(), b"a text");
+    assert_eq!(decrypt(&data, key_of(&others)).unwrap(), b"a text");
+    assert!(by_age(&data).map_or(true, |it| it == b"a text"));
+    let upper = public_of(&one).to_uppercase();
+    for bad in [&[][..], &["age1"], &[public_of(&one), &one], &[&upper[1..]]] {
+        let error = of(bad).unwrap_err();
+        assert_eq!(error.kind(), ErrorKind::InvalidInput, "{error}");
+        assert!(!error.to_string().contains("SECRET"), "{error}");
+    }
+}
+
+/// Nothing is written for a point of low order, or if what is handed in computes something else.
+#[test]
+fn refuses_wrong_stanzas() {
+    let Some((text, _)) = keys() else {
+        return;
+    };
+    let recipients = [public_of(&text)];
+    let zero = |_: &[u8; 32], _: &[u8; 32]| [0; 32];
+    let other = |_: &[u8; 32], salt: &[u8; 64], key: &[u8; 16]| wrap(&[1; 32], salt, key);
+    let mut out = Vec::new();
+    for made in [
+        AgeWriter::create_x25519(&mut out, &zero, &wrap, &recipients).map(drop),
+        AgeWriter::create_x25519(&mut Vec::new(), &x25519, &other, &recipients).map(drop),
+    ] {
+        let error = made.unwrap_err();
+        assert_eq!(error.kind(), ErrorKind::InvalidInput, "{error}");
+        assert!(error.to_string().starts_with("recipient 1: "), "{error}");
+    }
+    assert!(out.is_empty());
 }
 
 /// The share is what the library's own base64 says.
@@ -188,6 +254,53 @@ fn files_in_memory() {
         );
         assert_eq!(number(decrypt(&data, Key::passphrase(b"other"))), 13);
     }
-    assert_eq!(number(encrypt(b"text", b"", 1)), 255);
-    assert_eq!(number(encrypt(b"text", b"pw", 23)), 255);
+}
+
+/// A 255 says which argument it is about.
+#[test]
+fn names_the_argument_that_is_wrong() {
+    let (data, long) = (encrypt(b"text", b"pw", 1).unwrap(), vec![b'w'; 65_537]);
+    let under = |passphrase, max_work| Key::Passphrase {
+        passphrase,
+        max_work,
+    };
+    let shared = |secret, recipient| Key::Shared { secret, recipient };
+    let (short, right) = (&[1; 31][..], &[1; 32][..]);
+    for (key, argument) in [
+        (under(b"", 22), "the passphrase must have 1 to 65,536 bytes"),
+        (
+            under(&long, 0),
+            "the passphrase must have 1 to 65,536 bytes",
+        ),
+        (under(b"pw", 0), "max_work must be 1 to 22"),
+        (under(b"pw", 23), "max_work must be 1 to 22"),
+        (Key::FileKey(&[7; 15]), "the file key must have 16 bytes"),
+        (shared(short, right), "secret must have 32 bytes"),
+        (shared(right, short), "recipient must have 32 bytes"),
+    ] {
+        for error in [
+            AgeReader::open(&data[..], key).unwrap_err(),
+            AgeFile::open(Cursor::new(&data), key).unwrap_err(),
+            salvage(&data[..], key, io::sink()).unwrap_err(),
+        ] {
+            see_argument(&error, argument);
+        }
+    }
+    for (passphrase, work, argument) in [
+        (&b""[..], 1, "the passphrase must have 1 to 65,536 bytes"),
+        (&long, 1, "the passphrase must have 1 to 65,536 bytes"),
+        (b"pw", 0, "work must be 1 to 22"),
+        (b"pw", 23, "work must be 1 to 22"),
+    ] {
+        see_argument(&encrypt(b"text", passphrase, work).unwrap_err(), argument);
+    }
+    let error = decrypt(&data, Key::passphrase(b"other")).unwrap_err();
+    assert_eq!(AgeError::of(&error).unwrap().argument, None);
+}
+
+fn see_argument(error: &io::Error, argument: &str) {
+    let fault = AgeError::of(error).unwrap();
+    assert_eq!((fault.number, fault.argument), (255, Some(argument)));
+    assert_eq!(error.to_string(), format!("{argument} (255 Misused)"));
+    assert_eq!(error.kind(), ErrorKind::InvalidInput);
 }

@@ -1,0 +1,91 @@
+//! One file that several threads decrypt.
+
+use crate::error::refused;
+use crate::file::CHUNK;
+use crate::{AgeFile, Key};
+use std::io::{self, BufRead, ErrorKind, Read, Seek, SeekFrom};
+use std::ops::Range;
+use std::panic::resume_unwind;
+use std::sync::atomic::{AtomicU64, Ordering};
+use std::thread;
+
+/// Decrypts a file by so many threads, each a part of it, and returns the length of the text. Each
+/// reads a file of its own, which `source` opens, and gives `out` pieces of the text and their
+/// places.
+///
+/// Only if this returns `Ok` has `out` all of the text: the last chunk, which proves the length, is
+/// opened first. If parts fail, the error is that of the first one; those after it stop.
+///
+/// ```no_run
+/// use agefile::{decrypt_to, Key};
+/// use std::{fs::File, os::unix::fs::FileExt};
+///
+/// let out = File::create("backup.tar.part")?;
+/// let key = Key::passphrase(b"correct horse");
+/// decrypt_to(|text, at| out.write_all_at(text, at), || File::open("backup.tar.age"), key, 4)?;
+/// out.sync_all()?;
+/// std::fs::rename("backup.tar.part", "backup.tar")?;
+/// # Ok::<(), std::io::Error>(())
+/// ```
+///
+/// # Errors
+///
+/// Those of [`AgeFile::open`] and of reading, and those of `out` and `source`.
+pub fn decrypt_to<R: Read + Seek>(
+    out: impl Fn(&[u8], u64) -> io::Result<()> + Sync,
+    source: impl Fn() -> io::Result<R> + Sync,
+    key: Key,
+    workers: usize,
+) -> io::Result<u64> {
+    if workers == 0 {
+        return Err(refused("workers must be 1 or more".into()));
+    }
+    let first = AgeFile::open(source()?, key)?;
+    let (len, key) = (first.len(), first.file_key());
+    let step = len.div_ceil(CHUNK).div_ceil(workers as u64) * CHUNK;
+    let failed = AtomicU64::new(u64::MAX); // where the first part begins that failed
+    let copies = |begin: u64| {
+        let part = begin..len.min(begin + step);
+        let done = source()
+            .and_then(|file| AgeFile::open(file, key))
+            .and_then(|file| {
+                copy_part(file, part, &out, || failed.load(Ordering::Relaxed) < begin)
+            });
+        if done.is_err() {
+            failed.fetch_min(begin, Ordering::Relaxed);
+        }
+        done
+    };
+    thread::scope(|scope| {
+        let (copies, mut threads, mut begin) = (&copies, Vec::new(), 0);
+        while begin < len {
+            threads.push(thread::Builder::new().spawn_scoped(scope, move || copies(begin))?);
+            begin += step;
+        }
+        for it in threads {
+            it.join().unwrap_or_else(|panic| resume_unwind(panic))?;
+        }
+        Ok(len)
+    })
+}
+
+/// Gives `out` a part of the text, unless it is to stop.
+fn copy_part<R: Read + Seek>(
+    mut file: AgeFile<R>,
+    part: Range<u64>,
+    out: &impl Fn(&[u8], u64) -> io::Result<()>,
+    stops: impl Fn() -> bool,
+) -> io::Result<()> {
+    let mut at = file.seek(SeekFrom::Start(part.start))?;
+    while at < part.end && !stops() {
+        let text = file.fill_buf()?;
+        if text.is_empty() {
+            return Err(ErrorKind::UnexpectedEof.into());
+        }
+        let n = (part.end - at).min(text.len() as u64);
+        out(&text[..n as usize], at)?;
+        file.consume(n as usize);
+        at += n;
+    }
+    Ok(())
+}
