@@ -5,6 +5,7 @@ import io
 import os
 import random
 import signal
+import subprocess
 import sys
 import threading
 import time
@@ -27,6 +28,12 @@ def module():
     sys.path.insert(0, str(PYTHON))
     import agefile._keys
     return agefile
+
+
+def python_with(module):
+    """A Python that has this module: this one, or the system's."""
+    found = f"import importlib.util; raise SystemExit(importlib.util.find_spec('{module}') is None)"
+    return next((it for it in (sys.executable, "/usr/bin/python3") if os.path.exists(it) and subprocess.run([it, "-c", found]).returncode == 0), None)
 
 
 def plain_of(length):

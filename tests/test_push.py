@@ -1,16 +1,14 @@
 """Tries what decrypts and encrypts bytes that come by themselves, in Python: the same faults and text as a reader finds, whatever the pieces
 are; calls after a fault, an interruption, a fork; two threads on one object; and the handler in bindings/README.md."""
 import copy
-import importlib.util
 import io
 import os
-import pathlib
 import random
 import subprocess
 import sys
 
 from tests import bindings
-from tests.bindings import LENGTHS, PYTHON, BindingsCase, plain_of, raised
+from tests.bindings import LENGTHS, PYTHON, BindingsCase, plain_of, python_with, raised
 from tests.test_bindings import sample_of
 from tests.test_python_files import interrupted_at, together
 from tools.workspace import LIBRARY
@@ -202,8 +200,7 @@ class PushTest(BindingsCase):
 
     def test_handler(self):
         """The handler in bindings/README.md, by a Python that has aiohttp."""
-        found = "import importlib.util; raise SystemExit(importlib.util.find_spec('aiohttp') is None)"
-        python = next((it for it in (sys.executable, "/usr/bin/python3") if pathlib.Path(it).exists() and subprocess.run([it, "-c", found]).returncode == 0), None)
+        python = python_with("aiohttp")
         if python is None:
             self.skipTest("needs aiohttp")
         text = plain_of(200_000)

@@ -1,16 +1,20 @@
 """Tries the decryption by several threads, in Python: the text at each length, the fault of the first chunk that has one, what fails or
-interrupts it, and what the program leaves of OUT; and `resume`."""
+interrupts it, and what the program leaves of OUT; and `resume`. Then that by Dask, one of whose workers is killed."""
 import io
+import json
 import os
 import signal
 import stat
 import subprocess
 import sys
 import threading
+import time
 
 from tests import bindings
-from tests.bindings import BLOCK, KEY, LENGTHS, PYTHON, BindingsCase, flipped, limited, plain_of, raised
+from tests.bindings import BLOCK, KEY, LENGTHS, PYTHON, BindingsCase, flipped, limited, plain_of, python_with, raised
+from tests.test_bindings import sample_of
 from tests.test_python import fault_of
+from tools.workspace import LIBRARY
 
 LENGTH = 9 * 65_536 + 1_000
 
@@ -169,3 +173,65 @@ class WorkersTest(BindingsCase):
         run = subprocess.run([sys.executable, "-c", program, *words], cwd=self.room, env=env, capture_output=True)
         self.see("a disk that is full", run.returncode == 1 and b"too large: 'full'" in run.stderr and not self.is_there("full"), run.stderr)
         self.see("nothing else is left", not [it.name for it in self.room.iterdir() if it.name.endswith(".part")])
+
+
+class DaskTest(BindingsCase):
+    """The program for several machines in bindings/README.md, with a scheduler and two workers on loopback."""
+
+    # What happens in the middle of a part: the first time its worker is killed; once there is another file, that takes the place of what is
+    # read.
+    WRITES = "            out.write(file.read(min(PIECE, end - at)))\n"
+    HAPPENS = "            if at == 8 << 17 and not os.path.exists('died'):\n                open('died', 'w').close()\n" \
+        "                os.kill(os.getpid(), 9)\n            if os.path.exists('other.age'):\n                os.replace('other.age', NAME)\n"
+
+    def setUp(self):
+        super().setUp()
+        self.python = python_with("distributed")
+        if self.python is None:
+            self.skipTest("needs Dask")
+        self.env = {**os.environ, "PYTHONPATH": str(PYTHON), "PYTHONDONTWRITEBYTECODE": "1", "AGE_C_LIBRARY": str(LIBRARY / "libage_c.so")}
+        program = sample_of("python", 4).replace("1 << 30, 4 << 20", "1 << 17, 1 << 16").replace(self.WRITES, self.WRITES + self.HAPPENS)
+        self.write("restore.py", program.encode())
+        self.begin("scheduler", "--port", "0", "--scheduler-file", "scheduler.json")
+        with limited(60):
+            while not (self.is_there("scheduler.json") and self.read("scheduler.json").endswith(b"}")):
+                time.sleep(0.1)
+        self.place = json.loads(self.read("scheduler.json"))["address"]
+        self.workers = [self.begin("worker", self.place, "--no-nanny", "--nthreads", "1", "--name", str(it)) for it in (1, 2)]
+
+    def begin(self, kind, *words):
+        """Begins a process of Dask, which is ended after the test."""
+        said = open(self.path(f"{kind}.log"), "ab")
+        self.addCleanup(said.close)
+        words = [self.python, "-m", f"distributed.cli.dask_{kind}", *words, "--host", "127.0.0.1", "--no-dashboard"]
+        run = subprocess.Popen(words, cwd=self.room, env=self.env, stdout=said, stderr=said)
+        self.addCleanup(run.wait)
+        self.addCleanup(run.kill)
+        return run
+
+    def restored(self):
+        words = [self.python, "restore.py", self.place]
+        run = subprocess.run(words, cwd=self.room, env=self.env, capture_output=True, timeout=120)
+        return run.returncode, run.stderr[-500:], self.read("photos.tar") if self.is_there("photos.tar") else None
+
+    def test_a_lost_worker(self):
+        text = plain_of(24 * (1 << 17) - 1_000)
+        self.write("passphrase.txt", b"pw\n")
+        self.write("in", text)
+        self.path("backups").mkdir()
+        for out in ("photos.tar.age", "backups/one.age", "backups/two.age", "another.age"):
+            self.tool("encrypt", "--pass", "pw", "--log", "1", "--no-sync", "in", out, check=True)
+        status, said, out = self.restored()
+        self.see("the text", status == 0 and out == text and not self.is_there("photos.tar.part"), status, said)
+        self.see("a worker was lost", self.is_there("died") and sorted((it.poll() for it in self.workers), key=str) == [-9, None])
+        self.path("another.age").rename(self.path("other.age"))
+        self.remove("photos.tar")
+        status, said, out = self.restored()
+        self.see("a file that is replaced", status == 1 and b"photos.tar.age was replaced" in said and out is None, status, said)
+        self.remove("photos.tar.part")
+        damaged = len(self.read("photos.tar.age")) - len(text) - 48 * 16 + 7 * BLOCK + 5
+        for what, name, left in (("a damaged backup", "backups/two.age", text), ("a damaged file", "photos.tar.age", None)):
+            self.remove("photos.tar")
+            self.write(name, flipped(self.read(name), damaged))
+            status, said, out = self.restored()
+            self.see(what, status == 1 and b"(17 ChunkDamaged chunk 7)" in said and out == left, status, said)
