@@ -14,6 +14,7 @@ import subprocess
 import sys
 import threading
 import zipfile
+from unittest import mock
 
 from tests import bindings
 from tests.bindings import BLOCK, CHUNK, KEY, PYTHON, BindingsCase, by_python, flipped, limited, raised, slow
@@ -460,6 +461,33 @@ class PythonTest(BindingsCase):
         for said, kind in ((None, BlockingIOError), (1 << 20, OSError), (-1, OSError)):
             with limited(20):
                 self.see(f"a sink that says {said}", raised(kind, agefile.salvage, io.BytesIO(data), Sink(said), file_key=KEY))
+
+    def test_salvage_leaves_nothing(self):
+        """The file key, a block and a text are overwritten, also after a fault. And no chunk has a number that no payload has."""
+        data = self.sealed(bytes(range(256)) * 300)
+        for what, out in (("a text", io.BytesIO()), ("a sink that fails", object())):
+            state, room = agefile._library.ReaderState(), agefile._library.Room()
+            held = (room.block.held, room.text.held)
+            with mock.patch.multiple(agefile._salvage, ReaderState=lambda: state, Room=lambda: room), contextlib.suppress(AttributeError):
+                agefile.salvage(io.BytesIO(data), out, file_key=KEY)
+            self.see(f"what is left of {what}", not any(state.file_key) and not any(map(any, held)) and not room.text.held)
+        fault = fault_of(agefile._salvage._opened, state, room, 1 << 48, BLOCK)
+        self.see("more chunks than there may be", isinstance(fault, agefile.AgeError) and fault.number == 255, repr(fault))
+
+    def test_salvage_by_names(self):
+        """All of a text is written before the wait for the disk; both files are closed then; and how far it is is told."""
+        path, opened, reached, told, really = self.path("saved"), [], [], [], open
+        self.write("file", self.sealed(bytes(135_000)))  # (the end is shorter than what a file buffers)
+
+        def opens(*words, **more):
+            opened.append(really(*words, **more))
+            return opened[-1]
+
+        with mock.patch("builtins.open", opens), \
+                mock.patch.object(agefile._salvage, "reach_disk", lambda _, made: reached.append((made, path.stat().st_size))):
+            agefile.salvage(self.path("file"), path, file_key=KEY, progress=told.append)
+        self.see("the disk", reached == [(path, 135_000)], reached)
+        self.see("what was opened", [it.closed for it in opened] == [True, True] and told == [1, 2, 3], opened, told)
 
     def test_salvage_command(self):
         """What `python3 -m agefile salvage` says, and when OUT stays as it was."""
