@@ -3,7 +3,8 @@ if a call fails (tools/shim.c), and computes what that leaves by `age_machine/sp
 
 - the disk that the definitions give is the real one, so they say rightly what calls do;
 - after status 0 a power cut leaves OUT as it is, and so a position, once it was said to be saved;
-- OUT is locked before it is changed, and what was written is closed before status 0;
+- OUT is locked before it is changed, what was written is closed before status 0, and a file that the run didn't make is removed only if it
+  was locked: the room that a stopped run left;
 - at each moment it leaves a position as it was, or the new one, whole;
 - a run that stops before there is a byte to write leaves OUT as it was, or empty, if it wasn't there.
 
@@ -80,21 +81,22 @@ class Disk:
         kept = self.disk["is_kept"]
         return {None if it == NOTHING else self.held(it[1]) if kept(it[1]) else ANYTHING for it in self.may_lead(path)}
 
-    def is_answer(self, call):
-        """Whether it is what the definitions expect of a disk (`IsAnswered`)."""
+    def is_answer(self, call, paths):
+        """Whether it is what the definitions expect of a disk, for these paths (`IsAnswered`)."""
         if call[0] == "Made":
-            return ("Some", call[2]) not in self.may_lead(call[1])
+            return self.disk["file"](call[1]) == NOTHING and all(("Some", call[2]) not in self.may_lead(it) for it in paths)
         return call[0] != "Linked" or self.disk["file"](call[2]) == NOTHING
 
 
 def calls_of(record, disk):
     """The calls of a record as the definitions name them. The disk is the one at each of them."""
-    made = None
+    made, own = None, set()
     for name, words, held in record:
         if name == "make":
             made = int(words[0])
         elif name == "link" and int(words[0]) == made:
             yield "Made", words[1].encode(), made
+            own.add(words[1].encode())
             made = None
         elif name == "link":
             yield "Linked", disk.path_of(int(words[0])), words[1].encode()
@@ -113,7 +115,7 @@ def calls_of(record, disk):
         elif name == "rename":
             yield "Renamed", words[0].encode(), words[1].encode()
         elif name == "unlink":
-            yield "Removed", words[0].encode()
+            yield "Removed" if words[0].encode() in own else "Reclaimed", words[0].encode()
         else:
             folder = pathlib.Path(words[0]).resolve()
             yield from (("SyncedNames", path) for path in sorted(disk.paths) if pathlib.Path(path.decode()).parent == folder)
@@ -154,14 +156,16 @@ class Run:
 
     def faults(self):
         yield from self.faults_now()
-        locked, open_to_write = set(), set()
+        locked, open_to_write, paths = set(), set(), [it for it in (self.out, self.saved) if it]
         for call in calls_of(self.record, self.disk):
-            if not self.disk.is_answer(call):
+            if not self.disk.is_answer(call, paths):
                 yield "a call that the definitions don't expect"
             if call[0] in LOCKS.values():
                 locked.add(call[1])
             if call[0] in CHANGES and self.disk.leads(self.out, call[1]) and call[1] not in locked:
                 yield "OUT may have changed before it was locked"
+            if call[0] == "Reclaimed" and not any(self.disk.leads(call[1], it) for it in locked):
+                yield "a file of another run was removed without its lock"
             if call[0] in CHANGES:
                 open_to_write.add(call[1])
             elif call[0] == "Closed":

@@ -72,6 +72,16 @@ class ChecksTest(unittest.TestCase):
             with self.subTest(tree):
                 self.assertEqual([it[-1] for it in sources.used(tree)], names)
 
+    def test_unnoted_calls(self):
+        """A call that changes files is found if it stands where no machine notes it."""
+        check = loaded(TOP / "checks/trusted")
+        for line in ("let _ = File::create(rt, path);", "file.set_len(0)?;", "fs::rename(rt, one, other)?;", "calls::remove(rt, path)?;"):
+            with self.subTest(line), tempfile.TemporaryDirectory() as room:
+                place = pathlib.Path(room) / "age_host/src/files.rt"
+                place.parent.mkdir(parents=True)
+                place.write_text(f"fn spoil() {{\n    {line}\n}}\n")
+                self.assertEqual(len([*check.unnoted([sources.Source(place, pathlib.Path(room))])]), 1)
+
     def test_claims(self):
         """A number that a page has and the tests don't is noticed."""
         check = loaded(TOP / "check")

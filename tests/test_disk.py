@@ -222,6 +222,12 @@ class DiskTest(FilesCase):
         self.see("three wrong passphrases and the right one at once", not lost, lost)
 
     @needs("cc")
+    def test_lost_to_another_run(self):
+        """A new OUT that another run has locked before the one that made it isn't removed."""
+        self.expect(1, unwritten("new", LOCKED), "decrypt --pass pass age new", "another run was quicker", {"FLOCK": errno.EWOULDBLOCK})
+        self.see("another run was quicker: OUT is there", self.is_there("new") and self.read("new") == b"")
+
+    @needs("cc")
     def test_no_locks(self):
         self.expect(0, b"", "decrypt --pass pass age out", "a file system without locks", {"FLOCK": errno.ENOLCK})
         self.see("a file system without locks: OUT", self.read("out") == PLAIN)

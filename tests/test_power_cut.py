@@ -301,6 +301,10 @@ class Case(typing.NamedTuple):
     def without_waiting(self):
         return self._replace(name=f"{self.name}, --no-sync", words=f"{self.words} --no-sync")
 
+    def kept(self):
+        """What was there before and has to stay: all but the room that a stopped run left."""
+        return {name for name, held in self.before.items() if held != "room"}
+
     def faults_without_waiting(self):
         """What a power cut does to such a run."""
         if self.status == 0:
@@ -328,6 +332,8 @@ def cases():
     for save in ("saved", "there/saved"):
         words = f"decrypt --save {save} --pass ../pass ../cut-2 out"
         yield Case(f"decrypt --save {save} over one, over its OUT, stopped", words, {"out": "old", save: "position"}, 1)
+    words = "decrypt --save saved --pass ../pass ../cut-2 out"
+    yield Case("decrypt --save saved beside a room, stopped", words, {"saved.new-0": "room"}, 1)
 
 
 def saving_cases(name, save, before, stopped):
@@ -349,7 +355,7 @@ class Room:
     def __init__(self, folder):
         self.folder = folder
         self.texts = {}
-        for name, held in {"pass": b"correct horse", "wrong": b"battery staple", "plain": PLAIN, "other": OTHER}.items():
+        for name, held in {"pass": b"correct horse", "wrong": b"battery staple", "plain": PLAIN, "other": OTHER, "room": b" " * 256}.items():
             self.path(name).write_bytes(held)
         self.run(folder, "encrypt --pass pass --log 1 plain age")
         self.run(folder, "encrypt --pass pass --log 1 other other.age")
@@ -477,7 +483,7 @@ class Trial:
     def faults_of(self, state, is_over):
         case = self.case
         held = {name: part.held for name, part in state.items()}
-        if not case.before.keys() <= held.keys():
+        if not case.kept() <= held.keys():
             yield LOST_FILE
         if case.keeps_out() and not self.is_kept(held, is_over):
             yield CHANGED_OUT

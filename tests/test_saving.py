@@ -1,10 +1,12 @@
 """Runs the built program in places where a careless one loses a position, or another file for it: names that change while it runs,
 folders and file systems that refuse a new file, an OUT that holds less than was written to it."""
 import errno
+import fcntl
 import os
 import random
 import select
 import signal
+import stat
 import subprocess
 import threading
 import time
@@ -19,6 +21,7 @@ USED = "this run uses the file"
 MOVED = "its folder has changed"
 NO_FILE = "it is no file any more"
 MADE = "another program made it meanwhile"
+SAME = b"age_tool: same file named twice\nage_tool: saved is another file of this command too\n"
 
 
 class SavingTest(FilesCase):
@@ -98,6 +101,16 @@ class SavingTest(FilesCase):
             self.see(f"{name}: kept", self.read("other/place") == b"somebody's file" and os.listdir(self.path("other")) == ["place"])
             self.path("folder").unlink()
             os.rename(self.path("moved"), self.path("folder"))
+
+    @needs("cc")
+    def test_turned_link(self):
+        """A file of `--save` that comes to lead to one that is open isn't prepared."""
+        held = self.read("pass")
+        for leads_to in ("pass", "cut"):
+            name = f"saved comes to lead to {leads_to}"
+            self.write("saved", b"an old position")
+            self.expect(2, SAME, "decrypt --pass pass --save saved cut new", name, {"TURNED": leads_to})
+            self.see(f"{name}: kept", self.read("pass") == held and self.read("cut") == self.age[:150000] and not self.is_there("new"))
 
     def test_two_saves(self):
         """Two runs don't save into one file."""
@@ -204,6 +217,99 @@ class SavingTest(FilesCase):
         self.remove("saved.new-0")
         feeding.stops("the room was removed meanwhile", chunk_fault(2))
         self.see("the room was removed meanwhile: a position", self.is_position("saved", 2))
+
+    def rooms(self):
+        return {it.name: it.lstat().st_ino for it in self.room.glob("saved.new-*")}
+
+    def kill(self, *feeding):
+        for it in feeding:
+            it.run.kill()
+            it.input.close()
+            self.ends("a run that is killed", it.run, -signal.SIGKILL, b"")
+
+    def test_left_rooms(self):
+        """The room that a killed run left is used again, and not that of a run that goes on."""
+        for turn in range(3):
+            feeding = Feeding(self)
+            self.see(f"{turn} runs were killed: the room", [*self.rooms()] == ["saved.new-0"] and self.read("saved.new-0") == b" " * 256, self.rooms())
+            self.kill(feeding)
+        first = Feeding(self)
+        held = self.rooms()
+        second = Feeding(self)
+        self.see("two runs: each has its own", sorted(self.rooms()) == ["saved.new-0", "saved.new-1"] and held.items() <= self.rooms().items(), self.rooms())
+        held = self.rooms()
+        self.kill(first)
+        third = Feeding(self)
+        now = self.rooms()
+        self.see("a third: that of the one that was killed", now.keys() == held.keys() and now["saved.new-1"] == held["saved.new-1"], held, now)
+        self.kill(second)
+        third.stops("a third: its position", chunk_fault(2))
+        self.see("a third: its position", self.is_position("saved", 2))
+        self.see("a third: what is left", [*self.rooms()] == ["saved.new-1"], self.rooms())
+
+    def stays(self, name, **more):
+        """Saves a position, and counts whether what is where its room would be stays as it is."""
+        room = self.path("saved.new-0")
+        held, was = room.lstat(), room.read_bytes() if room.is_file() else None
+        self.remove("saved")
+        self.expect(1, chunk_fault(2), "decrypt --pass pass --save saved cut out", name, **more)
+        now = room.lstat()
+        same = [getattr(held, it) == getattr(now, it) for it in ("st_ino", "st_mode", "st_nlink", "st_size", "st_mtime_ns", "st_ctime_ns")]
+        self.see(f"{name}: it stays", all(same) and (was is None or room.read_bytes() == was), held, now)
+        self.see(f"{name}: a position", self.is_position("saved", 2) and [*self.rooms()] == ["saved.new-0"])
+
+    def test_no_room(self):
+        """What isn't known to be a room that a stopped run left stays."""
+        room, blanks = self.path("saved.new-0"), b" " * 256
+        for held in (b"", blanks[1:], blanks + b" ", blanks[1:] + b"\n", b"\0" * 256, b"age-position/v2 1 0 " + b"1" * 236):
+            self.write("saved.new-0", held)
+            self.stays(f"a file of {held[-3:]}")
+        self.write("other", blanks)
+        for name, make in (("a second name", os.link), ("a link", os.symlink)):
+            self.remove("saved.new-0")
+            make(self.path("other"), room)
+            self.stays(name)
+        self.remove("saved.new-0")
+        os.mkfifo(room)
+        self.stays("a pipe")
+        self.remove("saved.new-0")
+        room.mkdir()
+        self.stays("a folder")
+        room.rmdir()
+        self.write("saved.new-0", blanks)
+        with open(room, "rb") as locked:
+            fcntl.flock(locked, fcntl.LOCK_EX)
+            self.stays("a room that somebody has locked")
+        self.expect(1, chunk_fault(2), "decrypt --pass pass --save saved cut out", "a room that nobody has locked")
+        self.see("a room that nobody has locked: it is gone", self.rooms() == {})
+
+    @needs("cc")
+    def test_room_without_locks(self):
+        """Where there are no locks, a room may be that of a run that goes on."""
+        self.write("saved.new-0", b" " * 256)
+        self.stays("a file system without locks", failing={"FLOCK": errno.ENOLCK})
+
+    @needs(root=True)
+    def test_room_of_others(self):
+        """A room that may not be opened or removed stays."""
+        room = self.path("saved.new-0")
+        self.room.chmod(0o777)
+        self.write("saved.new-0", b" " * 256, 0o600)
+        self.write("out", b"", 0o666)
+        self.stays("a room of another user", **as_nobody())
+        folder = self.path("folder")
+        folder.mkdir()
+        (folder / "saved").write_bytes(b"")
+        (folder / "saved").chmod(0o666)
+        (folder / "saved.new-0").write_bytes(b" " * 256)
+        (folder / "saved.new-0").chmod(0o666)
+        folder.chmod(0o555)
+        words = ["decrypt", "--pass", "pass", "--save", "folder/saved", "cut", "/dev/null"]
+        self.expect(1, chunk_fault(2), words, "a folder that isn't writable", **as_nobody())
+        self.see("a folder that isn't writable: the room", (folder / "saved.new-0").read_bytes() == b" " * 256)
+        os.remove(room)
+        os.mknod(room, 0o600 | stat.S_IFCHR, os.makedev(1, 3))
+        self.stays("a device")
 
     @needs(root=True)
     def test_read_only(self):

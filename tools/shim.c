@@ -8,7 +8,7 @@
  * fails with that error, and no other.
  *
  * SWAP: `folder` leads to `other` before that write to a place in a file. PIPED: before that open of `saved` to be written a pipe takes
- * its place. GONE: `out` is removed before it is opened to be written. TRIGGER names a file that gets a 1 before the first sync. SYNCED names one that gets a line for each file that is synced.
+ * its place. TURNED: as `cut` is opened, `saved` becomes a link to that. GONE: `out` is removed before it is opened to be written. TRIGGER names a file that gets a 1 before the first sync. SYNCED names one that gets a line for each file that is synced.
  *
  * RECORD names a file that gets each call that succeeded and changes what a regular file holds or which names a folder has, waits for
  * the disk, locks, or closes what could be written to. A line has the name of the call and its arguments, with tabs between them: an inode where a file is meant, and a path
@@ -91,6 +91,9 @@ static void pipe_up(const char *path) {
     static long count;
     if (number("PIPED") && ends_in(path, "saved") && ++count == number("PIPED") && (unlink(path) || mkfifo(path, 0600))) abort();
 }
+static void turn(const char *path) {
+    if (getenv("TURNED") && ends_in(path, "cut") && (unlink("saved") || symlink(getenv("TURNED"), "saved"))) abort();
+}
 static void trigger(void) {
     FILE *file = getenv("TRIGGER") ? fopen(getenv("TRIGGER"), "w") : NULL;
     if (file) fputs("1\n", file), fclose(file), unsetenv("TRIGGER");
@@ -153,6 +156,7 @@ static struct path path(int folder, const char *name) {
 static int opened(int folder, const char *name, int flags, mode_t mode) {
     struct stat it;
     if (flags & O_ACCMODE) pipe_up(name);
+    turn(name);
     if ((flags & O_ACCMODE) && !(flags & O_EXCL) && getenv("GONE") && ends_in(name, "out")) NEXT(unlink)(name);
     int is_new = getenv("RECORD") && (flags & O_CREAT) && fstatat(folder, name, &it, 0) != 0;
     int fd = NEXT(openat)(folder, name, flags, mode);

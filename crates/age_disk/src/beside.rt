@@ -12,11 +12,8 @@ use std::marker::Model;
 use std::path::PathBuf;
 use std::rt::HostRuntime;
 
-/// What such a file holds until a position is written over it: as many bytes as the longest one may
-/// have, so that there is room for it whatever happens to the disk.
-const ROOM: [u8; 256] = [b' '; 256];
-
-/// A file that was made in the folder of another. If it isn't renamed, it is removed in the end.
+/// A file that was made in the folder of another, and that this run alone has as long as it is open.
+/// If it isn't renamed, it is removed in the end.
 pub(crate) struct Kept {
     // The calls that made it.
     machine: HostMachine,
@@ -65,7 +62,7 @@ impl Kept {
     ) -> io::Result<Option<Kept>> {
         let mut machine = HostMachine::new(rt);
         let own = String::from_str(alloc, path.as_str())?;
-        match prepare_beside(alloc, &mut machine, own.as_str(), &ROOM, durability)? {
+        match prepare_beside(alloc, &mut machine, own.as_str(), durability)? {
             Some(beside) => Ok(Some(Kept {
                 machine,
                 path: own,

@@ -10,6 +10,7 @@ use crate::prepare::Prepared;
 use crate::sync::sync_folder;
 use age_fault::write_all;
 use age_io::{Durability, Tape};
+use age_machine::calls::open_there;
 use age_machine::{
     HostMachine, Node, POSITION_MODE, Spot, Unplaced, found_at, lock, made_meanwhile,
     open_to_write, replace_by_kept, replace_by_new,
@@ -82,7 +83,7 @@ fn open_device(rt: &HostRuntime, name: &str, found: Node) -> io::Result<File> {
     if !fs::metadata(rt, name)?.file_type().is_fifo() {
         return if_found(open_to_write(rt, name, POSITION_MODE)?, found);
     }
-    let reader = File::options().read(true).write(true).open(rt, name);
+    let reader = open_there(rt, name, true);
     let opened = open_to_write(rt, name, POSITION_MODE);
     drop(reader);
     if_found(opened?, found)

@@ -1,7 +1,7 @@
 //! Waits until files of the machine have reached the disk, and closes them.
 
 use crate::names::{Stream, is_on_disk};
-use age_machine::calls::close;
+use age_machine::calls::{close, open_there};
 use age_machine::{above_streams, folder_of};
 use std::fs::File;
 use std::io;
@@ -72,7 +72,7 @@ impl Witness {
 fn open_either_way(rt: &HostRuntime, path: &str) -> io::Result<File> {
     match File::open(rt, path) {
         Ok(file) => above_streams(file),
-        Err(_) => above_streams(File::options().write(true).open(rt, path)?),
+        Err(_) => above_streams(open_there(rt, path, false)?),
     }
 }
 

@@ -6,9 +6,10 @@ use Rattle.std.proofs.Common.{false, length, take, drop, arith, append_assoc, le
 use Rattle.std.specs.Prelude.{bytes_eq, if◌then◌else◌, Contains, Result, Ok, Err, OnOk, OnErr, replicate}
 use Rattle.std.proofs.lemmas.Bool.{false_from_ne_true, eq-eqb, ne_eqb}
 use Rattle.std.proofs.lemmas.Slice.Eq.{bytes_eq-Decides}
-use Rattle.age_machine.specs.{FileCall, Made, Wrote, Closed, IsOf, Linked, Renamed, Removed, SyncedNames, at_path, for_file, changed, after_call, IsAmong, MayLead}
+use Rattle.age_machine.specs.{FileCall, Made, Wrote, Closed, IsOf, Linked, Renamed, Removed, Reclaimed, SyncedNames, at_path, for_file, changed, after_call, IsAmong, MayLead}
 use Rattle.age_machine.specs.{MayLeaveFile, MayLeave, Synced, Unwaited, Missing, UnwaitedNames, MayHave, Waited, after_calls, sized, written, AllAnswered, AllWaited, IsBeside, IsKept}
-use Rattle.age_machine.specs.{AtEachMoment, Throughout, SavesWhole, SparesFile, HasMade, IsLonger, IsWithin, AllWithin, Touches, IsSafe, Replaces, HasBeside}
+use Rattle.age_machine.specs.{AtEachMoment, Throughout, SavesWhole, SparesFile, HasMade, IsLonger, IsWithin, AllWithin, Touches, IsSafe, Replaces, HasBeside, Reclaims}
+use Rattle.age_machine.specs.Beside.{AllReclaimed}
 use Rattle.age_machine.specs.Disk.{Disk}
 use Rattle.age_machine.specs.inner.{Has, AllOf, IsAbout, HasTried, HasPlaced, Fills, IsInPlace, IsReady, WritesOver, CutsOff}
 use Rattle.std.proofs.lemmas.List.{append-nil, take_at, drop_at, take_all, drop-drop, length-take-le}
@@ -278,6 +279,44 @@ all_within path first (call ∷ second) before after_call =
 pub touches_then : (path : List ℕ) (old mid new : List FileCall) → Touches path old mid → Touches path mid new → Touches path old new
 touches_then path old mid new first second = grind (arith, common_steps, all_within, append_assoc)
 
+-- ---- Rooms beside the path.
+
+-- nothing happened at the path
+record SeesNothing (path : List ℕ) (old new : List FileCall) : Type 0 where
+  pub touches : Touches path old new
+  pub saves : (bytes : List ℕ) → SavesWhole path bytes old new
+  pub spares : SparesFile path old new
+
+module _ (path : List ℕ) (old : List FileCall) where
+  pub reclaims_more : (p : List ℕ) (calls new : List FileCall) → IsLonger path p → Reclaims path old calls
+      → MayHave (Reclaimed p) calls new → Reclaims path old new
+  reclaims_more p calls new longer reclaims = if_made (Reclaims path old) (Reclaimed p) calls new reclaims (record {
+    since = Reclaimed p ∷ reclaims.since;
+    are = ap (λ (l : List FileCall). Reclaimed p ∷ l) reclaims.are;
+    all = ((p, refl, longer), reclaims.all);
+  })
+
+  sees_one : (p : List ℕ) (calls : List FileCall) → IsLonger path p → SeesNothing path old calls → SeesNothing path old (Reclaimed p ∷ calls)
+  sees_one p calls longer sees = record {
+    touches = record {
+      since = Reclaimed p ∷ sees.touches.since;
+      are = ap (λ (l : List FileCall). Reclaimed p ∷ l) sees.touches.are;
+      within = (longer, sees.touches.within);
+    };
+    saves = λ bytes. saves_quietly path bytes old (Reclaimed p) calls (sees.saves bytes)
+        (λ disk answers waited. leaves_removed path p (after_calls calls disk) longer.2);
+    spares =
+        spares_quietly path old (Reclaimed p) calls sees.spares (λ disk answers m is. path_other p path None (after_calls calls disk).file longer.2 ∙ is);
+  }
+
+  sees_all : (since : List FileCall) → AllReclaimed path since → SeesNothing path old (since ++ old)
+  sees_all [] all =
+      record { touches = touches_none path old; saves = λ bytes. saves_none path bytes old; spares = spares_none path old }
+  sees_all (call ∷ since) all = let sees = sees_all since all.1 in rw all.0.1 (sees_one all.0.0 (since ++ old) all.0.2 sees)
+
+  sees : (new : List FileCall) → Reclaims path old new → SeesNothing path old new
+  sees new reclaims = rw reclaims.are (sees_all reclaims.since reclaims.all)
+
 -- ---- A file beside the path.
 
 pub has_more : (path from : List ℕ) (n : ℕ) (old : List FileCall) (call : FileCall) (calls : List FileCall) → HasBeside path from n old calls
@@ -322,34 +361,41 @@ module _ (path from : List ℕ) (n : ℕ) (old : List FileCall) where
   pub beside_about : (calls new : List FileCall) → IsBeside path from n old calls → IsAbout n calls new → IsBeside path from n old new
   beside_about calls new beside about = rw about.are (beside_all about.since calls about.all beside)
 
-  -- right after it was made
-  pub kept_made : (new : List FileCall) → IsLonger path from → new ≡ Made from n ∷ old → IsKept path from n old new
-  kept_made new longer made = rw made (record {
+  -- right after it was made, where rooms may have been reclaimed before
+  pub kept_made : (mid new : List FileCall) → IsLonger path from → Reclaims path old mid → new ≡ Made from n ∷ mid → IsKept path from n old new
+  kept_made mid new longer reclaims made = let seen = sees path old mid reclaims in rw made (record {
     beside = record {
       has = record {
-        touches = record { since = Made from n ∷ []; are = refl; within = (longer, tt) };
-        made = contains_first (Made from n) [];
+        touches = record {
+          since = Made from n ∷ seen.touches.since;
+          are = ap (λ (l : List FileCall). Made from n ∷ l) seen.touches.are;
+          within = (longer, seen.touches.within);
+        };
+        made = contains_first (Made from n) seen.touches.since;
       };
       apart = longer.2;
-      saves = λ bytes. saves_quietly path bytes old (Made from n) old (saves_none path bytes old)
-          (λ disk answers waited. leaves_apart n path (after_calls old disk) (after_call (Made from n) (after_calls old disk))
-          (apart_made n path from (after_calls old disk) longer.2) answers.0.1);
+      saves = λ bytes. saves_quietly path bytes old (Made from n) mid (seen.saves bytes)
+          (λ disk answers waited. leaves_apart n path (after_calls mid disk) (after_call (Made from n) (after_calls mid disk))
+          (apart_made n path from (after_calls mid disk) longer.2) answers.0.1);
       spares =
-          spares_quietly path old (Made from n) old (spares_none path old) (λ disk answers m is.
-          (apart_made n path from (after_calls old disk) longer.2).file ∙ is);
-      file = λ disk answers. path_same from (Some n) (after_calls old disk).file;
-      elsewhere = λ disk answers may. let apart = apart_made n path from (after_calls old disk) longer.2 in
+          spares_quietly path old (Made from n) mid seen.spares (λ disk answers m is.
+          (apart_made n path from (after_calls mid disk) longer.2).file ∙ is);
+      file = λ disk answers. path_same from (Some n) (after_calls mid disk).file;
+      elsewhere = λ disk answers may. let apart = apart_made n path from (after_calls mid disk) longer.2 in
           answers.0.1 (led _ _ _ _ (Some n) apart.file apart.before may);
     };
-    sound = λ disk. file_same n false (after_calls old disk).is_lost;
+    sound = λ disk. file_same n false (after_calls mid disk).is_lost;
   })
 
 -- ---- Bytes that are put to a path.
 
 module _ {E : Type 0} (to : Spot) (path bytes : List ℕ) (wanted : Durability) (old new : List FileCall) where
-  -- nothing was done
-  pub replaces_none : (e : E) → new ≡ old → Replaces {E = E} to bytes wanted (Err e) old new path
-  replaces_none e same = grind (arith, common_steps, saves_none, spares_none, touches_none)
+  -- nothing was done but that rooms were reclaimed
+  pub replaces_none : (e : E) → Reclaims path old new → Replaces {E = E} to bytes wanted (Err e) old new path
+  replaces_none e reclaims = let seen = sees path old new reclaims in record {
+    puts = record { whole = λ synced. seen.saves bytes; safe = λ synced. tt; touches = seen.touches };
+    spares = λ free. seen.spares;
+  }
 
   -- a file beside it got there
   pub replaces_placed : (from : List ℕ) (n : ℕ) (r : Result (Unit {0}) E) → HasPlaced to wanted path from n bytes (IsSafe path bytes new) r old new
@@ -401,9 +447,12 @@ about_then n old mid new first second = grind (arith, common_steps, all_append, 
 pub about_first : (n : ℕ) (call : FileCall) (old new : List FileCall) → new ≡ call ∷ old → IsOf n call → IsAbout n old new
 about_first n call old new is of = record { since = call ∷ []; are = is; all = (of, tt) }
 
-pub about_waited : (n : ℕ) (old new : List FileCall) → Waited (Synced n) (Unwaited n) old new → IsAbout n old new
-about_waited n old new (inl synced) = about_first n (Synced n) old new synced refl
-about_waited n old new (inr unwaited) = about_first n (Unwaited n) old new unwaited refl
+pub about_none : (n : ℕ) (old new : List FileCall) → new ≡ old → IsAbout n old new
+about_none n old new is = record { since = []; are = is; all = tt }
+
+pub about_waited : (n : ℕ) (waits cant : FileCall) (old new : List FileCall) → IsOf n waits → IsOf n cant → Waited waits cant old new → IsAbout n old new
+about_waited n waits cant old new one other (inl is) = about_first n waits old new is one
+about_waited n waits cant old new one other (inr is) = about_first n cant old new is other
 
 -- ---- What is written.
 

@@ -33,6 +33,8 @@ pub data FileCall : Type 0 where
   Renamed : List ℕ → List ℕ → FileCall
   -- a path leads to nothing now
   Removed : List ℕ → FileCall
+  -- an empty room that a stopped run left at a path was removed, under its lock
+  Reclaimed : List ℕ → FileCall
   -- the names in the folder of a path have reached the disk; the system can't wait for them
   SyncedNames : List ℕ → FileCall
   UnwaitedNames : List ℕ → FileCall

@@ -1,9 +1,10 @@
 -- What calls leave on a disk, also if the power is cut after one of them.
-use Rattle.std.specs.Prelude.{◌≡◌, ◌⊎◌, ℕ, ◌+◌, ◌-◌, List, [], ◌∷◌, ◌++◌, length, take, drop, replicate}
-use Rattle.std.specs.Prelude.{Option, Some, None, Bool, true, false, not, bytes_eq, nat_eq, if◌then◌else◌}
-use Rattle.age_machine.specs.Calls.{FileCall, Made, Opened, Wrote, Cut, Broke, Measured, Synced, Unwaited, Closed}
-use Rattle.age_machine.specs.Calls.{Locked, Unlockable, Missing, Linked, Renamed, Removed, SyncedNames}
-use Rattle.age_machine.specs.Calls.{UnwaitedNames}
+use Rattle.std.specs.Prelude.{◌≡◌, ◌⊎◌, ℕ, ◌+◌, ◌-◌, List, [], ◌∷◌, ◌++◌, length, take, drop}
+use Rattle.std.specs.Prelude.{replicate, Option, Some, None, Bool, true, false, not, bytes_eq}
+use Rattle.std.specs.Prelude.{nat_eq, if◌then◌else◌}
+use Rattle.age_machine.specs.Calls.{FileCall, Made, Opened, Wrote, Cut, Broke, Measured, Synced}
+use Rattle.age_machine.specs.Calls.{Unwaited, Closed, Locked, Unlockable, Missing, Linked, Renamed}
+use Rattle.age_machine.specs.Calls.{Removed, Reclaimed, SyncedNames, UnwaitedNames}
 
 -- ---- A disk.
 
@@ -75,6 +76,7 @@ after_call (Missing path) disk = disk
 after_call (Linked from to) disk = leading to (disk.file from) disk
 after_call (Renamed from to) disk = leading from None (leading to (disk.file from) disk)
 after_call (Removed path) disk = leading path None disk
+after_call (Reclaimed path) disk = leading path None disk
 after_call (SyncedNames path) disk = record disk { before = at_path path [] disk.before }
 after_call (UnwaitedNames path) disk = disk
 

@@ -1,8 +1,9 @@
 -- What may become of a file that is put to a path, or written in place, with a call less, or with two
 -- in another order.
-use Rattle.std.specs.Prelude.{◌≡◌, ◌≢◌, ◌<◌, ◌^◌, ℕ, List, [], ◌∷◌, ◌++◌, length, Some, None, true, false, Contains}
-use Rattle.age_machine.specs.Calls.{FileCall, Made, Opened, Wrote, Cut, Measured, Synced, Locked, Unlockable}
-use Rattle.age_machine.specs.Calls.{Linked, Renamed, Removed, SyncedNames}
+use Rattle.std.specs.Prelude.{◌≡◌, ◌≢◌, ◌<◌, ◌^◌, ℕ, List, [], ◌∷◌, ◌++◌, length, Some, None, true}
+use Rattle.std.specs.Prelude.{false, Contains}
+use Rattle.age_machine.specs.Calls.{FileCall, Made, Opened, Wrote, Cut, Measured, Synced, Locked}
+use Rattle.age_machine.specs.Calls.{Unlockable, Linked, Renamed, Removed, SyncedNames}
 use Rattle.age_machine.specs.declared.machine.Kind.TheVariants.{Regular}
 use Rattle.age_machine.specs.Disk.{Disk, at_path, after_calls, MayLeave}
 use Rattle.age_machine.specs.Saves.{AllAnswered, AllWaited, SavesWhole, IsSafe, HasMade}

@@ -9,22 +9,24 @@ pub mod Outs
 pub mod Saved
 pub mod Saves
 pub mod inner
-pub use Beside.{HasBeside, IsBeside, IsKept}
-pub use Calls.{Broke, Closed, CountsFailure, Cut, FileCall, IsOf, Linked, Locked, Made, MayHave, Missing, Opened}
-pub use Calls.{Removed, Renamed, Synced, SyncedNames, Unlockable, Unwaited, UnwaitedNames, Waited, Wrote}
-pub use Disk.{IsAmong, MayLead, MayLeave, MayLeaveFile, after_call, after_calls, at_path, changed, for_file}
-pub use Disk.{sized, written}
-pub use Ends.{Closes, Discards, EndedFile, IsOnDisk, IsThere, IsUntouched, TouchesItself, opens_device}
+pub use Beside.{HasBeside, IsBeside, IsKept, Reclaims}
+pub use Calls.{Broke, Closed, CountsFailure, Cut, FileCall, IsOf, Linked, Locked, Made, MayHave}
+pub use Calls.{Missing, Opened, Reclaimed, Removed, Renamed, Synced, SyncedNames, Unlockable}
+pub use Calls.{Unwaited, UnwaitedNames, Waited, Wrote}
+pub use Disk.{IsAmong, MayLead, MayLeave, MayLeaveFile, after_call, after_calls, at_path, changed}
+pub use Disk.{for_file, sized, written}
+pub use Ends.{Closes, Discards, EndedFile, IsOnDisk, IsThere, IsUntouched, TouchesItself}
+pub use Ends.{opens_device}
 unfoldable pub use Held.*
 pub use Laws.{ChangedIfLockedLate, HasOneLock, IsUnchanged, LostIfNamesUnwaited, NumbersAreApart}
-pub use Laws.{CanLeave, OthersAreKept, OutsAreAnswered, SecondRunIsHarmless, TornIfCutLast, TornIfRenamedFirst}
-pub use Laws.{TornIfUnsynced, TornIfUnwaited, WaitsAreAnswered, bare, bare_but, filled, linked, overwritten}
-pub use Laws.{put_out, renamed}
+pub use Laws.{CanLeave, OthersAreKept, OutsAreAnswered, SecondRunIsHarmless, TornIfCutLast}
+pub use Laws.{TornIfRenamedFirst, TornIfUnsynced, TornIfUnwaited, WaitsAreAnswered, bare, bare_but}
+pub use Laws.{filled, linked, overwritten, put_out, renamed}
 pub use Numbers.{number_of}
-pub use Outs.{AllOn, IsClaimed, IsOn, LocksFirst, MayChange, OutFile, OutView, TouchesFile, is_making}
-pub use Outs.{IsThereAs, opening_of, text_of}
+pub use Outs.{AllOn, IsClaimed, IsOn, LocksFirst, MayChange, OutFile, OutView, TouchesFile}
+pub use Outs.{is_making, IsThereAs, opening_of, text_of}
 pub use Saved.{PutsAtOnce, Replaces, SavedFile}
-pub use Saves.{AllAnswered, AllWaited, AllWithin, AtEachMoment, HasMade, IsAnswered, IsLonger, IsSafe}
-pub use Saves.{IsWithin, LeadsTo, SavesWhole, SparesFile, Throughout, Touches}
+pub use Saves.{AllAnswered, AllWaited, AllWithin, AtEachMoment, HasMade, IsAnswered, IsLonger}
+pub use Saves.{IsSafe, IsWithin, LeadsTo, SavesWhole, SparesFile, Throughout, Touches}
 pub use Rattle.age_machine.specs.declared.machine.Kind.TheVariants.{Regular}
 pub use Rattle.age_machine.specs.declared.node.Node.{Node}

@@ -1,7 +1,8 @@
 -- A file that is written in place, by a machine that makes no other calls.
-use Rattle.std.specs.Prelude.{◌≡◌, ◌⊎◌, ◌≤◌, ℕ, List, [], ◌∷◌, ◌++◌, length, Bool, true, false, Contains}
-use Rattle.age_machine.specs.Calls.{FileCall, Made, Opened, Wrote, Cut, Broke, Closed, Locked, Unlockable, Removed}
-use Rattle.age_machine.specs.Calls.{SyncedNames, UnwaitedNames, IsOf}
+use Rattle.std.specs.Prelude.{◌≡◌, ◌⊎◌, ◌≤◌, ℕ, List, [], ◌∷◌, ◌++◌, length, Bool, true, false}
+use Rattle.std.specs.Prelude.{Contains}
+use Rattle.age_machine.specs.Calls.{FileCall, Made, Opened, Wrote, Cut, Broke, Closed, Locked}
+use Rattle.age_machine.specs.Calls.{Unlockable, Removed, SyncedNames, UnwaitedNames, IsOf}
 use Rattle.age_machine.specs.Saves.{LeadsTo}
 use Rattle.age_machine.specs.declared.in_place.Opening.{Opening}
 use Rattle.age_machine.specs.declared.in_place.Opening.TheVariants as way

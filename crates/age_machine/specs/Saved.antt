@@ -21,7 +21,7 @@ pub record PutsAtOnce {E : Type 0} (bytes : List ℕ) (durability : Durability)
   pub whole : durability ≡ Synced → SavesWhole path bytes old calls
   -- After success it is these bytes.
   pub safe : durability ≡ Synced → OnOk result (IsSafe path bytes calls)
-  -- Only the path and new files beside it are touched.
+  -- Only the path, new files beside it and rooms that stopped runs left there are touched.
   pub touches : Touches path old calls
 
 -- and what has come there stays, where nothing was

@@ -1,9 +1,9 @@
 -- What it means that a file is put to a path at once, whatever fails and whenever the power is cut.
-use Rattle.std.specs.Prelude.{◌≡◌, ◌≢◌, ◌⊎◌, ℕ, List, [], ◌∷◌, ◌++◌, length, Option, Some, None, true, false}
-use Rattle.std.specs.Prelude.{Contains}
-use Rattle.age_machine.specs.Calls.{FileCall, Made, Opened, Wrote, Cut, Broke, Measured, Synced, Unwaited, Closed}
-use Rattle.age_machine.specs.Calls.{Locked, Unlockable, Missing, Linked, Renamed, Removed}
-use Rattle.age_machine.specs.Calls.{SyncedNames, UnwaitedNames}
+use Rattle.std.specs.Prelude.{◌≡◌, ◌≢◌, ◌⊎◌, ℕ, List, [], ◌∷◌, ◌++◌, length, Option, Some, None}
+use Rattle.std.specs.Prelude.{true, false, Contains}
+use Rattle.age_machine.specs.Calls.{FileCall, Made, Opened, Wrote, Cut, Broke, Measured, Synced}
+use Rattle.age_machine.specs.Calls.{Unwaited, Closed, Locked, Unlockable, Missing, Linked, Renamed}
+use Rattle.age_machine.specs.Calls.{Removed, Reclaimed, SyncedNames, UnwaitedNames}
 use Rattle.age_machine.specs.declared.machine.Kind.TheVariants.{Regular}
 use Rattle.age_machine.specs.Disk.{Disk, after_calls, MayLead, MayLeave}
 
@@ -83,7 +83,8 @@ HasMadeAt p calls = (n : ℕ) × Contains calls (Made p n)
 abbrev pub IsLonger : List ℕ → List ℕ → Type 0
 IsLonger path p = (more : List ℕ) × (p ≡ path ++ more) × (p ≢ path)
 
--- After these calls, this one is about the path, a longer one beside it, or a file that they made.
+-- After these calls, this one is about the path, a file that they made beside it, or an empty room that
+-- a stopped run left there.
 abbrev pub IsWithin : List ℕ → List FileCall → FileCall → Type 0
 IsWithin path calls (Made p n) = IsLonger path p
 IsWithin path calls (Opened p n kind) = ⊥
@@ -100,6 +101,7 @@ IsWithin path calls (Missing p) = p ≡ path
 IsWithin path calls (Linked from to) = HasMadeAt from calls × (to ≡ path)
 IsWithin path calls (Renamed from to) = HasMadeAt from calls × (to ≡ path)
 IsWithin path calls (Removed p) = HasMadeAt p calls
+IsWithin path calls (Reclaimed p) = IsLonger path p
 IsWithin path calls (SyncedNames p) = p ≡ path
 IsWithin path calls (UnwaitedNames p) = p ≡ path
 

@@ -1,15 +1,16 @@
 //! A file beside another one, whose place it is to take.
 
-ghost use Rattle.std.specs.Prelude.{◌≡◌, ◌≢◌, ◌⊎◌, ◌≤◌, ◌<◌, ◌∷◌, string_bytes, IfOk, IfErr, OnOk, OnErr};
-ghost use Rattle.std.specs.Prelude.{MatchOption, length};
+ghost use Rattle.std.specs.Prelude.{◌≡◌, ◌≢◌, ◌⊎◌, ◌≤◌, ◌<◌, ◌∷◌, string_bytes, IfOk, IfErr, OnOk};
+ghost use Rattle.std.specs.Prelude.{OnErr, MatchOption, length};
 ghost use Rattle.age_io.specs.declared.durability.Durability.TheVariants as wait;
-ghost use Rattle.age_machine.specs.Calls.{Made, Broke, Synced, Unwaited, Waited};
+ghost use Rattle.age_machine.specs.Calls.{Broke, Synced, Unwaited, Waited};
 ghost use Rattle.age_machine.specs.Saves.{IsLonger};
-ghost use Rattle.age_machine.specs.Beside.{IsKept};
+ghost use Rattle.age_machine.specs.Beside.{IsKept, Reclaims};
 ghost use Rattle.age_machine.specs.declared.beside.Unplaced.TheVariants.{Memory};
 ghost use Rattle.age_machine.specs.inner.Steps.{IsAbout, StaysSound, WritesOver};
 
 use crate::machine::Machine;
+use crate::room::ROOM;
 use age_io::Durability;
 use std::alloc::{AllocError, Global};
 use std::io;
@@ -49,16 +50,16 @@ fn numbered(alloc: Global, path: &str, n: u32) -> Result<String, AllocError>
     Ok(beside)
 }
 
-/// Makes a file next to another, under its name with the first number that is free.
+/// Makes a file next to another, under its name with the first number that is free, or becomes so:
+/// an empty room that a stopped run left there is removed.
 pub(crate) fn make_beside<M: Machine>(
     alloc: Global,
     machine: &mut M,
     path: &str,
 ) -> Result<Beside<M::File>, Unplaced>
-    ensures ok { IfOk result (λ made. M.calls machine.new
-        ≡ Made (string_bytes made.path) (M.number made.file) ∷ M.calls machine.old) }
-    ensures longer { IfOk result (λ made. IsLonger path.now (string_bytes made.path)) }
-    ensures err { OnErr result (M.calls machine.new ≡ M.calls machine.old) }
+    ensures kept { IfOk result (λ made. IsKept path.now (string_bytes made.path)
+        (M.number made.file) (M.calls machine.old) (M.calls machine.new)) }
+    ensures err { OnErr result (Reclaims path.now (M.calls machine.old) (M.calls machine.new)) }
     ensures counted { M.failed machine.old ≤ M.failed machine.new }
     ensures caused { IfErr result (λ why. why ≢ Memory
         → M.failed machine.old < M.failed machine.new) }
@@ -67,6 +68,7 @@ pub(crate) fn make_beside<M: Machine>(
         let Ok(beside) = numbered(alloc, path, n) else {
             return Err(Unplaced::Memory);
         };
+        machine.reclaim(beside.as_str());
         match machine.make(beside.as_str()) {
             Ok(file) => return Ok(Beside { file, path: beside }),
             Err(error) if error.kind() == io::ErrorKind::AlreadyExists => {}
@@ -120,38 +122,44 @@ pub(crate) fn settle<M: Machine>(
     }
 }
 
-/// Fills a new file with room for what is to be written to it.
-fn keep_room<M: Machine>(
-    machine: &mut M,
-    file: &M::File,
-    room: &[u8],
-    durability: Durability,
-) -> io::Result<()>
+/// Takes a new file for this run alone, as far as that can be done.
+fn lock_room<M: Machine>(machine: &mut M, file: &M::File)
+    ensures about { IsAbout (M.number file.now) (M.calls machine.old) (M.calls machine.new) }
+    ensures sound { StaysSound (M.number file.now) (M.calls machine.old) (M.calls machine.new) }
+    ensures counted { M.failed machine.old ≤ M.failed machine.new }
+{
+    let _ = machine.lock(file);
+}
+
+/// Fills a new file with room for a position. It is locked before that: so one that is full, and that
+/// nobody has locked, was left by a stopped run.
+fn keep_room<M: Machine>(machine: &mut M, file: &M::File, durability: Durability) -> io::Result<()>
     ensures about { IsAbout (M.number file.now) (M.calls machine.old) (M.calls machine.new) }
     ensures sound { OnOk result
         (StaysSound (M.number file.now) (M.calls machine.old) (M.calls machine.new)) }
     ensures counted { M.failed machine.old ≤ M.failed machine.new }
     ensures caused { OnErr result (M.failed machine.old < M.failed machine.new) }
 {
-    write_all(machine, file, room)?;
+    lock_room(machine, file);
+    write_all(machine, file, &ROOM)?;
     settle(machine, file, durability)
 }
 
-/// A file beside a path with room for what is to be written to it, which is on the disk then if it
-/// is to be; `None` if none can be made there. Fails if it can't be filled.
+/// A file beside a path with room for a position, which is on the disk then if it is to be; `None` if
+/// none can be made there. Fails if it can't be filled.
 pub fn prepare_beside<M: Machine>(
     alloc: Global,
     machine: &mut M,
     path: &str,
-    room: &[u8],
     durability: Durability,
 ) -> io::Result<Option<Beside<M::File>>>
-    ensures kept { IfOk result (λ made. MatchOption made (M.calls machine.new ≡ M.calls machine.old)
+    ensures kept { IfOk result (λ made. MatchOption made
+        (Reclaims path.now (M.calls machine.old) (M.calls machine.new))
         (λ b. IsKept path.now (string_bytes b.path) (M.number b.file) (M.calls machine.old)
         (M.calls machine.new))) }
 {
     match make_beside(alloc, machine, path) {
-        Ok(made) => match keep_room(machine, &made.file, room, durability) {
+        Ok(made) => match keep_room(machine, &made.file, durability) {
             Ok(()) => Ok(Some(made)),
             Err(error) => {
                 machine.remove(&made.file, made.path.as_str());

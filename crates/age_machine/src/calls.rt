@@ -87,6 +87,13 @@ pub fn open_or_make(rt: &HostRuntime, name: &str, is_read: bool, mode: u32) -> i
         .open(rt, name)
 }
 
+/// Opens a file that is there to be written, and read if that is wanted: so a pipe keeps nobody
+/// waiting.
+pub fn open_there(rt: &HostRuntime, name: &str, is_read: bool) -> io::Result<File> {
+    let mut options = File::options();
+    options.read(is_read).write(true).open(rt, name)
+}
+
 /// Gives a file another name, whatever file has that.
 pub fn rename(rt: &HostRuntime, from: &str, to: &str) -> io::Result<()> {
     fs::rename(rt, from, to)

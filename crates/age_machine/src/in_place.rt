@@ -1,10 +1,12 @@
 //! A regular file that is written in place.
 
-ghost use Rattle.std.specs.Prelude.{◌≡◌, ◌⊎◌, ◌≤◌, ◌<◌, ◌+◌, ◌^◌, ◌∷◌, ◌++◌, [], ℕ, List, length, take};
-ghost use Rattle.std.specs.Prelude.{string_bytes, true, false, is_some, Contains, IfOk, OnOk, OnErr};
+ghost use Rattle.std.specs.Prelude.{◌≡◌, ◌⊎◌, ◌≤◌, ◌<◌, ◌+◌, ◌^◌, ◌∷◌, ◌++◌, [], ℕ, List, length};
+ghost use Rattle.std.specs.Prelude.{take, string_bytes, true, false, is_some, Contains, IfOk, OnOk};
+ghost use Rattle.std.specs.Prelude.{OnErr};
 ghost use Rattle.std.specs.Io.{WritesAtMost};
 ghost use Rattle.age_io.specs.declared.durability.Durability.TheVariants as wait;
-ghost use Rattle.age_machine.specs.Calls.{FileCall, Closed, Locked, Unlockable, SyncedNames, UnwaitedNames, Waited};
+ghost use Rattle.age_machine.specs.Calls.{FileCall, Closed, Locked, Unlockable, SyncedNames};
+ghost use Rattle.age_machine.specs.Calls.{UnwaitedNames, Waited};
 ghost use Rattle.age_machine.specs.Saves.{SavesWhole, IsSafe};
 ghost use Rattle.age_machine.specs.Outs.{opening_of, is_making, text_of, has_changed, IsClaimed};
 ghost use Rattle.age_machine.specs.Outs.{TouchesFile, IsThereAs};

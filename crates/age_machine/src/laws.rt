@@ -2,8 +2,9 @@
 //! leave out.
 
 ghost use Rattle.age_machine.specs.{WaitsAreAnswered, TornIfUnwaited, TornIfRenamedFirst};
-ghost use Rattle.age_machine.specs.{LostIfNamesUnwaited, OutsAreAnswered, TornIfUnsynced, TornIfCutLast};
-ghost use Rattle.age_machine.specs.{SecondRunIsHarmless, ChangedIfLockedLate, OthersAreKept, NumbersAreApart};
+ghost use Rattle.age_machine.specs.{LostIfNamesUnwaited, OutsAreAnswered, TornIfUnsynced};
+ghost use Rattle.age_machine.specs.{TornIfCutLast, SecondRunIsHarmless, ChangedIfLockedLate};
+ghost use Rattle.age_machine.specs.{OthersAreKept, NumbersAreApart};
 
 /// There is a disk that answers the calls of a replacement, by a link or by a rename, and on which a
 /// power cut may leave the new file.

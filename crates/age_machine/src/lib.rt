@@ -18,6 +18,7 @@ mod node;
 mod notes;
 mod replacing;
 mod retry;
+mod room;
 
 pub use beside::{Beside, Unplaced, prepare_beside};
 pub use folder::{Folder, check_same, folder_of};

@@ -2,9 +2,10 @@
 
 ghost use Rattle.std.specs.Prelude.{◌≡◌, ◌≤◌, ◌<◌, ℕ, List, ◌∷◌, take, length, true, false, IfOk};
 ghost use Rattle.std.specs.Prelude.{OnOk, OnErr, MatchOption};
-ghost use Rattle.age_machine.specs.Calls.{FileCall, Made, Opened, Wrote, Cut, Broke, Measured, Synced};
-ghost use Rattle.age_machine.specs.Calls.{Unwaited, Closed, Locked, Unlockable, Missing, Linked, Renamed, Removed};
-ghost use Rattle.age_machine.specs.Calls.{SyncedNames, UnwaitedNames, MayHave, Waited, CountsFailure};
+ghost use Rattle.age_machine.specs.Calls.{FileCall, Made, Opened, Wrote, Cut, Broke, Measured};
+ghost use Rattle.age_machine.specs.Calls.{Synced, Unwaited, Closed, Locked, Unlockable, Missing};
+ghost use Rattle.age_machine.specs.Calls.{Linked, Renamed, Removed, Reclaimed, SyncedNames};
+ghost use Rattle.age_machine.specs.Calls.{UnwaitedNames, MayHave, Waited, CountsFailure};
 
 use std::io;
 
@@ -181,5 +182,10 @@ pub trait Machine {
     /// Removes what is at a path, unless by now that is another file than this one.
     fn remove(&mut self, file: &Self::File, path: &str)
         ensures calls { MayHave (Removed path.now) (calls self.old) (calls self.new) }
+        ensures counted { failed self.old ≤ failed self.new };
+
+    /// Removes what is at a path if it is an empty room that a stopped run left: no run has its lock.
+    fn reclaim(&mut self, path: &str)
+        ensures calls { MayHave (Reclaimed path.now) (calls self.old) (calls self.new) }
         ensures counted { failed self.old ≤ failed self.new };
 }

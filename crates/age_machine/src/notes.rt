@@ -29,6 +29,7 @@ pub(crate) enum Word<'a> {
     Linked(&'a str, &'a str),
     Renamed(&'a str, &'a str),
     Removed(&'a str),
+    Reclaimed(&'a str),
     SyncedNames(&'a str),
     UnwaitedNames(&'a str),
 }

@@ -1,15 +1,18 @@
 //! Puts a whole file to a path.
 
-ghost use Rattle.std.specs.Prelude.{◌≡◌, ◌≢◌, ◌⊎◌, ◌≤◌, ◌<◌, ◌∷◌, ℕ, List, string_bytes, OnOk, OnErr, Err};
+ghost use Rattle.std.specs.Prelude.{◌≡◌, ◌≢◌, ◌⊎◌, ◌≤◌, ◌<◌, ◌∷◌, ℕ, List, string_bytes, OnOk};
+ghost use Rattle.std.specs.Prelude.{OnErr, Err};
 ghost use Rattle.age_io.specs.declared.durability.Durability.TheVariants as wait;
-ghost use Rattle.age_machine.specs.Calls.{FileCall, Renamed, SyncedNames, UnwaitedNames, MayHave, Waited};
+ghost use Rattle.age_machine.specs.Calls.{FileCall, Renamed, SyncedNames, UnwaitedNames, MayHave};
+ghost use Rattle.age_machine.specs.Calls.{Waited};
 ghost use Rattle.age_machine.specs.Saves.{IsSafe};
 ghost use Rattle.age_machine.specs.Saved.{Replaces};
 ghost use Rattle.age_machine.specs.Beside.{IsKept};
 ghost use Rattle.age_machine.specs.declared.beside.Unplaced.{Unplaced};
 ghost use Rattle.age_machine.specs.declared.beside.Unplaced.TheVariants.{Memory};
 ghost use Rattle.age_machine.specs.declared.replacing.Spot.TheVariants as spot;
-ghost use Rattle.age_machine.specs.inner.Steps.{IsAbout, CutsOff, Fills, IsReady, HasPlaced, Places};
+ghost use Rattle.age_machine.specs.inner.Steps.{IsAbout, CutsOff, Fills, IsReady, HasPlaced};
+ghost use Rattle.age_machine.specs.inner.Steps.{Places};
 ghost use Rattle.age_io.specs.declared.durability.Durability.{Durability};
 
 use crate::beside::{Beside, Unplaced, make_beside, settle, write_all};

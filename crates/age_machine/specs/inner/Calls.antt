@@ -1,9 +1,9 @@
 -- How calls are kept as ghost state. Private: no public contract cites this module.
 use Rattle.std.specs.Prelude.{◌≡◌, ℕ, List, [], ◌∷◌, true, false, get_or, refl}
 use Rattle.std.specs.Coded.{Coded, coded_ℕ, coded_list, coded×, code_by}
-use Rattle.age_machine.specs.Calls.{FileCall, Made, Opened, Wrote, Cut, Broke, Measured, Synced, Unwaited, Closed}
-use Rattle.age_machine.specs.Calls.{Locked, Unlockable, Missing, Linked, Renamed, Removed}
-use Rattle.age_machine.specs.Calls.{SyncedNames, UnwaitedNames}
+use Rattle.age_machine.specs.Calls.{FileCall, Made, Opened, Wrote, Cut, Broke, Measured, Synced}
+use Rattle.age_machine.specs.Calls.{Unwaited, Closed, Locked, Unlockable, Missing, Linked, Renamed}
+use Rattle.age_machine.specs.Calls.{Removed, Reclaimed, SyncedNames, UnwaitedNames}
 use Rattle.age_machine.specs.declared.machine.Kind.TheVariants.{Regular, Device}
 
 -- which call it is, its texts, and its numbers
@@ -30,6 +30,7 @@ parts_of (Removed path) = (15, ((path, []), (0, 0)))
 parts_of (SyncedNames path) = (16, ((path, []), (0, 0)))
 parts_of (UnwaitedNames path) = (17, ((path, []), (0, 0)))
 parts_of (Closed n) = (18, (([], []), (n, 0)))
+parts_of (Reclaimed path) = (19, ((path, []), (0, 0)))
 
 abbrev from_parts : Parts → FileCall
 from_parts (which, ((one, other), (n, k))) =
@@ -37,7 +38,7 @@ from_parts (which, ((one, other), (n, k))) =
     Made one n ∷ Opened one n (Regular false) ∷ Opened one n (Regular true) ∷ Opened one n Device
     ∷ Wrote n k one ∷ Cut n k ∷ Broke n ∷ Measured n k ∷ Synced n ∷ Unwaited n ∷ Locked n
     ∷ Unlockable n ∷ Missing one ∷ Linked one other ∷ Renamed one other ∷ Removed one
-    ∷ SyncedNames one ∷ UnwaitedNames one ∷ Closed n ∷ []) which (Broke n)
+    ∷ SyncedNames one ∷ UnwaitedNames one ∷ Closed n ∷ Reclaimed one ∷ []) which (Broke n)
 
 pub from_parts-parts_of : (call : FileCall) → from_parts (parts_of call) ≡ call
 from_parts-parts_of (Opened path n (Regular false)) = refl

@@ -1,8 +1,8 @@
 -- Which calls are noted. Private: no public contract cites this module.
 use Rattle.std.specs.Prelude.{List, [], ◌∷◌}
-use Rattle.age_machine.specs.Calls.{FileCall, Made, Opened, Wrote, Cut, Broke, Measured, Synced, Unwaited, Closed}
-use Rattle.age_machine.specs.Calls.{Locked, Unlockable, Missing, Linked, Renamed, Removed}
-use Rattle.age_machine.specs.Calls.{SyncedNames, UnwaitedNames}
+use Rattle.age_machine.specs.Calls.{FileCall, Made, Opened, Wrote, Cut, Broke, Measured, Synced}
+use Rattle.age_machine.specs.Calls.{Unwaited, Closed, Locked, Unlockable, Missing, Linked, Renamed}
+use Rattle.age_machine.specs.Calls.{Removed, Reclaimed, SyncedNames, UnwaitedNames}
 use Rattle.age_machine.specs.Numbers.{number_of}
 use Rattle.age_machine.specs.declared.notes.Note.{Note}
 use Rattle.age_machine.specs.declared.notes.Note.TheVariants as note
@@ -26,6 +26,7 @@ file_call_of (word.Missing path) = Missing path.now
 file_call_of (word.Linked from to) = Linked from.now to.now
 file_call_of (word.Renamed from to) = Renamed from.now to.now
 file_call_of (word.Removed path) = Removed path.now
+file_call_of (word.Reclaimed path) = Reclaimed path.now
 file_call_of (word.SyncedNames path) = SyncedNames path.now
 file_call_of (word.UnwaitedNames path) = UnwaitedNames path.now
 

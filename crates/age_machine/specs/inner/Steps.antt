@@ -1,9 +1,10 @@
 -- What the steps of a replacement do. Private: no public contract cites this module.
-use Rattle.std.specs.Prelude.{◌≡◌, ◌≢◌, ◌⊎◌, ℕ, List, [], ◌∷◌, ◌++◌, take, drop, Bool, true, false, Some}
-use Rattle.std.specs.Prelude.{Contains, Result, OnOk}
+use Rattle.std.specs.Prelude.{◌≡◌, ◌≢◌, ◌⊎◌, ℕ, List, [], ◌∷◌, ◌++◌, take, drop, Bool, true, false}
+use Rattle.std.specs.Prelude.{Some, Contains, Result, OnOk}
 use Rattle.age_io.specs.declared.durability.Durability.{Durability}
 use Rattle.age_io.specs.declared.durability.Durability.TheVariants as wait
-use Rattle.age_machine.specs.Calls.{FileCall, Removed, SyncedNames, UnwaitedNames, IsOf, MayHave, Waited}
+use Rattle.age_machine.specs.Calls.{FileCall, Removed, SyncedNames, UnwaitedNames, IsOf, MayHave}
+use Rattle.age_machine.specs.Calls.{Waited}
 use Rattle.age_machine.specs.Disk.{Disk, after_calls}
 use Rattle.age_machine.specs.Saves.{AllAnswered, AllWaited, SavesWhole, SparesFile}
 use Rattle.age_machine.specs.Beside.{HasBeside}
