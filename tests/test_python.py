@@ -431,13 +431,23 @@ class PythonTest(BindingsCase):
         self.see("blocks that changed places", self.saved(swapped) == (bytes(131_072) + text[131_072:], [(0, 131_072)], True, False))
 
         class Rotten(io.BytesIO):
+            number = 1
+
             def readinto(self, room):
-                if self.tell() <= begin + BLOCK + 777 < self.tell() + len(room):
+                if self.tell() <= begin + self.number * BLOCK + 777 < self.tell() + len(room):
                     raise OSError(5, "Input/output error")
                 return super().readinto(room)
 
-        want = text[:CHUNK] + bytes(CHUNK) + text[2 * CHUNK:]
-        self.see("a disk that can't be read at a place", self.saved(Rotten(data)) == (want, [(CHUNK, 2 * CHUNK)], True, False))
+        altered = flipped(data, data.index(b"\n--- ") + 9)
+        for given, keys, kind in ((data, {"file_key": bytes(16)}, agefile.WrongKey), (altered, {"passphrase": "pw"}, agefile.Damaged)):
+            fault = fault_of(self.saved, given, **keys)
+            self.see(f"a MAC that doesn't fit, {keys}", (type(fault), fault.number) == (kind, 14), repr(fault))
+        want, rotten = text[:CHUNK] + bytes(CHUNK) + text[2 * CHUNK:], Rotten(data)
+        self.see("a disk that can't be read at a place", self.saved(rotten) == (want, [(CHUNK, 2 * CHUNK)], True, False))
+        rotten.number = 3
+        rotten.seek(0)
+        got = self.saved(rotten)
+        self.see("one that can't be read at the end", got == (text[:3 * CHUNK] + bytes(200_000 - 3 * CHUNK), [(3 * CHUNK, 200_000)], False, False), got[1:])
 
     def test_salvage_into(self):
         """What is saved is never written over the file that is read, and a sink has to say how much it took."""

@@ -690,6 +690,11 @@ class PythonFilesTest(BindingsCase):
                     self.see(f"{what} of a slow source, buffering {buffering}", read(agefile.open(under, file_key=KEY)) == text)
             with slow(data[:-1], 60_000) as under:
                 self.see(f"{what} of a slow source that is cut", raised(agefile.Damaged, read, agefile.open(under, file_key=KEY)))
+        begun = time.process_time()
+        with slow(data, len(data) // 4, pause=0.4) as under:
+            self.see("a source that pauses", agefile.open(under, file_key=KEY).read() == text)
+        took = time.process_time() - begun
+        self.see("what waits takes no time of a processor", took < 0.3, took)
 
     def test_failing_sources(self):
         """After a source failed, or a read was interrupted, nothing is read until a seek: bytes may be lost."""
