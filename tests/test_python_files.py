@@ -14,6 +14,7 @@ import sys
 import tarfile
 import threading
 import time
+import types
 import warnings
 import zlib
 
@@ -728,6 +729,24 @@ class PythonFilesTest(BindingsCase):
             under.left, under.stops, under.stop = 2, 1, OSError("once")
             self.see("a failed read at any place", raised(OSError, file.read) and raised(OSError, file.read, 1))
             self.see("a seek after that", file.seek(100_000) == 100_000 and file.read() == text[100_000:] and file.seek(0) == 0 and file.read() == text)
+
+    def test_odd_sources(self):
+        """A coroutine that a read gives isn't left to warn of itself; no folder stays open; and what has a `seek` and no `tell` is a pipe."""
+        class Awaited:
+            async def read(self, size):
+                return b""
+
+        with warnings.catch_warnings(record=True) as caught:
+            warnings.simplefilter("always")
+            self.see("a coroutine", raised(TypeError, agefile.open, Awaited(), file_key=KEY) and gc.collect() >= 0 and not caught, caught)
+        data, before = self.sealed(b"text"), os.listdir("/proc/self/fd")
+        with open(self.path("in"), "rb") as file:
+            agefile._source.reach_disk(file, self.path("in"))
+        self.see("descriptors that stay open", len(os.listdir("/proc/self/fd")) == len(before))
+        one, other = (types.SimpleNamespace(read=io.BytesIO(data).read, seek=lambda *_: 0) for _ in range(2))
+        self.see("no `tell`", agefile.open(one, file_key=KEY).read() == b"text")
+        self.see("no `tell`, at any place", raised(io.UnsupportedOperation, agefile.open, other, file_key=KEY, random_access=True))
+
 
 class ThreadsTest(BindingsCase):
     """Several threads with one file. They change places as often as Python lets them."""
