@@ -50,9 +50,31 @@ class WorkersTest(BindingsCase):
         for what, given in (("cut", data[:-5]), ("cut between chunks", data[:begin + 4 * BLOCK]), ("longer", data + b"x")):
             self.see(f"a file that is {what}", isinstance(fault_of(agefile.decrypt, given, file_key=KEY, workers=4), agefile.AgeError))
 
-    def copied(self, data, source, put):
+    def copied(self, data, source, put, workers=4):
         with agefile.open(io.BytesIO(data), file_key=KEY, random_access=True) as first:
-            agefile._workers.copy_text(first, source, put, 4)
+            agefile._workers.copy_text(first, source, put, workers)
+
+    def test_earlier_faults(self):
+        """A part goes on if one after it failed before."""
+        length = 40 * 65_536
+        data = self.sealed(bytes(length))
+        begin = len(data) - length - 40 * 16
+        bad = flipped(flipped(data, begin + 18 * BLOCK), begin + 21 * BLOCK)
+        fault = fault_of(self.copied, bad, lambda: io.BytesIO(bad), lambda at, _: at == 0 and time.sleep(0.3), 2)
+        self.see("the fault of the first", (fault.number, fault.place) == (17, 18), fault)
+
+    def test_later_parts(self):
+        """A part stops if one before it failed."""
+        data, puts = self.sealed(bytes(160 * 65_536)), []
+
+        def put(at, _):
+            if at == 0:
+                raise OSError("full")
+            puts.append(at)
+            time.sleep(0.3 if len(puts) == 1 else 0)
+
+        self.see("a sink that fails", raised(OSError, self.copied, data, lambda: io.BytesIO(data), put, 2))
+        self.see("what is written then", len(puts) <= 2, puts)
 
     def test_what_fails(self):
         """A sink or a source that fails, a source that shrinks, and an interruption: an exception, and no thread goes on."""

@@ -4,7 +4,9 @@ import (
 	"bytes"
 	"errors"
 	"io"
+	"sync/atomic"
 	"testing"
+	"time"
 )
 
 // memory is what is written to at places.
@@ -69,5 +71,55 @@ func TestDecryptToFaults(t *testing.T) {
 		if err == nil {
 			t.Error("no error")
 		}
+	}
+}
+
+// pausing is a file whose read at a place takes long.
+type pausing struct {
+	*bytes.Reader
+	place int64
+}
+
+func (p pausing) ReadAt(into []byte, at int64) (int, error) {
+	if at == p.place {
+		time.Sleep(300 * time.Millisecond)
+	}
+	return p.Reader.ReadAt(into, at)
+}
+
+// A part goes on if one after it failed before: the fault of the first is reported.
+func TestDecryptToGoesOn(t *testing.T) {
+	const n = 40 * 65_536
+	data := sealed(t, textOf(n))
+	begin := len(data) - n - 40*16
+	for _, it := range []int{18, 21} {
+		data[begin+it*65_552+5] ^= 1
+	}
+	_, err := DecryptTo(make(memory, n), pausing{bytes.NewReader(data), int64(begin)}, int64(len(data)), pw(), 2)
+	var fault *Fault
+	if !errors.As(err, &fault) || fault.Chunk != 18 {
+		t.Error(err)
+	}
+}
+
+// halting fails at its beginning, and counts what is written elsewhere, where the first write takes long.
+type halting struct{ writes *int32 }
+
+func (h halting) WriteAt(p []byte, at int64) (int, error) {
+	if at == 0 {
+		return 0, io.ErrClosedPipe
+	}
+	if atomic.AddInt32(h.writes, 1) == 1 {
+		time.Sleep(300 * time.Millisecond)
+	}
+	return len(p), nil
+}
+
+// A part stops if one before it failed.
+func TestDecryptToStops(t *testing.T) {
+	data, writes := sealed(t, make([]byte, 160*65_536)), int32(0)
+	_, err := DecryptTo(halting{&writes}, bytes.NewReader(data), int64(len(data)), pw(), 2)
+	if err != io.ErrClosedPipe || writes > 2 {
+		t.Error(err, writes)
 	}
 }

@@ -110,6 +110,24 @@ fn reports_what_fails() {
     assert_eq!(error.kind(), ErrorKind::NotConnected);
 }
 
+/// A part goes on if one after it failed before: the fault of the first is reported.
+#[test]
+fn goes_on_before_a_fault() {
+    let mut data = encrypt(&text_of(LENGTH), b"pw", 1).unwrap();
+    let begin = data.len() - LENGTH - 10 * 16;
+    [1, 6]
+        .iter()
+        .for_each(|it| data[begin + it * BLOCK + 5] ^= 1);
+    let out = |_: &[u8], at| {
+        if at == 0 {
+            std::thread::sleep(std::time::Duration::from_millis(300));
+        }
+        Ok(())
+    };
+    let error = decrypt_to(out, || Ok(Cursor::new(&data)), key(), 2).unwrap_err();
+    assert_eq!(AgeError::of(&error).unwrap().chunk, Some(1));
+}
+
 /// Parts after one that failed stop: they write a few chunks at most, of thousands.
 #[test]
 fn stops_after_a_fault() {
