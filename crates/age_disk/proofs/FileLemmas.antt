@@ -55,6 +55,19 @@ node_put id old None ok part puts has = tt
 node_put id None (Some new) ok part puts has = absurd puts
 node_put id (Some old) (Some new) ok part puts has = subst (λ (f : OutFile). HasNode id f) (sym puts.file) has
 
+-- what is no regular file was none before
+pub none_before : (old new : Option OutView) (ok : Bool) (part : List ℕ) → TargetPuts old new ok part → new ≡ None → old ≡ None
+none_before None new ok part puts none = refl
+none_before (Some old) None ok part puts none = absurd puts
+none_before (Some old) (Some new) ok part puts none = let no : ⊥ = cc in absurd no
+
+-- what was put there was handed to it
+pub handed_put : (old new : Option OutView) (ok : Bool) (part took later before handed : List ℕ) → TargetPuts old new ok part
+    → (old ≡ None → before ≡ took) → (old ≡ None → handed ≡ before ++ part) → later ≡ took ++ part → new ≡ None → handed ≡ later
+handed_put old new ok part took later before handed puts was more added none =
+    let is = none_before old new ok part puts none in
+    more is ∙ (ap (λ (l : List ℕ). l ++ part) (was is) ∙ sym added)
+
 -- ---- A regular file that was ended.
 
 module _ (durability : Durability) (out : OutView) (failed : ℕ) (failing : Bool) (took : List ℕ)

@@ -11,8 +11,9 @@ pub record OutputView : Type 0 where
   -- how many puts have failed, and whether the last call did
   pub failed : ℕ
   pub failing : Bool
-  -- the bytes that it took
+  -- the bytes that it took, and how many of them were there when the disk was last waited for
   pub took : List ℕ
+  pub settled : ℕ
   -- which regular file it is, if it is one
   pub file : Option OutFile
   -- what tells it from other files, if that is known

@@ -1,6 +1,8 @@
 -- What is done to a file that is written. Private: no public contract cites this module.
+pub mod Devices
 use Rattle.std.specs.Prelude.{◌≡◌, ℕ, List, [], ◌++◌, take, Bool, true, false, Option, Some, None, Result, Ok}
 use Rattle.std.specs.Prelude.{Err}
+use Rattle.age_io.specs.Supply.{Supply}
 use Rattle.age_machine.specs.{FileCall, OutView, text_of}
 use Rattle.age_disk.specs.declared.output.Target.{Target}
 use Rattle.age_disk.specs.declared.output.Target.TheVariants as target
@@ -9,6 +11,10 @@ use Rattle.age_disk.specs.declared.output.Target.TheVariants as target
 abbrev pub opening_calls : Target → List FileCall
 opening_calls (target.Device device) = device.machine.calls
 opening_calls other = []
+
+-- what a file gave; what is to come isn't shown
+abbrev pub supply_of : List ℕ → Bool → Supply
+supply_of given is_at_end = record { given = given; left = None; is_at_end = is_at_end }
 
 -- what a put took of these bytes
 abbrev pub part_of : {E : Type 0} → Result ℕ E → List ℕ → List ℕ

@@ -1,15 +1,15 @@
 //! What is opened to be written and no regular file.
 
-ghost use Rattle.std.specs.Prelude.{◌≡◌, true};
-ghost use Rattle.age_machine.specs.{opens_device};
+ghost use Rattle.std.specs.Prelude.{◌≡◌, Some};
+ghost use Rattle.age_machine.specs.{number_of};
+ghost use Rattle.age_disk.specs.inner.Devices.{device_of};
 
-use age_machine::HostMachine;
-use std::fs::File;
+use age_machine::{HostFile, HostMachine};
 
 /// A device or a pipe, and the machine that opened it.
 #[derive(Drop)]
 pub(crate) struct Device {
-    pub(crate) file: File,
+    pub(crate) file: HostFile,
     pub(crate) machine: HostMachine,
-    ghost opened: { opens_device machine.calls ≡ true },
+    ghost opened: { device_of machine.calls ≡ Some (number_of file.node) },
 }

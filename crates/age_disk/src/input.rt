@@ -1,9 +1,10 @@
 //! A file of the machine that is read.
 
-ghost use Rattle.std.specs.Prelude.{◌≡◌, IfOk, false};
+ghost use Rattle.std.specs.Prelude.{◌≡◌, IfOk, OnErr, false};
 ghost use Rattle.std.specs.Io.{ReadsAtMost};
-ghost use Rattle.age_io.specs.{IsNamed};
+ghost use Rattle.age_io.specs.{IsNamed, ReadConsumes};
 ghost use Rattle.age_disk.specs.{IsUnread, as_source};
+ghost use Rattle.age_disk.specs.inner.{supply_of};
 
 use crate::names::{FileId, Resolved, Stream, is_random, resolve};
 use age_io::{Failed, Failures, Source, Tape};
@@ -31,11 +32,19 @@ enum Origin {
 
 impl Origin {
     /// Reads, and tries again if the machine says to.
-    fn read(&mut self, rt: &HostRuntime, into: &mut [u8]) -> io::Result<usize>
-        ensures { ReadsAtMost result into.new }
+    fn read(
+        &mut self,
+        rt: &HostRuntime,
+        into: &mut [u8],
+        given: &mut Tape,
+        is_at_end: &mut bool,
+    ) -> io::Result<usize>
+        ensures bound { ReadsAtMost result into.new }
+        ensures notes { ReadConsumes (supply_of given.old is_at_end.old)
+            (supply_of given.new is_at_end.new) result into.new }
     {
         for _ in 0..TRIES {
-            match self.read_once(into) {
+            match self.read_once(into, given, is_at_end) {
                 Err(error) if is_to_retry(rt, &error) => {}
                 read => return read,
             }
@@ -43,14 +52,26 @@ impl Origin {
         Err(too_many_tries())
     }
 
-    fn read_once(&mut self, into: &mut [u8]) -> io::Result<usize>
-        ensures { ReadsAtMost result into.new }
+    /// Reads, and notes what came: what no proof sees.
+    fn read_once(
+        &mut self,
+        into: &mut [u8],
+        given: &mut Tape,
+        is_at_end: &mut bool,
+    ) -> io::Result<usize>
+        ensures bound { ReadsAtMost result into.new }
+        ensures notes { ReadConsumes (supply_of given.old is_at_end.old)
+            (supply_of given.new is_at_end.new) result into.new }
+        ensures err { OnErr result ((given.new ≡ given.old) × (is_at_end.new ≡ is_at_end.old)) }
     {
-        match self {
-            Origin::File(file) => file.read(into),
-            Origin::Input(input) => input.read(into),
-            Origin::Nothing => Ok(0),
-        }
+        let n = match self {
+            Origin::File(file) => file.read(into)?,
+            Origin::Input(input) => input.read(into)?,
+            Origin::Nothing => 0,
+        };
+        given.note(&into[..n]);
+        *is_at_end = *is_at_end || (n == 0 && !into.is_empty());
+        Ok(n)
     }
 }
 
@@ -250,9 +271,14 @@ impl HostIn {
 
     fn read(&mut self, into: &mut [u8]) -> io::Result<usize>
         ensures bound { ReadsAtMost result into.new }
-        ensures counted { self.new ≡ self.old }
+        ensures notes { ReadConsumes (as_source self.old).supply (as_source self.new).supply result
+            into.new }
+        ensures counted { (self.new.failed ≡ self.old.failed)
+            × (self.new.failing ≡ self.old.failing) }
+        ensures same { self.new.name ≡ self.old.name }
     {
-        self.origin.read(&self.rt, into)
+        self.origin
+            .read(&self.rt, into, &mut self.given, &mut self.is_at_end)
     }
 }
 
@@ -264,12 +290,10 @@ impl Source for HostIn {
     fn pull(&mut self, into: &mut [u8]) -> Result<usize, Failed> {
         let pulled = match self.read(into) {
             Ok(n) => {
-                self.given.note(&into[..n]);
                 if let Some(left) = &mut self.left {
                     *left = left.saturating_sub(n as u64);
                 }
                 if n == 0 && !into.is_empty() {
-                    self.is_at_end = true;
                     self.note_end();
                 }
                 Ok(n)

@@ -1,10 +1,11 @@
 //! A file of the machine that is written.
 
 ghost use Rattle.std.specs.Prelude.{◌≡◌, ◌↔◌, ◌≤◌, ◌<◌, [], ◌∷◌, ◌++◌, None, Some, true, false, length};
-ghost use Rattle.std.specs.Prelude.{is_ok, IfOk, IfSome, OnErr, MatchResult, string_bytes, is_err, ℕ, List};
+ghost use Rattle.std.specs.Prelude.{is_ok, IfOk, IfSome, OnOk, OnErr, MatchResult, string_bytes, is_err, ℕ, List};
 ghost use Rattle.std.specs.Prelude.{option_map};
 ghost use Rattle.std.specs.Io.{WritesAtMost};
 ghost use Rattle.age_io.specs.{one_more};
+ghost use Rattle.age_io.specs.declared.durability.Durability.TheVariants as wait;
 ghost use Rattle.age_io.specs.Taken.{WriteAppends, Keeps};
 ghost use Rattle.age_machine.specs.{Opened, Closes, Discards, TouchesItself, number_of, OutView};
 ghost use Rattle.age_disk.specs.Outputs.{IsNew, IsMadeAt, HasNode, sink_of, as_sink};
@@ -39,12 +40,29 @@ enum Target {
     Faults(Stderr, Witness),
 }
 
+/// Writes to what is no regular file, and notes what it took: what no proof sees.
+fn write_once<W: Write>(to: &mut W, from: &[u8], handed: &mut Tape) -> io::Result<usize>
+    ensures bound { WritesAtMost result from.now }
+    ensures notes { handed.new ≡ handed.old ++ part_of result from.now }
+    ensures err { OnErr result (handed.new ≡ handed.old) }
+{
+    let n = to.write(from)?;
+    handed.note(&from[..n]);
+    Ok(n)
+}
+
 /// Writes, and tries again if the machine says to.
-fn write_to<W: Write>(rt: &HostRuntime, to: &mut W, from: &[u8]) -> io::Result<usize>
-    ensures { WritesAtMost result from.now }
+fn write_to<W: Write>(
+    rt: &HostRuntime,
+    to: &mut W,
+    from: &[u8],
+    handed: &mut Tape,
+) -> io::Result<usize>
+    ensures bound { WritesAtMost result from.now }
+    ensures notes { handed.new ≡ handed.old ++ part_of result from.now }
 {
     for _ in 0..TRIES {
-        match to.write(from) {
+        match write_once(to, from, handed) {
             Err(error) if is_to_retry(rt, &error) => {}
             written => return written,
         }
@@ -53,17 +71,19 @@ fn write_to<W: Write>(rt: &HostRuntime, to: &mut W, from: &[u8]) -> io::Result<u
 }
 
 impl Target {
-    fn write(&mut self, rt: &HostRuntime, from: &[u8]) -> io::Result<usize>
+    fn write(&mut self, rt: &HostRuntime, from: &[u8], handed: &mut Tape) -> io::Result<usize>
         ensures bound { WritesAtMost result from.now }
         ensures goes { TargetPuts (regular_of self.old) (regular_of self.new) (is_ok result)
             (part_of result from.now) }
+        ensures handed { regular_of self.old ≡ None
+            → handed.new ≡ handed.old ++ part_of result from.now }
     {
         match self {
             Target::File(_) if from.is_empty() => Ok(0),
             Target::File(out) => out.put(from),
-            Target::Device(device) => write_to(rt, &mut device.file, from),
-            Target::Output(output, _) => write_to(rt, output, from),
-            Target::Faults(faults, _) => write_to(rt, faults, from),
+            Target::Device(device) => write_to(rt, &mut device.file.file(), from, handed),
+            Target::Output(output, _) => write_to(rt, output, from, handed),
+            Target::Faults(faults, _) => write_to(rt, faults, from, handed),
         }
     }
 
@@ -73,7 +93,7 @@ impl Target {
     {
         match self {
             Target::File(out) => out.reach(),
-            Target::Device(device) => sync_file(&device.file),
+            Target::Device(device) => sync_file(device.file.file()),
             Target::Output(_, witness) => witness.sync(),
             Target::Faults(_, witness) => witness.sync(),
         }
@@ -112,7 +132,7 @@ impl Target {
     fn on_the_way(&self, rt: &HostRuntime) -> u64 {
         let found = match self {
             Target::File(_) => return 0,
-            Target::Device(device) => device.file.metadata(),
+            Target::Device(device) => device.file.file().metadata(),
             Target::Output(..) => fs::metadata(rt, Stream::Output.path()),
             Target::Faults(..) => fs::metadata(rt, Stream::Faults.path()),
         };
@@ -158,6 +178,8 @@ impl Pace {
 
     /// Waits until what was written has reached the disk. Fails for good once that has failed.
     fn reach_disk(&mut self, target: &mut Target) -> io::Result<()>
+        ensures settled { OnOk result (self.new.settled ≡ self.new.taken) }
+        ensures more { (took : List ℕ) → IsPaced self.old took → self.old.settled ≤ self.new.settled }
         ensures goes { TargetPuts (regular_of target.old) (regular_of target.new) true [] }
         ensures paced { (took : List ℕ) → IsPaced self.old took → IsPaced self.new took }
     {
@@ -175,6 +197,8 @@ impl Pace {
     /// Whether all that was written has reached the disk, and the machine says so again as a copy is
     /// closed.
     fn is_stored(&mut self, rt: &HostRuntime, target: &mut Target) -> bool
+        ensures stored { result ≡ true → self.new.taken ≤ self.new.settled }
+        ensures more { (took : List ℕ) → IsPaced self.old took → self.old.settled ≤ self.new.settled }
         ensures goes { TargetPuts (regular_of target.old) (regular_of target.new) true [] }
         ensures paced { (took : List ℕ) → IsPaced self.old took → IsPaced self.new took }
     {
@@ -202,15 +226,18 @@ fn write_paced(
     target: &mut Target,
     pace: &mut Pace,
     from: &[u8],
+    handed: &mut Tape,
 ) -> io::Result<usize>
     ensures bound { WritesAtMost result from.now }
+    ensures handed { regular_of target.old ≡ None
+        → handed.new ≡ handed.old ++ part_of result from.now }
     ensures goes { TargetPuts (regular_of target.old) (regular_of target.new) (is_ok result)
         (part_of result from.now) }
     ensures paced { (took : List ℕ) → IsPaced pace.old took
         → IsPaced pace.new (took ++ part_of result from.now) }
 {
     pace.wait(target)?;
-    let n = target.write(rt, from)?;
+    let n = target.write(rt, from, handed)?;
     pace.taken = pace.taken.saturating_add(n as u64);
     Ok(n)
 }
@@ -341,11 +368,13 @@ pub struct HostOut {
     error: io::Error,
     pace: Pace,
     took: Tape,
+    // What a device or a stream took, as it was written.
+    handed: Tape,
 }
 
 impl Model for HostOut {
     ghost use Rattle.age_disk.specs.Outputs.{OutputView, HasNode};
-    ghost use Rattle.std.specs.Prelude.{option_map, IfSome};
+    ghost use Rattle.std.specs.Prelude.{◌≡◌, None, option_map, IfSome};
     ghost use Rattle.age_machine.specs.{OutView};
     ghost use Rattle.age_disk.specs.Targets.{regular_of, IsTaking, IsPaced};
 
@@ -355,12 +384,14 @@ impl Model for HostOut {
       failed = s.failures.count;
       failing = s.failures.last;
       took = s.took;
+      settled = s.pace.settled;
       file = option_map (λ (o : OutView). o.file) (regular_of s.target);
       id = s.id;
     } };
 
     ghost invariant = { λ s. IsTaking (regular_of s.target) s.failures.count s.took
-        × (IfSome (regular_of s.target) (λ o. HasNode s.id o.file) × IsPaced s.pace s.took) };
+        × (IfSome (regular_of s.target) (λ o. HasNode s.id o.file) × (IsPaced s.pace s.took
+        × (regular_of s.target ≡ None → s.handed ≡ s.took))) };
 }
 
 /// How many bytes are written at least, and at most, between two waits for the disk. In between,
@@ -474,7 +505,7 @@ fn end_stream(
     };
     let closed = match target {
         Target::File(_) => Ok(()),
-        Target::Device(Device { file, .. }) => close(rt, file),
+        Target::Device(Device { file, .. }) => close(rt, file.into_file()),
         Target::Output(..) => close_stream(rt, Stream::Output),
         Target::Faults(..) => close_stream(rt, Stream::Faults),
     };
@@ -497,6 +528,7 @@ impl HostOut {
             error: io::Error::from(io::ErrorKind::Other),
             pace: Pace::new(),
             took: Tape::new(),
+            handed: Tape::new(),
         }
     }
 
@@ -593,7 +625,6 @@ impl HostOut {
         let (file, kind) = opened;
         let Kind::Regular(is_waited) = kind else {
             let id = FileId::of(&file.file().metadata()?);
-            let file = file.into_file();
             return Ok(HostOut::new(rt, Target::Device(Device { file, machine }), id));
         };
         let opening = Opening::Found {
@@ -667,7 +698,7 @@ impl HostOut {
     {
         match &self.target {
             Target::File(_) => false,
-            Target::Device(device) => device.file.is_terminal(),
+            Target::Device(device) => device.file.file().is_terminal(),
             Target::Output(output, _) => output.is_terminal(),
             Target::Faults(faults, _) => faults.is_terminal(),
         }
@@ -684,8 +715,9 @@ impl HostOut {
     /// the machine can wait for that. A file that was cut off or removed has fewer; of a pipe, what
     /// may still be on its way isn't counted.
     pub fn settle(&mut self, rt: &HostRuntime, durability: Durability) -> u64
-        ensures same { self.new ≡ self.old }
+        ensures same { self.new ≡ record self.old { settled = self.new.settled } }
         ensures most { result ≤ length self.old.took }
+        ensures stored { durability ≡ wait.Synced → result ≤ self.new.settled }
     {
         let before = self.pace.settled;
         let held = match durability {
@@ -778,7 +810,13 @@ impl Sink for HostOut {
         ensures last { self.new.failing ≡ is_err result }
         ensures same { (self.new.file ≡ self.old.file) × (self.new.id ≡ self.old.id) }
     {
-        let put = write_paced(&self.rt, &mut self.target, &mut self.pace, from);
+        let put = write_paced(
+            &self.rt,
+            &mut self.target,
+            &mut self.pace,
+            from,
+            &mut self.handed,
+        );
         let taken = note_put(&mut self.took, &mut self.error, put, from);
         self.failures.note(taken)
     }

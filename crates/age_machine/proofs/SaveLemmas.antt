@@ -8,10 +8,10 @@ use Rattle.std.proofs.lemmas.Bool.{false_from_ne_true, eq-eqb, ne_eqb}
 use Rattle.std.proofs.lemmas.Slice.Eq.{bytes_eq-Decides}
 use Rattle.age_machine.specs.{FileCall, Made, Wrote, Closed, IsOf, Linked, Renamed, Removed, Reclaimed, SyncedNames, at_path, for_file, changed, after_call, IsAmong, MayLead}
 use Rattle.age_machine.specs.{MayLeaveFile, MayLeave, Synced, Unwaited, Missing, UnwaitedNames, MayHave, Waited, after_calls, sized, written, AllAnswered, AllWaited, IsBeside, IsKept}
-use Rattle.age_machine.specs.{AtEachMoment, Throughout, SavesWhole, SparesFile, HasMade, IsLonger, IsWithin, AllWithin, Touches, IsSafe, Replaces, HasBeside, Reclaims}
+use Rattle.age_machine.specs.{AtEachMoment, Throughout, SavesWhole, SparesFile, HasMade, IsLonger, IsWithin, AllWithin, Touches, IsSafe, LeadsTo, Replaces, HasBeside, Reclaims}
 use Rattle.age_machine.specs.Beside.{AllReclaimed}
 use Rattle.age_machine.specs.Disk.{Disk}
-use Rattle.age_machine.specs.inner.{Has, AllOf, IsAbout, HasTried, HasPlaced, Fills, IsInPlace, IsReady, WritesOver, CutsOff}
+use Rattle.age_machine.specs.inner.{Has, AllOf, IsAbout, HasTried, HasPlaced, Gets, Fills, IsInPlace, IsReady, WritesOver, CutsOff}
 use Rattle.std.proofs.lemmas.List.{append-nil, take_at, drop_at, take_all, drop-drop, length-take-le}
 use Rattle.std.proofs.lemmas.List.Elements.{Contains-append_left, Contains-append_right}
 use Rattle.std.proofs.lemmas.Result.{on_ok_weaker}
@@ -393,14 +393,22 @@ module _ {E : Type 0} (to : Spot) (path bytes : List ℕ) (wanted : Durability) 
   -- nothing was done but that rooms were reclaimed
   pub replaces_none : (e : E) → Reclaims path old new → Replaces {E = E} to bytes wanted (Err e) old new path
   replaces_none e reclaims = let seen = sees path old new reclaims in record {
-    puts = record { whole = λ synced. seen.saves bytes; safe = λ synced. tt; touches = seen.touches };
+    puts = record { whole = λ synced. seen.saves bytes; safe = λ synced. tt; there = tt; touches = seen.touches };
     spares = λ free. seen.spares;
   }
 
   -- a file beside it got there
   pub replaces_placed : (from : List ℕ) (n : ℕ) (r : Result (Unit {0}) E) → HasPlaced to wanted path from n bytes (IsSafe path bytes new) r old new
       → Replaces to bytes wanted r old new path
-  replaces_placed from n r placed = grind (arith, common_steps)
+  replaces_placed from n r placed = record {
+    puts = record {
+      whole = placed.tried.saves;
+      safe = placed.done;
+      there = on_ok_weaker r (λ leads. (n, leads)) placed.there;
+      touches = placed.tried.has.touches;
+    };
+    spares = placed.tried.spares;
+  }
 
   -- another one did, after that was tried
   pub replaces_again : (mid : List FileCall) (from : List ℕ) (n : ℕ) (r : Result (Unit {0}) E) → HasTried to wanted path from n bytes old mid
@@ -409,6 +417,7 @@ module _ {E : Type 0} (to : Spot) (path bytes : List ℕ) (wanted : Durability) 
     puts = record {
       whole = λ synced. saves_then path bytes old mid new (tried.saves synced) (again.puts.whole synced);
       safe = again.puts.safe;
+      there = again.puts.there;
       touches = touches_then path old mid new tried.has.touches again.puts.touches;
     };
     spares = λ free. spares_then path old mid new (tried.spares free) (again.spares free);
@@ -488,6 +497,21 @@ writes_more n at m bytes old new later begun within writes is = grind (arith, co
 whole : (bytes held : List ℕ) → take (length bytes) (take (length bytes) bytes ++ drop (length bytes) held) ≡ bytes
 whole bytes held = grind (arith, common_steps, take_all, take_at)
 
+-- also if that is not waited for
+pub gets_all : (n : ℕ) (bytes : List ℕ) (old wrote cut settled new : List FileCall) → WritesOver n (length bytes) bytes old wrote
+    → CutsOff n (length bytes) wrote cut → (settled ≡ cut) ⊎ Waited (Synced n) (Unwaited n) cut settled → new ≡ Closed n ∷ settled → Gets n bytes old new
+gets_all n bytes old wrote cut settled new writes cuts either closed = rw closed (more (if_either (Gets n bytes old) (Synced n) (Unwaited n) cut settled all
+    (record { sound = all.sound; holds = λ path disk answers. all.holds path disk answers.1 })
+    (record { sound = all.sound; holds = λ path disk answers. all.holds path disk answers.1 }) either)) where
+      all : Gets n bytes old cut
+      all = record {
+        sound = λ disk. cuts.sound disk ∙ writes.sound disk;
+        holds = λ path disk answers. cuts.bytes path disk answers ∙ (ap (λ (l : List ℕ). take (length bytes) l) (writes.bytes disk) ∙ whole bytes ((after_calls old disk).bytes n));
+      }
+
+      more : Gets n bytes old settled → Gets n bytes old (Closed n ∷ settled)
+      more gets = record { sound = gets.sound; holds = λ path disk answers. gets.holds path disk answers.1 }
+
 pub fills_waited : (n : ℕ) (bytes : List ℕ) (old wrote cut waited : List FileCall)
     → WritesOver n (length bytes) bytes old wrote → CutsOff n (length bytes) wrote cut
     → Waited (Synced n) (Unwaited n) cut waited → Fills n bytes old waited
@@ -518,7 +542,11 @@ module _ (path from : List ℕ) (n : ℕ) (bytes : List ℕ) (old : List FileCal
   -- that was tried, but failed
   pub placed_not : {E Done : Type 0} (r : Result (Unit {0}) E) (to : Spot) (calls : List FileCall) → Tried to calls → OnOk r ⊥
       → HasPlaced to wanted path from n bytes Done r old calls
-  placed_not r to calls tried failed = record { tried = tried; done = λ synced. on_ok_weaker r (λ no. absurd no) failed }
+  placed_not r to calls tried failed = record {
+    tried = tried;
+    done = λ synced. on_ok_weaker r (λ no. absurd no) failed;
+    there = on_ok_weaker r (λ no. absurd no) failed;
+  }
 
   nothing : (m : ℕ) → None ≡ Some m → ⊥
   nothing m same = cc
@@ -532,13 +560,14 @@ module _ (path from : List ℕ) (n : ℕ) (bytes : List ℕ) (old : List FileCal
 
   -- it was filled
   pub ready_filled : (calls new : List FileCall) → IsKept path from n old calls
-      → IsAbout n calls new → (wanted ≡ wait.Synced → Fills n bytes calls new) → Ready new
-  ready_filled calls new kept about fills =
+      → IsAbout n calls new → Gets n bytes calls new → (wanted ≡ wait.Synced → Fills n bytes calls new) → Ready new
+  ready_filled calls new kept about gets fills =
       let beside = beside_about path from n old calls new kept.beside about in
       record {
         tried = tried_beside spot.Free new beside;
         apart = beside.apart;
         file = beside.file;
+        holds = λ disk answers. (gets.holds path disk answers, gets.sound disk ∙ kept.sound disk);
         has = λ synced disk answers waited. (fills synced).on path disk answers waited (kept.sound disk);
       }
 
@@ -560,6 +589,7 @@ module _ (path from : List ℕ) (n : ℕ) (bytes : List ℕ) (old : List FileCal
     tried = tried_more spot.Free (Missing path) calls (λ since made. refl) (λ free disk answers m is. is) (λ synced disk answers waited left leaves. inl leaves) ready.tried;
     apart = ready.apart;
     file = λ disk answers. ready.file disk answers.1;
+    holds = λ disk answers. ready.holds disk answers.1;
     has = λ synced disk answers waited. ready.has synced disk answers.1 waited.1;
   }
 
@@ -570,6 +600,7 @@ module _ (path from : List ℕ) (n : ℕ) (bytes : List ℕ) (old : List FileCal
         (ready.has synced disk answers.1 waited.1)) ready.tried;
     apart = ready.apart;
     file = λ disk answers. path_other path from _ (after_calls calls disk).file (λ same. ready.apart (sym same)) ∙ ready.file disk answers.1;
+    holds = λ disk answers. ready.holds disk answers.1;
     has = λ synced disk answers waited. ready.has synced disk answers.1 waited.1;
   })
 
@@ -599,6 +630,21 @@ module _ (path from : List ℕ) (n : ℕ) (bytes : List ℕ) (old : List FileCal
   put_renamed : (calls new : List FileCall) → Ready calls → wanted ≡ wait.Synced → new ≡ Renamed from path ∷ calls → IsInPlace path n bytes new
   put_renamed calls new ready synced is = grind (arith, common_steps, file_renamed)
 
+  leads_renamed : (calls new : List FileCall) → Ready calls → new ≡ Renamed from path ∷ calls → LeadsTo path n bytes new
+  leads_renamed calls new ready is = rw is (λ disk answers.
+      let holds = ready.holds disk answers.1 in
+      (file_renamed n from path (after_calls calls disk) ready.apart (ready.file disk answers.1), holds.0, holds.1))
+
+  leads_linked : (calls linked new : List FileCall) → Ready calls → linked ≡ Linked from path ∷ calls
+      → MayHave (Removed from) linked new → LeadsTo path n bytes new
+  leads_linked calls linked new ready is =
+      if_made (LeadsTo path n bytes) (Removed from) linked new leads (λ disk answers.
+      let led = leads disk answers.1 in (path_other from path None (after_calls linked disk).file ready.apart ∙ led.0, led.1, led.2)) where
+        leads : LeadsTo path n bytes linked
+        leads = rw is (λ disk answers.
+            let holds = ready.holds disk answers.1 in
+            (file_linked n from path (after_calls calls disk) ready.apart (ready.file disk answers.1), holds.0, holds.1))
+
   module _ {E : Type 0} where
     abbrev Placed : Spot → Result (Unit {0}) E → List FileCall → Type 0
     Placed to r new = HasPlaced to wanted path from n bytes (IsInPlace path n bytes new) r old new
@@ -611,6 +657,7 @@ module _ (path from : List ℕ) (n : ℕ) (bytes : List ℕ) (old : List FileCal
           if_made (Tried spot.Taken) (Renamed from path) calls new (tried_ready spot.Taken calls ready)
           (renamed spot.Taken calls ready (λ free. cc)) may;
       done = λ synced. on_ok_weaker r (put_renamed calls new ready synced) is;
+      there = on_ok_weaker r (leads_renamed calls new ready) is;
     }
 
     -- where nothing was seen
@@ -622,6 +669,7 @@ module _ (path from : List ℕ) (n : ℕ) (bytes : List ℕ) (old : List FileCal
           tried = if_made (Tried spot.Free) (Renamed from path) looked new (tried_ready spot.Free looked seen)
               (renamed spot.Free looked seen (rw missing (λ free disk answers. answers.0))) may;
           done = λ synced. on_ok_weaker r (put_renamed looked new seen synced) is;
+          there = on_ok_weaker r (leads_renamed looked new seen) is;
         }
 
     -- it is linked where nothing is
@@ -637,6 +685,7 @@ module _ (path from : List ℕ) (n : ℕ) (bytes : List ℕ) (old : List FileCal
             file = λ disk answers. path_other from path None (after_calls linked disk).file ready.apart ∙ put.file disk answers.1;
             has = λ disk answers waited. put.has disk answers.1 waited.1;
           }) may;
+      there = leads_linked calls linked new ready is may;
     }
 
     -- and its name is waited for
@@ -647,4 +696,6 @@ module _ (path from : List ℕ) (n : ℕ) (bytes : List ℕ) (old : List FileCal
     placed_named to r calls new placed either waited = record {
       tried = tried_named to calls new placed.tried either;
       done = λ synced. on_ok_weaker r (λ waits. safe_named path n bytes calls new (placed.done synced) (waits synced)) waited;
+      there = on_ok r (if_either (LeadsTo path n bytes) (SyncedNames path) (UnwaitedNames path) calls new placed.there
+          (λ disk answers. placed.there disk answers.1) (λ disk answers. placed.there disk answers.1) either);
     }

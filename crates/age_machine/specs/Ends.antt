@@ -21,16 +21,16 @@ pub record EndedFile : Type 0 where
   pub calls : List FileCall
   pub failed : ℕ
 
--- whether one call was made, which opened what is no regular file
-abbrev pub opens_device : List FileCall → Bool
-opens_device (Opened path n Device ∷ []) = true
-opens_device calls = false
+-- one call was made, which opened this, and it is no regular file
+abbrev pub OpensDevice : ℕ → List FileCall → Type 0
+OpensDevice n calls = (path : List ℕ) × (calls ≡ Opened path n Device ∷ [])
 
 -- Nothing but its file was touched. Where it is none, no regular file was opened or made for it: it is
 -- a device, or a stream, of which no call is noted.
 abbrev pub TouchesItself : EndedFile → Type 0
 TouchesItself e =
-    MatchOption e.file ((e.calls ≡ []) ⊎ (opens_device e.calls ≡ true)) (λ f. TouchesFile f e.calls)
+    MatchOption e.file ((e.calls ≡ []) ⊎ ((n : ℕ) × OpensDevice n e.calls))
+    (λ f. TouchesFile f e.calls)
 
 -- it is there, with exactly what its sink took
 abbrev pub IsThere : EndedFile → Type 0

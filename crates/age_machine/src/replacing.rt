@@ -11,7 +11,7 @@ ghost use Rattle.age_machine.specs.Beside.{IsKept};
 ghost use Rattle.age_machine.specs.declared.beside.Unplaced.{Unplaced};
 ghost use Rattle.age_machine.specs.declared.beside.Unplaced.TheVariants.{Memory};
 ghost use Rattle.age_machine.specs.declared.replacing.Spot.TheVariants as spot;
-ghost use Rattle.age_machine.specs.inner.Steps.{IsAbout, CutsOff, Fills, IsReady, HasPlaced};
+ghost use Rattle.age_machine.specs.inner.Steps.{IsAbout, CutsOff, Gets, Fills, IsReady, HasPlaced};
 ghost use Rattle.age_machine.specs.inner.Steps.{Places};
 ghost use Rattle.age_io.specs.declared.durability.Durability.{Durability};
 
@@ -72,6 +72,8 @@ fn fill<M: Machine>(
     durability: Durability,
 ) -> io::Result<()>
     ensures about { IsAbout (M.number file.now) (M.calls machine.old) (M.calls machine.new) }
+    ensures gets { OnOk result
+        (Gets (M.number file.now) bytes.now (M.calls machine.old) (M.calls machine.new)) }
     ensures filled { OnOk result (durability ≡ wait.Synced
         → Fills (M.number file.now) bytes.now (M.calls machine.old) (M.calls machine.new)) }
     ensures counted { M.failed machine.old ≤ M.failed machine.new }

@@ -6,7 +6,7 @@ use Rattle.age_io.specs.declared.durability.Durability.TheVariants as wait
 use Rattle.age_machine.specs.Calls.{FileCall, Removed, SyncedNames, UnwaitedNames, IsOf, MayHave}
 use Rattle.age_machine.specs.Calls.{Waited}
 use Rattle.age_machine.specs.Disk.{Disk, after_calls}
-use Rattle.age_machine.specs.Saves.{AllAnswered, AllWaited, SavesWhole, SparesFile}
+use Rattle.age_machine.specs.Saves.{AllAnswered, AllWaited, LeadsTo, SavesWhole, SparesFile}
 use Rattle.age_machine.specs.Beside.{HasBeside}
 use Rattle.age_machine.specs.Outs.{AllOn, IsClaimed, LocksFirst}
 use Rattle.age_machine.specs.declared.in_place.Opening.{Opening}
@@ -41,6 +41,12 @@ pub record CutsOff (n len : ℕ) (old new : List FileCall) : Type 0 where
   pub sound : StaysSound n old new
   pub bytes : (path : List ℕ) (disk : Disk) → AllAnswered path new disk
       → (after_calls new disk).bytes n ≡ take len ((after_calls old disk).bytes n)
+
+-- it comes to hold these bytes
+pub record Gets (n : ℕ) (bytes : List ℕ) (old new : List FileCall) : Type 0 where
+  pub sound : StaysSound n old new
+  pub holds : (path : List ℕ) (disk : Disk) → AllAnswered path new disk
+      → (after_calls new disk).bytes n ≡ bytes
 
 -- it holds these bytes, and a power cut leaves them
 abbrev pub Has : ℕ → List ℕ → Disk → Type 0
@@ -95,13 +101,16 @@ pub record HasPlaced {E : Type 0} (to : Spot) (durability : Durability) (path fr
     : Type 0 where
   pub tried : HasTried to durability path from n bytes old calls
   pub done : durability ≡ wait.Synced → OnOk result Done
+  pub there : OnOk result (LeadsTo path n bytes calls)
 
--- and before: beside the path is a file of these bytes, which a power cut leaves
+-- and before: beside the path is a file of these bytes, which a power cut leaves if it is to
 pub record IsReady (durability : Durability) (path from : List ℕ) (n : ℕ) (bytes : List ℕ)
     (old calls : List FileCall) : Type 0 where
   pub tried : HasTried spot.Free durability path from n bytes old calls
   pub apart : from ≢ path
   pub file : (disk : Disk) → AllAnswered path calls disk → (after_calls calls disk).file from ≡ Some n
+  pub holds : (disk : Disk) → AllAnswered path calls disk
+      → ((after_calls calls disk).bytes n ≡ bytes) × ((after_calls calls disk).is_lost n ≡ false)
   pub has : durability ≡ wait.Synced → (disk : Disk) → AllAnswered path calls disk → AllWaited calls
       → Has n bytes (after_calls calls disk)
 

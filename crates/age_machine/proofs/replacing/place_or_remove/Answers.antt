@@ -7,14 +7,14 @@ use Rattle.age_machine.proofs.replacing.place_or_remove.Goals.{in-Ok+in-Err-plac
 pub returns-in-Ok-place-clause-replaces : goal.returns-in-Ok-place-clause-replaces
 returns-in-Ok-place-clause-replaces g c =
     λ old kept. replaces_placed _ _ _ _ old _ _ _ _ (c.in-Ok-place.ensures.placed _ old (ready_filled _ _ _ _ old _ _ _ kept c.fill.ensures.about
-    c.in-Ok.ensures.filled))
+    c.in-Ok.ensures.gets c.in-Ok.ensures.filled))
 
 pub returns-clause-replaces : goal.returns-clause-replaces
 returns-clause-replaces g c =
     λ old kept. let tried : HasTried c.args.to c.args.durability c.args.path.now (string_bytes c.args.new.now.path)
     (g.M.Machine.number c.args.new.now.file) c.args.bytes.now old (g.M.Machine.calls c.match-fill.machine) = elim c.match-fill.branch [
       | in-Ok+in-Err-place w ↦ rw w.machine-is (w.place.ensures.placed _ old (ready_filled _ _ _ _ old _ _ _ kept c.fill.ensures.about
-          w.in-Ok.ensures.filled)).tried
+          w.in-Ok.ensures.gets w.in-Ok.ensures.filled)).tried
       | in-Err w ↦ rw w.machine-is (tried_beside _ _ _ _ old _ _ _ (beside_about _ _ _ old _ _ kept.beside c.fill.ensures.about))
     ] in
     let removed = rw c.as_str.ensures.value at c.remove.ensures.calls in

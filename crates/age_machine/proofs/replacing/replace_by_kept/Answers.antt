@@ -4,7 +4,7 @@ use Rattle.age_machine.proofs.replacing.replace_by_kept.Goals as goal
 pub returns-in-Ok-clause-replaces : goal.returns-in-Ok-clause-replaces
 returns-in-Ok-clause-replaces g c =
     λ old kept. replaces_placed _ _ _ _ old _ _ _ _ (c.place.ensures.placed _ old (ready_filled _ _ _ _ old _ _ _ kept c.fill.ensures.about
-    c.in-Ok.ensures.filled))
+    c.in-Ok.ensures.gets c.in-Ok.ensures.filled))
 
 pub returns-then-not-is_at-clause-replaces : goal.returns-then-not-is_at-clause-replaces
 returns-then-not-is_at-clause-replaces g c =
