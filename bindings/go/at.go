@@ -102,7 +102,7 @@ func OpenAt(file io.ReaderAt, size int64, key Key) (*File, error) {
 	r := &places{file: file, begun: head.stream.reader, end: size, kept: -1}
 	r.last = int64(last)
 	head.stream = C.age_c_stream{} // its copy of the file key
-	n, err := r.open(r.last, head.chunk)
+	n, err := r.open(r.last, make([]byte, C.AGE_C_BLOCK), head.chunk)
 	if err != nil {
 		return nil, err
 	}
@@ -123,14 +123,11 @@ type places struct {
 	text []byte // its text, which nobody writes to
 }
 
-// open opens one chunk into a chunk's room, as the last one if it is that.
-func (r *places) open(number int64, room []byte) (int, error) {
+// open opens one chunk, which it reads into a block's room, into a chunk's room, as the last one if it
+// is that.
+func (r *places) open(number int64, block, room []byte) (int, error) {
 	at := int64(r.begun.payload_at) + number*C.AGE_C_BLOCK
-	size := int64(C.AGE_C_BLOCK)
-	if r.end-at < size {
-		size = r.end - at
-	}
-	block := make([]byte, size)
+	block = block[:min64(C.AGE_C_BLOCK, r.end-at)]
 	n, err := r.file.ReadAt(block, at)
 	if n < len(block) && err != io.EOF && err != nil {
 		return 0, err
@@ -166,7 +163,7 @@ func (r *places) chunk(number int64) ([]byte, error) {
 		return text, nil
 	}
 	room := make([]byte, C.AGE_C_CHUNK)
-	n, err := r.open(number, room)
+	n, err := r.open(number, make([]byte, C.AGE_C_BLOCK), room)
 	if err != nil {
 		return nil, err
 	}
@@ -182,11 +179,15 @@ func (r *places) ReadAt(into []byte, off int64) (int, error) {
 		return 0, errors.New("agefile: negative place")
 	}
 	done := 0
+	var block []byte // one for all whole chunks of this call
 	for done < len(into) {
 		if off >= r.size {
 			return done, io.EOF
 		}
-		n, err := r.some(into[done:], off)
+		if block == nil && len(into) >= C.AGE_C_CHUNK {
+			block = make([]byte, C.AGE_C_BLOCK)
+		}
+		n, err := r.some(into[done:], block, off)
 		if err != nil {
 			return done, err
 		}
@@ -195,11 +196,11 @@ func (r *places) ReadAt(into []byte, off int64) (int, error) {
 	return done, nil
 }
 
-// some reads what one chunk has of the bytes at a place of the text.
-func (r *places) some(into []byte, off int64) (int, error) {
+// some reads what one chunk has of the bytes at a place of the text. A whole one is read into the block.
+func (r *places) some(into, block []byte, off int64) (int, error) {
 	number, skipped := off/C.AGE_C_CHUNK, off%C.AGE_C_CHUNK
 	if skipped == 0 && len(into) >= C.AGE_C_CHUNK {
-		n, err := r.open(number, into)
+		n, err := r.open(number, block, into)
 		if err == nil && n == 0 {
 			err = io.ErrUnexpectedEOF
 		}
