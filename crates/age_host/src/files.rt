@@ -1,14 +1,15 @@
 //! The machine's files.
 
-ghost use Rattle.std.specs.Prelude.{◌≡◌, ◌≢◌, ◌∷◌, ◌++◌, [], true, None, Some, Ok, Err, IfOk, IfErr};
-ghost use Rattle.std.specs.Prelude.{IsErr, OnOk, IfSome, IsSomeAnd, Contains};
+ghost use Rattle.std.specs.Prelude.{◌≡◌, ◌≢◌, ◌≤◌, ◌∷◌, ◌++◌, [], true, None, Some, Ok, Err, IfOk};
+ghost use Rattle.std.specs.Prelude.{length, IfErr, IsErr, OnOk, IfSome, IsSomeAnd, Contains};
 ghost use Rattle.age_fault.specs.declared.fault.FileFault.TheVariants.{Read, Write, Memory};
 ghost use Rattle.age_fileset.specs.{IsMemoryOr, OpenFails, Opened, Created, Made, Found, FoundOrEmpty};
-ghost use Rattle.age_fileset.specs.{Absent, Put, opened_as, made_as};
+ghost use Rattle.age_fileset.specs.{Absent, Put, Settled, opened_as, made_as};
 ghost use Rattle.age_fileset.specs.declared.files.OpenFault.TheVariants.{SameFile};
-ghost use Rattle.age_disk.specs.{IsUnread, as_source, IsApart, IsMadeAt, HasAll};
+ghost use Rattle.age_disk.specs.{IsUnread, as_source, as_sink, IsApart, IsMadeAt, HasAll};
 ghost use Rattle.age_disk.specs.declared.names.FileId.{FileId};
 ghost use Rattle.age_io.specs.{IsNamed, Named};
+ghost use Rattle.age_io.specs.declared.durability.Durability.TheVariants as wait;
 ghost use Rattle.age_machine.specs.Saved.{Saves};
 
 use crate::watched::{WatchedIn, WatchedOut};
@@ -664,7 +665,17 @@ impl<'r, 'w> FileSet for HostFiles<'r, 'w> {
         out.sink.is_empty()
     }
 
-    fn settle(&mut self, out: &mut WatchedOut<'r, 'w>, durability: Durability) -> u64 {
+    fn settle(&mut self, out: &mut WatchedOut<'r, 'w>, durability: Durability) -> u64
+        ensures noted { self.new.log.events ≡ self.old.log.events }
+        ensures came { self.new.log.outcomes ≡ self.old.log.outcomes
+            ++ Settled durability out.old.sink.took result ∷ [] }
+        ensures unended { self.new.ended ≡ self.old.ended }
+        ensures unsaved { self.new.saved ≡ self.old.saved }
+        ensures same { as_sink out.new.sink ≡ as_sink out.old.sink }
+        ensures named { out.new.label ≡ out.old.label }
+        ensures most { result ≤ length out.old.sink.took }
+        ensures stored { durability ≡ wait.Synced → result ≤ out.new.sink.settled }
+    {
         let size = out.sink.settle(self.rt, durability);
         self.log.settled(durability, out.sink.took(), size);
         size
