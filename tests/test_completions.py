@@ -5,7 +5,7 @@ import subprocess
 
 from tests.case import Case, needs
 from tools import terminal
-from tools.workspace import TOP
+from tools.workspace import CRATES, TOP
 
 FOLDER = TOP / "docs" / "completions"
 COMMANDS = "encrypt decrypt resume inspect drill"
@@ -52,6 +52,16 @@ class CompletionsTest(Case):
         self.offers("a number after =", "18", self.in_bash("age_tool", "encrypt", "--log", "=", "1"))
         self.offers("each number after =", "1 22", self.in_bash("age_tool", "decrypt", "--max-log", "="))
         self.offers("files after =", "age_tool.fish", self.in_bash("age_tool", "decrypt", "--pass", "=", "age"))
+        self.see("no options after --", "--" not in self.in_bash("age_tool", "decrypt", "--", "--"))
+
+    def test_words(self):
+        """Commands and options are described in the words of the help."""
+        said = " ".join((CRATES / "age_cli_args" / "src" / "help.rt").read_text().split()) + " Print help Print the version"
+        in_zsh = r"--[\w-]+=?\[((?:[^]']|'\\'')*)\]|^ {8}'(?:encrypt|decrypt|resume|inspect|drill):(.*)'$"
+        for name, form in (("age_tool.fish", r'-d "(.*)"'), ("_age_tool", in_zsh)):
+            words = ["".join(it) for it in re.findall(form, (FOLDER / name).read_text(), re.M)]
+            unlike = [it for it in words if it.replace("'\\''", "'") not in said]
+            self.see(name, len(words) > 15 and not unlike, len(words), unlike)
 
     @needs("fish")
     def test_fish(self):

@@ -25,6 +25,8 @@ _age_tool() {
         drill) options="--clear --pass --help" ;;
         help) mapfile -t COMPREPLY < <(compgen -W "encrypt decrypt resume inspect drill" -- "$word"); return ;;
     esac
+    # After -- no word is an option.
+    [[ " ${COMP_WORDS[*]:1:COMP_CWORD-1} " = *" -- "* ]] && options=
     case $word in
         -*) mapfile -t COMPREPLY < <(compgen -W "$options" -- "$word") ;;
         *) compopt -o filenames 2>/dev/null; mapfile -t COMPREPLY < <(compgen -f -- "$word") ;;
