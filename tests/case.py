@@ -1,6 +1,7 @@
 """What the tests have in common: a folder of their own, runs of the program in it, and checks that are counted one by one."""
 import os
 import pathlib
+import re
 import shutil
 import subprocess
 import tempfile
@@ -28,18 +29,17 @@ def twice(one, other):
     return f"age_tool: same file named twice\nage_tool: {one} and {other} are the same file\n".encode()
 
 
-# How the lines begin that are advice for people: they may change, and have tests of their own (tests/test_program.py).
-ADVICE = (
-    b"age_tool: hint: ", b"age_tool: the file is ", b"age_tool: position saved in ", b"age_tool: no position was saved",
-    b"age_tool: - is a file ", b"age_tool: --max-log does nothing ", b"age_tool: the passphrase in ", b"age_tool: work factor ",
-    b"age_tool: OUT was moved: ",
+# The lines that are advice for people: they may change, and have tests of their own (tests/test_program.py).
+ADVICE = re.compile(
+    rb"age_tool: (?:.* \(age_tool help \d+\)$|position saved in |if IN can be read |no position was saved|- is a file |--max-log does nothing "
+    rb"|the passphrase in |work factor |OUT was moved: )"
 )
 
 
 def without_advice(said):
     """What was said on standard error, and then the advice in it."""
     lines = said.splitlines(keepends=True)
-    return b"".join(it for it in lines if not it.startswith(ADVICE)), b"".join(it for it in lines if it.startswith(ADVICE))
+    return b"".join(it for it in lines if not ADVICE.match(it)), b"".join(it for it in lines if ADVICE.match(it))
 
 
 def claim(page, phrase):

@@ -33,6 +33,11 @@ def unwritten(name, error):
     return WRITE + reason(f"write {name}", error)
 
 
+def refused(name, more=""):
+    """What is said of an output that is there, and isn't to be replaced."""
+    return WRITE + f"age_tool: {name} exists, and --no-clobber was given{more}\n".encode()
+
+
 def unsaved(name, error):
     return WRITE + reason(f"save the position to {name}", error)
 

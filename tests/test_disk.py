@@ -14,7 +14,7 @@ import time
 
 from tests.case import SECONDS, needs, twice, without_advice
 from tests.files import LOCKED, NOBODY, PLAIN, WRITE, Feeding, FilesCase
-from tests.files import as_nobody, chunk_fault, reason, unsaved, unwritten, waits_for
+from tests.files import as_nobody, chunk_fault, reason, refused, unsaved, unwritten, waits_for
 
 LENGTH = "another program changed its length"
 REMOVED = "it was removed meanwhile"
@@ -705,7 +705,7 @@ class DiskTest(FilesCase):
             pipe.read(1000)
             os.truncate(self.path("plain"), 10)
             pipe.read()
-        self.ends("an input that was cut off", run, 0, b"age_tool: plain became shorter while it was read\n")
+        self.ends("an input that was cut off", run, 0, b"age_tool: plain: it became shorter while it was read\n")
 
     def test_refused(self):
         """What the system refuses is named."""
@@ -738,8 +738,8 @@ class DiskTest(FilesCase):
         """With --no-clobber an output that is there isn't even opened, and one that was made is removed if nothing came into it."""
         os.mkfifo(self.path("fifo"))
         for words in ("encrypt --no-clobber --pass pass --log 4 plain", "decrypt --no-clobber --pass pass --save saved age"):
-            self.expect(1, unwritten("fifo", errno.EEXIST), f"{words} fifo")
-            self.expect(1, unwritten("cut", errno.EEXIST), f"{words} cut")
+            self.expect(1, refused("fifo"), f"{words} fifo")
+            self.expect(1, refused("cut"), f"{words} cut")
         self.see("it is kept", self.read("cut") == self.age[:150000])
         self.see("nothing is saved", not self.is_there("saved"))
         self.write("wrong", b"another\n")
@@ -747,7 +747,7 @@ class DiskTest(FilesCase):
         self.see("a new output is gone after a wrong passphrase", not self.is_there("new"))
         self.expect(1, chunk_fault(2), "decrypt --no-clobber --pass pass --save saved cut part")
         resume = "resume --no-clobber --position saved --old part --pass pass age"
-        self.expect(1, unwritten("plain", errno.EEXIST), f"{resume} plain")
+        self.expect(1, refused("plain"), f"{resume} plain")
         self.expect(0, b"", f"{resume} whole")
         self.see("a new output is whole", self.read("whole") == PLAIN)
 
@@ -770,11 +770,10 @@ class DiskTest(FilesCase):
 
     def test_left_empty(self):
         """An OUT that a killed run left empty is said to be one."""
-        for name, held, hint in (("empty", b"", True), ("full", b"text", False)):
+        for name, held, more in (("empty", b"", "; it is empty: a run that was killed may have left it"), ("full", b"text", "")):
             self.write(name, held)
             ended = self.tool("decrypt", "--no-clobber", "--pass", "pass", "age", name)
-            said = b"age_tool: hint: it is empty: a run that was killed may have left it (more: man age_tool-faults)\n"
-            self.see(f"an output that is {name}", ended.stderr == unwritten(name, errno.EEXIST) and ended.advice == (said if hint else b""), ended.advice)
+            self.see(f"an output that is {name}", (ended.stderr, ended.advice) == (refused(name, more), b""), ended.stderr)
 
     def test_shared(self):
         """No more than 65 bytes of a shared secret are read: a pipe that stays open isn't waited for."""
@@ -790,7 +789,7 @@ class DiskTest(FilesCase):
         feeder = threading.Thread(target=feed)
         feeder.start()
         try:
-            said = b"age_tool: bad shared file\nage_tool: secret holds more than 64 bytes\n"
+            said = b"age_tool: bad shared file\nage_tool: secret: it holds more than 64 bytes\n"
             self.expect(2, said, "decrypt --shared secret age new", "65 bytes of a shared secret")
         finally:
             done.set()

@@ -6,10 +6,12 @@ import os
 import re
 import resource
 import subprocess
+import time
 
 from tests.case import Case, twice, without_advice
 from tests.files import Feeding, FilesCase
 from tools import terminal
+from tools.manual import sentence, tables
 from tools.workspace import TOP
 
 
@@ -18,7 +20,7 @@ def within_memory():
 
 
 # What is said after the command that goes on from a position.
-ANEW = "age_tool: hint: if IN can be read from its start, age_tool decrypt is quicker\n"
+ANEW = "age_tool: if IN can be read from its start, age_tool decrypt is quicker\n"
 
 
 class ProgramTest(Case):
@@ -55,17 +57,18 @@ class ProgramTest(Case):
     def test_words(self):
         self.ends("encrypt", self.encrypted, 0)
         bad = b"age_tool: bad command line\nage_tool: "
-        self.ends("a word that isn't UTF-8", self.tool(b"\xff"), 2, b"", bad + b"\\xff isn't UTF-8, as a name must be\n")
-        said = bad + rb"caf\xe9\u{1b}[2J\n isn't UTF-8, as a name must be" + b"\n"
+        self.ends("a word that isn't UTF-8", self.tool(b"\xff"), 2, b"", bad + b"\\xff: it isn't UTF-8, as a name must be\n")
+        said = bad + rb"caf\xe9\u{1b}[2J\n: it isn't UTF-8, as a name must be" + b"\n"
         self.ends("a name that isn't UTF-8", self.decrypt(b"caf\xe9\x1b[2J\n", "back"), 2, b"", said)
 
     def test_usage(self):
-        """The line says that a key has to be given, which the rules of the arguments can't say."""
-        key = b"<--pass <FILE>|--file-key <HEX>|--shared <FILE>>"
-        for command, which in ((b"decrypt", key), (b"resume", key), (b"drill", b"<--clear|--pass <FILE>>")):
-            shown = self.tool(command, b"--help").stdout
-            with self.subTest(command.decode()):
-                self.assertRegex(shown, rb"(?m)^Usage: age_tool " + command + rb" .*" + re.escape(which))
+        """The line says that a key has to be given, which the rules of the arguments can't say. A command's help fits a terminal."""
+        key = "<--pass <FILE>|--file-key <HEX>|--shared <FILE>>"
+        for command, which in (("encrypt", ""), ("inspect", ""), ("decrypt", key), ("resume", key), ("drill", "<--clear|--pass <FILE>>")):
+            shown = self.tool(command, "--help").stdout.decode()
+            with self.subTest(command):
+                self.assertRegex(shown, rf"(?m)^Usage: age_tool {command}(?: .*\n {{7}})?.*{re.escape(which)}")
+                self.assertFalse([it for it in shown.splitlines() if len(it) > 80])
 
     def test_names(self):
         """A name forges no line, and commands no terminal."""
@@ -198,60 +201,31 @@ class ProgramTest(Case):
 
     # ---- advice
 
-    def test_hints(self):
-        """After a fault come its file, and the hint that docs/FAULTS.md has in its row."""
-        self.write("empty", b"")
-        self.write("no-line", b"not an age file")
-        self.write("armored", b"-----BEGIN AGE ENCRYPTED FILE-----\n")
-        self.write("cut-header", self.age[:100])
-        self.write("wrong", b"wrong horse\r\n")
-        page = (TOP / "docs" / "FAULTS.md").read_text().replace("`", "").replace(r"\|", "|")
-        self.write("short-old", self.plain[:70_000])
-        self.write("altered", bytes(200_000))
-        self.write("cut.age", self.age[:150_000])
-        self.decrypt("--save", "position", "cut.age", "part")
-        self.write("flipped", self.read("position").replace(b"v2 2 ", b"v2 1 "))
-        self.write("one-line", b"a" * 1_048_577)
-        self.write("short", b"short")
-        self.encrypt("2 short other.age")
-        for what, fault, file, beginning, words in (
-            ("an armored file", "2 Armored line 1", "armored", "remove the armor", "decrypt --pass pass armored back"),
-            ("an empty file", "8 HeadCut line 1", "empty", "the file is empty", "decrypt --pass pass empty back"),
-            ("what is no age file", "8 HeadCut line 1", "no-line", "this may not be an age file", "decrypt --pass pass no-line back"),
-            ("a long line", "7 HeadTooLong line 1", "one-line", "this may not be an age file", "decrypt --pass pass one-line back"),
-            ("another file", "24 OtherFile", "other.age", "IN must be the file", "resume --position position --old part --pass pass other.age back"),
-            ("a cut header", "8 HeadCut line 3", "cut-header", "the file was cut off", "decrypt --pass pass cut-header back"),
-            ("a limit", "11 WorkTooHigh", "plain.age", "if you trust the file", "decrypt --pass pass --max-log 9 plain.age back"),
-            ("a wrong passphrase", "13 WrongKey", "plain.age", "check the passphrase", "decrypt plain.age back --pass=wrong"),
-            ("a cut payload", "17 ChunkDamaged chunk 2", "cut.age", "the file is damaged", "decrypt --pass pass cut.age back"),
-            ("no position", "23 BadPosition", "pass", "--position takes", "resume --position pass --old plain --pass pass plain.age back"),
-            ("a short text", "25 ShortText", "short-old", "--old takes",
-             "resume --position position --old=short-old --pass pass plain.age back"),
-            ("an altered position", "30 PositionForged", "flipped", "give the position",
-             "resume --position=flipped --old plain --pass pass plain.age back"),
-            ("another text", "31 OldTextDiffers", "altered", "--old takes", "resume --position position --old altered --pass pass plain.age back"),
-        ):
-            ended = self.tool(*words.split())
-            self.ends(what, ended, 1, b"", f"age_tool: {fault}\n".encode())
-            said = re.fullmatch(rf"age_tool: the file is {file}\n(?:age_tool: work factor .*\n)?age_tool: hint: (.*) \(more: man age_tool-faults\)\n", ended.advice.decode())
-            row = re.search(rf"^\| {fault.split()[0]} \| .*$", page, re.M)[0]
-            self.see(f"the advice of {what}", said and said[1].startswith(beginning) and said[1] in row, ended.advice, row)
-
-    def test_hint_of_no_input(self):
-        """Standard input has no name, and isn't called a file."""
-        for what, held, hint in (("nothing", b"", b"standard input is empty"), ("no line", b"a", b"this may not be an age file: its first line has no newline")):
-            ended = self.tool("inspect", stdin=None, input=held)
-            self.see(f"{what} came", ended.advice == b"age_tool: hint: " + hint + b" (more: man age_tool-faults)\n", ended.advice)
+    def test_help_of_faults(self):
+        """`help N` prints the row of FAULTS."""
+        for row in tables((TOP / "docs" / "FAULTS.md").read_text()):
+            if "No." in row:
+                ended = self.tool("help", row["No."])
+                said = " ".join(ended.stdout.decode().split())
+                wanted = f"{row['No.']} {row['Name']} {sentence(row['What it means'])} OUT: {row['What is left in OUT']}. What to do: {row['What to do']}."
+                wanted = re.sub(r"\[([^]]*)\]\([^)]*\)", r"\1", wanted).replace("`", "").replace(r"\|", "|")
+                self.see(f"help {row['No.']}", (ended.returncode, ended.stderr, said) == (0, b"", wanted), ended.stderr, said)
+                self.see(f"help {row['No.']} fits a terminal", all(len(it) <= 80 for it in ended.stdout.splitlines()), ended.stdout)
+        for words in ("help 0", "help 32", "help 256", "help x", "help 17 18", "17"):
+            self.see(words, self.tool(*words.split()).returncode == 2)
+        self.see("help of a command", self.tool("help", "drill").stdout == self.tool("drill", "--help").stdout)
+        with open("/dev/full", "wb") as full:
+            self.ends("help to a full disk", self.tool("help", "17", stdout=full), 1, b"", b"age_tool: 27 Write\n")
 
     def test_names_like_faults(self):
         """A line that begins with a name isn't one of a fault."""
         self.write("27 Write", b"")
         os.link(self.path("27 Write"), self.path("28 Memory"))
         for words, said in (
-            (("encrypt", "--pass", "27 Write", "plain", "back"), "bad passphrase file\nage_tool: ./27 Write is empty"),
-            (("decrypt", "--shared", "27 Write", "plain.age", "back"), "bad shared file\nage_tool: ./27 Write holds 0 of 64 bytes"),
+            (("encrypt", "--pass", "27 Write", "plain", "back"), "bad passphrase file\nage_tool: ./27 Write: it is empty"),
+            (("decrypt", "--shared", "27 Write", "plain.age", "back"), "bad shared file\nage_tool: ./27 Write: it holds 0 of 64 bytes"),
             (("encrypt", "--pass", "pass", "27 Write", "28 Memory"), "same file named twice\nage_tool: ./28 Memory and 27 Write are the same file"),
-            ((b"27 Write\xff",), "bad command line\nage_tool: ./27 Write\\xff isn't UTF-8, as a name must be"),
+            ((b"27 Write\xff",), "bad command line\nage_tool: ./27 Write\\xff: it isn't UTF-8, as a name must be"),
         ):
             self.ends(words, self.tool(*words), 2, b"", f"age_tool: {said}\n".encode())
 
@@ -269,16 +243,16 @@ class ProgramTest(Case):
         ):
             ended = self.tool(*words.split())
             tips = re.findall(rb"(?m)^  tip: (.*)$", ended.stderr)
-            usage = re.search(rb"\n\nUsage: age_tool .*\n\nFor more information, try '--help'\.\n$", ended.stderr)
+            usage = re.search(rb"\n\nUsage: age_tool .*\n(?: {7}.*\n)?\nFor more information, try '--help'\.\n$", ended.stderr)
             self.see(words, (ended.returncode, tips) == (2, [hint.encode()]) and usage, ended.stderr)
 
     def test_words_that_are_refused(self):
         """What the parser says of a word shows codes, as all other lines do."""
         name, shown = "c\x1b]0;a\x07\r\u202e\u200b\nage_tool: 27 Write", rb"c\u{1b}]0;a\u{7}\r\u{202e}\u{200b}\nage_tool: 27 Write"
         for words, begins in (
-            (("decrypt", "--pass", "pass", "plain.age", "back", name), b"error: unexpected argument '%s' found\n\nUsage: "),
-            ((name,), b"error: unrecognized subcommand '%s'\n\nUsage: "), (("encrypt", "--" + name), b"error: unexpected argument '--%s' found\n\n  tip: "),
-            (("encrypt", f"--log={name}"), b"error: invalid value '%s' for '--log <N>'"),
+            (("decrypt", "--pass", "pass", "plain.age", "back", name), b"age_tool: unexpected argument '%s'\n\nUsage: "),
+            ((name,), b"age_tool: no such command: '%s'\n\nUsage: "), (("encrypt", "--" + name), b"age_tool: unexpected argument '--%s'\n\n  tip: "),
+            (("encrypt", f"--log={name}"), b"age_tool: invalid value '%s' for '--log <N>': not a number from 1 to 22\n"),
         ):
             ended = self.tool(*words)
             is_plain = all(it in b"\n" or 32 <= it < 127 for it in ended.stderr)
@@ -308,7 +282,7 @@ class ProgramTest(Case):
             ("decrypt --pass pass --max-log 22 plain.age back", 0, b""), ("decrypt --max-log 9 plain.age back", 2, b""),
         ):
             ended = self.tool(*words.split())
-            self.see(words, (ended.returncode, ended.advice.startswith(said) if said else ended.advice) == (status, True if said else b""), ended.advice)
+            self.see(words, (ended.returncode, said in ended.advice if said else ended.advice) == (status, True if said else b""), ended.advice)
 
     def test_work_factors(self):
         """A report and a refusal say what memory a passphrase takes."""
@@ -318,15 +292,16 @@ class ProgramTest(Case):
             ("22", "work factor 22: a passphrase takes 4.0 GiB of memory"), ("23", None), ("300", None), ("9" * 5_000, None),
         ):
             self.write("costly", f"age-encryption.org/v1\n-> scrypt AAAAAAAAAAAAAAAAAAAAAA {log}\n{zeros}\n--- {zeros}\n".encode())
-            line = f"age_tool: {said or 'work factor above 22: no age_tool opens the file'}\n".encode()
+            line = f"age_tool: {said or 'work factor above 22: no age_tool opens it'}\n".encode()
             with open(self.path("costly"), "rb") as costly:
                 for ended in (self.tool("inspect", "costly"), self.tool(stdin=costly)):
                     self.see(f"a report of {log[:5]}", (ended.returncode, ended.stderr, ended.advice) == (0, b"", line), ended.stderr, ended.advice)
             if log != "1":
                 ended = self.decrypt("--max-log", "1", "costly", "back")
                 self.ends(f"a limit below {log[:5]}", ended, 1, b"", b"age_tool: 11 WorkTooHigh\n")
-                hint = b"age_tool: hint: if you trust the file" in ended.advice
-                self.see(f"the advice on {log[:5]}", ended.advice.startswith(b"age_tool: the file is costly\n" + line) and hint == bool(said), ended.advice)
+                retry = f": if you trust the file, retry with --max-log {log}" if said else ""
+                wanted = line.replace(b"age_tool: ", b"age_tool: costly: ", 1)[:-1] + f"{retry} (age_tool help 11)\n".encode()
+                self.see(f"the advice on {log[:5]}", ended.advice == wanted, ended.advice)
         ended = self.tool("inspect", "pass")
         self.see("a refused file has none", b"work factor" not in ended.advice, ended.advice)
 
@@ -345,12 +320,10 @@ class ProgramTest(Case):
         """A passphrase in the place of its file's name."""
         for option, of in (("--pass", "passphrase"), ("--shared", "shared secret")):
             ended = self.tool("decrypt", option, "correct horse", "plain.age", "back")
-            said = b"age_tool: 26 Read\nage_tool: can't open correct horse: No such file or directory\n"
-            self.ends(f"the words of {option}", ended, 1, b"", said)
-            hint = f"age_tool: hint: {option} takes the name of a file that holds the {of} (more: man age_tool-faults)\n"
-            self.see(f"the hint of {option}", ended.advice == hint.encode(), ended.advice)
-        ended = self.decrypt("none", "back")
-        self.see("no hint if another file is missing", ended.advice == b"", ended.advice)
+            said = f"age_tool: 26 Read\nage_tool: can't open correct horse: No such file or directory; {option} takes the name of a file that holds the {of}\n"
+            self.ends(f"the words of {option}", ended, 1, b"", said.encode())
+        said = b"age_tool: 26 Read\nage_tool: can't open none: No such file or directory\n"
+        self.ends("no hint if another file is missing", self.decrypt("none", "back"), 1, b"", said)
         said = b"age_tool: bad file key\nage_tool: --file-key takes 32 hexadecimal digits\n"
         self.ends("a bad file key", self.tool(*"decrypt --file-key 00 plain.age back".split()), 2, b"", said)
 
@@ -399,6 +372,24 @@ class ProgramTest(Case):
         ended = self.on_terminal("stdin")
         self.ends("no words at a terminal", subprocess.CompletedProcess([], ended.returncode, ended.stdout, without_advice(ended.stderr)[0]), 1, b"", said)
 
+    def test_passphrase_at_a_terminal(self):
+        """That it is waited for is said, and nothing else."""
+        self.write("short", b"a short text\n")
+        self.encrypt("2 short short.age")
+        said = b"age_tool: reading the passphrase from the terminal, which shows it; Ctrl-D ends it\r\n"
+        for name in ("/dev/tty", "/dev/stdin"):
+            child, tty = terminal.start(["env", "-C", str(self.room), str(self.program), "decrypt", "--pass", name, "short.age", "back"])
+            came = terminal.output(tty, said, 20)
+            os.write(tty, b"correct horse\n\x04")
+            terminal.output(tty)
+            os.close(tty)
+            status = os.waitstatus_to_exitcode(os.waitpid(child, 0)[1])
+            self.see(f"a passphrase from {name}", (status, came) == (0, said) and self.read("back") == b"a short text\n", status, came)
+            self.remove("back")
+        with open(self.path("pass"), "rb") as held:
+            ended = self.tool(*"decrypt --pass /dev/stdin short.age back".split(), stdin=held)
+        self.ends("a passphrase from a file", ended, 0)
+
     def test_output_at_a_terminal(self):
         self.write("short", b"a short text\n")
         for name in ("/dev/stdout", "/dev/tty"):
@@ -408,7 +399,7 @@ class ProgramTest(Case):
         self.ends("a text to a terminal", self.at_terminal("decrypt --pass pass short.age /dev/stdout"), 0, b"a short text\n")
         self.write("random", b"0\n")
         ended = self.at_terminal("encrypt --pass pass --log 2 --random random short /dev/tty")
-        self.ends("a terminal, after the files of secrets", ended, 2, b"age_tool: bad random file\nage_tool: random holds 2 of 48 bytes\n")
+        self.ends("a terminal, after the files of secrets", ended, 2, b"age_tool: bad random file\nage_tool: random: it holds 2 of 48 bytes\n")
 
     # ---- standard error that leads to the output
 
@@ -430,7 +421,7 @@ class ProgramTest(Case):
     def shows_all(self, name, ended):
         """Counts whether there was at most a line for each percent, up to the last one of a file of 4.7 MiB."""
         *lines, last, end = ended.stderr.split(b"\r")
-        shown = last == b"100 %  4.7 of 4.7 MiB" and end == b"\n"
+        shown = re.fullmatch(rb"100% of 4\.7 MiB.{21}", last) and end == b"\n"
         self.see(name, ended.returncode == 0 and shown and 0 < len(lines) <= 100, ended.returncode, len(lines), last, end)
 
     def test_progress(self):
@@ -439,7 +430,7 @@ class ProgramTest(Case):
         self.shows_all("progress of five megabytes", self.on_terminal("stderr", *"encrypt --pass pass --log 10 --progress large large.age".split()))
         self.shows_all("progress of decrypting them", self.on_terminal("stderr", *"decrypt --pass pass --progress large.age back".split()))
         *lines, last = self.decrypt("--progress", "large.age", "back").stderr.splitlines()
-        self.see("progress in a log", last == b"100 %  4.7 of 4.7 MiB" and 0 < len(lines) <= 10, lines, last)
+        self.see("progress in a log", last == b"100%  4.7 of 4.7 MiB" and 0 < len(lines) <= 10, lines, last)
         self.see("there and back", self.read("back") == large)
         self.ends("progress on a closed standard error", self.redirected("2>&-", *"decrypt --progress --pass pass large.age back".split()), 0)
         self.see("progress on a closed standard error: the text", self.read("back") == large)
@@ -448,7 +439,35 @@ class ProgramTest(Case):
         with subprocess.Popen(["head", "-c", "134217728", "/dev/zero"], stdout=subprocess.PIPE) as zeros:
             words = "encrypt --pass pass --log 10 --progress /dev/stdin /dev/null".split()
             ended = self.on_terminal("stderr", *words, stdin=zeros.stdout)
-        self.ends("progress of a pipe", ended, 0, b"", b"  64.0 MiB\r 128.0 MiB\r\n")
+        shown = re.fullmatch(rb"  64\.0 MiB.{21}\r 128\.0 MiB.{21}\r\n", ended.stderr)
+        self.see("progress of a pipe", ended.returncode == 0 and shown, ended.stderr)
+        source, sink = os.pipe()
+        words = "encrypt --pass pass --log 1 --progress /dev/stdin /dev/null".split()
+        run = subprocess.Popen([self.program, *words], cwd=self.room, stdin=source, stderr=subprocess.PIPE)
+        os.write(sink, bytes(3000))
+        os.close(sink)
+        os.close(source)
+        self.see("the end of a short pipe", run.communicate()[1] == b"   2.9 KiB\n" and run.returncode == 0)
+
+    def test_pace(self):
+        """After a second a terminal shows how much comes in each."""
+        self.write("five", os.urandom(5 << 20))
+        self.encrypt("1 five five.age")
+        age = self.read("five.age")
+        os.mkfifo(self.path("fifo"))
+        ours, theirs = os.openpty()
+        run = subprocess.Popen([self.program, *"decrypt --pass pass --progress fifo /dev/null".split()], cwd=self.room, stderr=theirs)
+        os.close(theirs)
+        with open(self.path("fifo"), "wb") as fifo:
+            fifo.write(age[:3 << 20])
+            fifo.flush()
+            time.sleep(1.2)
+            fifo.write(age[3 << 20:])
+        *_, last, end = terminal.output(ours).replace(b"\r\n", b"\n").split(b"\r")
+        run.wait()
+        os.close(ours)
+        shown = re.fullmatch(rb"   5\.0 MiB  \d+ [KM]iB/s +", last) and len(last) == 31
+        self.see("the rate of a pipe", shown and end == b"\n", last, end)
 
     # ---- memory
 

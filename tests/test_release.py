@@ -12,7 +12,7 @@ from tools.workspace import LIBRARY, TOP, library
 
 # In the place of what builds: a program that is none, and the library that was built.
 STUBS = {
-    "build": "#!/bin/sh\nmkdir -p crates/age_tool/out && cp /usr/bin/true crates/age_tool/out/age_tool\n",
+    "build": "#!/bin/sh\nmkdir -p crates/age_tool/out && { cat /usr/bin/true; echo '1.2.0 (not a release)'; } >crates/age_tool/out/age_tool\n",
     "bindings/build": f"#!/bin/sh\nmkdir -p bindings/out && cp '{LIBRARY}'/libage_c* bindings/out\n",
     "release/static": "#!/bin/sh\ncp \"$1\" \"$2\" && cp \"$1\" \"$2.o\"\n",
 }
@@ -59,6 +59,7 @@ class ReleaseTest(Case):
         with tarfile.open(archive) as tar:
             names = tar.getnames()
         self.see("no draft is in the archive", not [it for it in names if "draft" in it.lower()])
+        self.see("the program has the commit's date", next(it for name, it in self.held("first").items() if name.endswith("-static")).endswith(b"1.2.0 (of 2023-11-14)\n"))
         self.see("the notices are", f"{names[0]}/share/doc/age_tool/NOTICES" in names, names)
         ends = (".tar.gz", ".whl", "-static", "-static.o", "NOTICES", "SHA256SUMS", *4 * ["amd64.deb"])
         self.see("all files of a release", sorted(self.held("first")) == sorted(it for it in self.held("first") if it.endswith(ends))

@@ -1,11 +1,14 @@
-"""Makes docs/age_tool-faults.7, the manual page of the faults, from the tables of docs/FAULTS.md, so that each is described once."""
+"""Makes docs/age_tool-faults.7, the manual page of the faults, and what `age_tool help N` prints, from the tables of docs/FAULTS.md, so that
+each is described once."""
 import re
+import textwrap
 
 from tools.workspace import TOP
 
 SOURCE, PAGE = TOP / "docs" / "FAULTS.md", TOP / "docs" / "age_tool-faults.7"
+ROWS = TOP / "crates" / "age_tool" / "src" / "faults.rt"
 HEAD = """.\\" Made from docs/FAULTS.md by checks/documents --write.
-.TH AGE_TOOL-FAULTS 7 "" "age_tool" "Faults"
+.TH AGE_TOOL-FAULTS 7 2026-11-29 "age_tool" "Faults"
 .SH NAME
 age_tool\\-faults \\- what the faults of age_tool mean, what they leave, and what to do
 .SH DESCRIPTION
@@ -60,3 +63,28 @@ def text_of_faults():
         parts.append(f".TP\n{roff(row['Message'])}\n{roff(sentence(row['What it means']))}\n")
     parts.append(".SH SEE ALSO\n.BR age_tool (1)\n")
     return "".join(parts)
+
+
+ROWS_HEAD = """//! What `age_tool help N` prints of a fault. Made from docs/FAULTS.md by checks/documents --write.
+
+/// What a fault means, what it leaves and what to do, if there is one of this number.
+pub(crate) fn row_of(number: u8) -> Option<&'static str> {
+    let row = match number {
+"""
+
+
+def plain(text):
+    """Markdown as a terminal shows it, in lines of 80 columns, none of which breaks code."""
+    text = re.sub(r"\[([^]]*)\]\([^)]*\)", r"\1", text).replace(r"\|", "|")
+    text = re.sub("`([^`]*)`", lambda it: it[1].replace(" ", "\0"), text)
+    return "\n".join(textwrap.wrap(text, 80, break_long_words=False, break_on_hyphens=False)).replace("\0", " ")
+
+
+def rows_of_faults():
+    """The file of the program that has a row for each fault."""
+    arms = []
+    for row in (it for it in tables(SOURCE.read_text()) if "No." in it):
+        said = [f"{row['No.']} {row['Name']}", sentence(row["What it means"]), f"OUT: {row['What is left in OUT']}.", f"What to do: {row['What to do']}."]
+        text = "\n".join(map(plain, said)).replace("\\", "\\\\").replace('"', '\\"')
+        arms.append(f'        {row["No."]} => "{text}",\n')
+    return f"{ROWS_HEAD}{''.join(arms)}        _ => return None,\n    }};\n    Some(row)\n}}\n"

@@ -6,7 +6,7 @@ complete -c age_tool -n "not __fish_seen_subcommand_from $commands" -a encrypt -
 complete -c age_tool -n "not __fish_seen_subcommand_from $commands" -a decrypt -d "Decrypt an age file"
 complete -c age_tool -n "not __fish_seen_subcommand_from $commands" -a resume -d "Continue a decryption that stopped"
 complete -c age_tool -n "not __fish_seen_subcommand_from $commands" -a inspect -d "Show what the header of an age file says"
-complete -c age_tool -n "not __fish_seen_subcommand_from $commands" -a drill -d "Deliver a payload by a script, and report what a reader holds"
+complete -c age_tool -n "not __fish_seen_subcommand_from $commands" -a drill -d "Show how a reader reacts to lost, repeated or altered pieces"
 complete -c age_tool -n "not __fish_seen_subcommand_from $commands" -a help -d "Print help"
 complete -c age_tool -n "not __fish_seen_subcommand_from $commands" -s V -l version -d "Print the version"
 complete -c age_tool -s h -l help -d "Print help"

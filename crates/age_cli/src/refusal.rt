@@ -6,8 +6,8 @@ use clap::error::ErrorKind;
 use std::alloc::{AllocError, Global};
 
 /// What the parser says of these words, with which it fails: help, the version, or why they are
-/// refused. Then what can't be shown of a word is shown by its code, as `age_messages` does, and an
-/// option of `age` or `gpg` gets a hint.
+/// refused. Then what can't be shown of a word is shown by its code, as `age_messages` does, an option
+/// of `age` or `gpg` gets a hint, and the first line is in the words of this program.
 pub(crate) fn refusal_text(
     alloc: Global,
     words: &[&str],
@@ -15,8 +15,33 @@ pub(crate) fn refusal_text(
 ) -> Result<String, AllocError> {
     match error.kind() {
         ErrorKind::DisplayHelp | ErrorKind::DisplayVersion => error.to_string(alloc),
-        _ => with_hint(alloc, coded_text(alloc, words)?),
+        _ => reworded(alloc, with_hint(alloc, coded_text(alloc, words)?)?),
     }
+}
+
+/// The parser's text, its first line in plainer words and after the program's name.
+fn reworded(alloc: Global, text: String) -> Result<String, AllocError> {
+    let said = text.as_str();
+    let (first, rest) = said.split_once('\n').unwrap_or((said, ""));
+    let (before, words, after) = plain(first.strip_prefix("error: ").unwrap_or(first));
+    format!(in alloc; "age_tool: {before}{words}{after}\n{rest}")
+}
+
+/// What the parser says in its first line, in plainer words: what comes before its own, these, and
+/// what comes after them.
+fn plain(said: &str) -> (&'static str, &str, &'static str) {
+    if let Some(word) = said.strip_prefix("unrecognized subcommand ") {
+        return ("no such command: ", word, "");
+    }
+    if let Some((value, _)) = said.rsplit_once("': ")
+        && said.starts_with("invalid value '")
+    {
+        return ("", value, "': not a number from 1 to 22");
+    }
+    if said == "the following required arguments were not provided:" {
+        return ("these arguments are missing:", "", "");
+    }
+    ("", said.strip_suffix(" found").unwrap_or(said), "")
 }
 
 /// Why the parser refuses words, of which it is given the codes: it copies them into its text. (What

@@ -1,7 +1,8 @@
 //! The texts of the help.
 
-/// The version of the workspace, which `--version` prints.
-pub(crate) const VERSION: &str = "1.2.0";
+/// The version of the workspace, which `--version` prints. A release has the date of its commit in the
+/// place of `not a release` (release/build).
+pub(crate) const VERSION: &str = "1.2.0 (not a release)";
 
 pub(crate) const PROGRAM: &str = "Encrypt, decrypt and inspect age files (age-encryption.org/v1).";
 
@@ -12,27 +13,29 @@ pub(crate) const AFTER_PROGRAM: &str =
     "Without arguments it inspects standard input, as `age_tool inspect` does.
 
 Exit status: 0 on success; 1 on a fault, reported in one line such as
-`age_tool: 13 WrongKey`; 2 for a bad command line, and then no file has changed.
+`age_tool: 13 WrongKey`, and what to do in the next; 2 for a bad command line,
+and then no file has changed.
 
-Faults: 1-8 no age file, or its header is damaged or cut; 9-15 no key opened it;
-16-22 the payload is damaged, cut, or followed by something; 23-25, 30 and 31
-position, file and old output don't belong together; 26 a file can't be read;
-27 one can't be written; 28 out of memory; 29 an input never ends.
-`man age_tool` and share/doc/age_tool/FAULTS.md of a release say more.
+Faults: 1-8: not an age file, or a damaged or truncated header; 9-15: not
+decrypted with this key; 16-22: a payload that is damaged, truncated, or followed
+by something; 23-25, 30, 31: position, file and old output don't match; 26: a
+file can't be read; 27: one can't be written; 28: out of memory; 29: an input
+never ends. `age_tool help 13` says more of 13. So do `man age_tool-faults` and
+share/doc/age_tool/FAULTS.md of a release.
 
 A name is a path: `-` is a file of that name; /dev/stdin and /dev/stdout are the
-standard streams. OUT must not be one of the files that are read, under any name.
+standard streams. OUT must not be a file that is read, under any name.
 
 From age: `age -p -o OUT IN` is `age_tool encrypt --pass FILE IN OUT`, and
-`age -d -o OUT IN` is `age_tool decrypt --pass FILE IN OUT`, where FILE holds the
-passphrase. Nothing is asked at a terminal.
+`age -d -o OUT IN` is `age_tool decrypt --pass FILE IN OUT`, where FILE holds
+the passphrase. age_tool never prompts.
 
 `age_tool COMMAND --help` explains a command.";
 
 pub(crate) const ENCRYPT: &str = "Encrypt a file with a passphrase";
 
-pub(crate) const AFTER_ENCRYPT: &str =
-    "Example: age_tool encrypt --no-clobber --pass passphrase.txt notes.txt notes.txt.age
+pub(crate) const AFTER_ENCRYPT: &str = "Example:
+    age_tool encrypt --no-clobber --pass passphrase.txt notes.txt notes.txt.age
 
 `age -d` opens the result if the passphrase is one line that can be typed. OUT
 keeps what it held until the first byte is written. If encryption stops after
@@ -41,11 +44,11 @@ that, what it has written stays in OUT.";
 pub(crate) const DECRYPT: &str = "Decrypt an age file";
 
 /// One of the three has to be there, which `clap` wouldn't say: its rules are simple ones.
-pub(crate) const DECRYPT_USAGE: &str = "age_tool decrypt [OPTIONS] \
-     <--pass <FILE>|--file-key <HEX>|--shared <FILE>> <IN> <OUT>";
+pub(crate) const DECRYPT_USAGE: &str = "age_tool decrypt [OPTIONS]
+       <--pass <FILE>|--file-key <HEX>|--shared <FILE>> <IN> <OUT>";
 
-pub(crate) const AFTER_DECRYPT: &str =
-    "Example: age_tool decrypt --no-clobber --pass passphrase.txt notes.txt.age notes.copy
+pub(crate) const AFTER_DECRYPT: &str = "Example:
+    age_tool decrypt --no-clobber --pass passphrase.txt notes.txt.age notes.copy
 
 One of --pass, --file-key and --shared is required. Every chunk is checked
 before it is written. Only status 0 means that OUT is the complete plaintext:
@@ -54,12 +57,12 @@ after a fault it is as it was, or holds the part that was checked so far (after
 
 pub(crate) const RESUME: &str = "Continue a decryption that stopped";
 
-pub(crate) const RESUME_USAGE: &str = "age_tool resume [OPTIONS] --position <FILE> --old <FILE> \
-     <--pass <FILE>|--file-key <HEX>|--shared <FILE>> <IN> <OUT>";
+pub(crate) const RESUME_USAGE: &str = "age_tool resume [OPTIONS] --position <FILE> --old <FILE>
+       <--pass <FILE>|--file-key <HEX>|--shared <FILE>> <IN> <OUT>";
 
-pub(crate) const AFTER_RESUME: &str =
-    "Example: age_tool resume --position notes.position --old notes.part \\
-             --no-clobber --pass passphrase.txt notes.txt.age notes.copy
+pub(crate) const AFTER_RESUME: &str = "Example:
+    age_tool resume --position notes.position --old notes.part \\
+        --no-clobber --pass passphrase.txt notes.txt.age notes.copy
 
 One of --pass, --file-key and --shared is required. `resume` copies the part
 already decrypted from the earlier output, decrypts the rest, and writes the
@@ -71,18 +74,19 @@ the old position still goes with the old output.";
 
 pub(crate) const INSPECT: &str = "Show what the header of an age file says";
 
-pub(crate) const AFTER_INSPECT: &str = "Example: age_tool inspect notes.txt.age
+pub(crate) const AFTER_INSPECT: &str = "Example:
+    age_tool inspect notes.txt.age
 
 Nothing is decrypted. The report gives the length of the header, its stanzas,
 the number of bytes after it, and how long the plaintext is if the file is
 whole, which isn't checked.";
 
-pub(crate) const DRILL: &str = "Deliver a payload by a script, and report what a reader holds";
+pub(crate) const DRILL: &str = "Show how a reader reacts to lost, repeated or altered pieces";
 
 pub(crate) const DRILL_USAGE: &str = "age_tool drill <--clear|--pass <FILE>> <SCRIPT> <IN>";
 
-pub(crate) const AFTER_DRILL: &str =
-    "Example: age_tool drill --pass passphrase.txt script.txt notes.txt.age
+pub(crate) const AFTER_DRILL: &str = "Example:
+    age_tool drill --pass passphrase.txt script.txt notes.txt.age
 
 One of --clear and --pass is required. Each line of the script ends with a
 newline and is one of:
@@ -114,22 +118,23 @@ pub(crate) const SHARED: &str = "File with the shared secret of an X25519 stanza
 then its recipient, 32 bytes each";
 
 pub(crate) const MAX_LOG: &str = "With --pass, refuse work factors above N, 1 to 22
-[default: 22]. A work factor of 22 takes 4 GiB of memory";
+[default: 22]. One of 22 takes 4 GiB of memory";
 
 pub(crate) const SAVE: &str = "If decryption stops at a fault, save its position here,
 for `resume`. A run that is killed, as by Ctrl-C, saves
-none. No file that is read or written, except that of
-resume's --position. Slower from a pipe. Best on a disk
-that OUT can't fill";
+none. Must not be a file that this command reads or
+writes; it may be the file of --position. Slower from a
+pipe. Best on a disk that OUT can't fill";
 
 pub(crate) const NO_SYNC: &str = "Don't wait until OUT, a regular file or a block device,
 has reached the disk. Errors that come only then (NFS,
 quotas) go unnoticed";
 
-pub(crate) const NO_CLOBBER: &str = "Refuse an existing OUT (27); it stays as it was. The file
-of --save has to be new, empty or a position";
+pub(crate) const NO_CLOBBER: &str = "Refuse an existing OUT (27); it stays as it was. The
+file of --save has to be new, empty or a position";
 
-pub(crate) const PROGRESS: &str = "Show on standard error how much of IN has been read";
+pub(crate) const PROGRESS: &str = "Show on standard error how much of IN has been read; at
+a terminal also how fast, and how long the rest takes";
 
 pub(crate) const POSITION: &str = "File with the position that the stopped run saved";
 

@@ -2,35 +2,84 @@ use age_cli::{MemFiles, run};
 use age_host::{LineStyle, ProgressLine};
 use age_io::{MemSink, MemSource, Meter};
 use std::alloc::Global;
+use std::cell::Cell;
+use std::io;
 use std::process::Abort;
 use std::test::Fail;
+use std::time::{Clock, Duration};
 
 const MIB: u64 = 1 << 20;
 
 const GIB: u64 = 1 << 30;
 
+/// A clock that is so many milliseconds further at each look.
+#[derive(Drop)]
+struct Ticking {
+    now: Cell<u64>,
+    step: u64,
+}
+
+impl Ticking {
+    fn by(step: u64) -> Ticking {
+        Ticking {
+            now: Cell::new(0),
+            step,
+        }
+    }
+}
+
+impl Clock for Ticking {
+    fn monotonic(&self) -> io::Result<Duration> {
+        let now = self.now.get();
+        self.now.set(now.saturating_add(self.step));
+        Ok(Duration::from_millis(now))
+    }
+
+    fn since_1970(&self) -> io::Result<Duration> {
+        self.monotonic()
+    }
+}
+
 /// Runs that are shown one after another: the length of each, and what it counts.
 type Runs<'a> = &'a [(Option<u64>, &'a [u64])];
 
-/// The runs, and what they show.
-const ROWS: &[(Runs<'static>, LineStyle, &str)] = &[
+/// The runs, how far the clock is at each look, and what they show.
+const ROWS: &[(Runs<'static>, u64, LineStyle, &str)] = &[
     // Each percentage comes once.
     (
         &[(Some(512), &[0, 5, 1, 250, 256, 0])],
+        0,
         LineStyle::Rewritten,
-        "  0 %  0 of 512 B\r  1 %  6 of 512 B\r 50 %  256 of 512 B\r100 %  512 of 512 B\r\n",
+        "  0% of 512 B                     \r  1% of 512 B                     \r \
+         50% of 512 B                     \r100% of 512 B                     \r\n",
     ),
     // In a log, each tenth comes once at most.
     (
         &[(Some(512), &[0, 5, 1, 250, 256, 0])],
+        600,
         LineStyle::Separate,
-        "  0 %  0 of 512 B\n 50 %  256 of 512 B\n100 %  512 of 512 B\n",
+        "  0%  0 of 512 B\n 50%  256 of 512 B\n100%  512 of 512 B\n",
     ),
     // 37 hundredths of 80 GiB are 29.6 GiB.
     (
         &[(Some(80 * GIB), &[30_311 * MIB, 50 * GIB])],
+        0,
         LineStyle::Rewritten,
-        " 37 %  29.6 of 80.0 GiB\r 99 %  79.6 of 80.0 GiB\r\n",
+        " 37% of 80.0 GiB                     \r 99% of 80.0 GiB                     \r\n",
+    ),
+    // A second has passed after the second look: 50 MiB in 1.2 s.
+    (
+        &[(Some(100 * MIB), &[25 * MIB, 25 * MIB])],
+        600,
+        LineStyle::Rewritten,
+        " 25% of 100.0 MiB                     \r 50% of 100.0 MiB  41 MiB/s  0:00:01  \r\n",
+    ),
+    // 1 TiB in an hour, and nine hours for the rest.
+    (
+        &[(Some(10_240 * GIB), &[1_024 * GIB])],
+        3_600_000,
+        LineStyle::Rewritten,
+        " 10% of 10.0 TiB  291 MiB/s  9:00:00 \r\n",
     ),
     // A pipe: 1,228 MiB are 1.199 GiB, and 2,001.2 GiB are 1.954 TiB.
     (
@@ -38,43 +87,76 @@ const ROWS: &[(Runs<'static>, LineStyle, &str)] = &[
             None,
             &[64 * MIB - 1, 1, 63 * MIB, MIB, 1100 * MIB, 2000 * GIB],
         )],
+        0,
         LineStyle::Rewritten,
-        "  64.0 MiB\r 128.0 MiB\r   1.1 GiB\r   1.9 TiB\r\n",
+        "  64.0 MiB                     \r 128.0 MiB                     \r   1.1 \
+         GiB                     \r   1.9 TiB                     \r\n",
     ),
     (
         &[(None, &[9 * GIB, GIB, 5 * GIB, 25 * GIB])],
+        0,
         LineStyle::Separate,
         "  10.0 GiB\n  40.0 GiB\n",
     ),
-    // A small pipe, and nothing to be read.
-    (&[(None, &[64 * MIB - 1])], LineStyle::Rewritten, ""),
+    // What came is said at the end.
+    (
+        &[(None, &[64 * MIB - 1])],
+        2_000,
+        LineStyle::Rewritten,
+        "  63.9 MiB  31 MiB/s           \r\n",
+    ),
+    (
+        &[(None, &[1024, 1024])],
+        0,
+        LineStyle::Separate,
+        "   2.0 KiB\n",
+    ),
+    (
+        &[(Some(1000), &[100, 30])],
+        0,
+        LineStyle::Separate,
+        " 10%  100 of 1000 B\n 13%  130 of 1000 B\n",
+    ),
+    // Nothing to be read.
     (
         &[(Some(0), &[0, 0])],
+        0,
         LineStyle::Rewritten,
-        "100 %  0 of 0 B\r\n",
+        "100% of 0 B                     \r\n",
     ),
     // A file grew: no part of its length is shown any more, and the longer line is covered.
     (
         &[(Some(2048), &[1024, 4096, 4096])],
+        0,
         LineStyle::Rewritten,
-        " 50 %  1.0 of 2.0 KiB\r   5.0 KiB                    \r\n",
+        " 50% of 2.0 KiB                     \r   5.0 KiB                               \r   \
+         9.0 KiB                               \r\n",
     ),
     (
         &[(Some(2048), &[1024, 4096])],
+        0,
         LineStyle::Separate,
-        " 50 %  1.0 of 2.0 KiB\n   5.0 KiB\n",
+        " 50%  1.0 of 2.0 KiB\n   5.0 KiB\n",
     ),
     // It begins anew.
     (
         &[(Some(10), &[5]), (Some(4), &[4])],
+        0,
         LineStyle::Rewritten,
-        " 50 %  5 of 10 B\r\n100 %  4 of 4 B\r\n",
+        " 50% of 10 B                     \r\n100% of 4 B                     \r\n",
     ),
 ];
 
 /// Shows the runs in a sink, and compares what it then holds.
-fn see(rt: &impl Abort, sink: MemSink, style: LineStyle, runs: Runs<'_>, wanted: &str) {
-    let mut progress = ProgressLine::new(sink, style);
+fn see(
+    rt: &impl Abort,
+    sink: MemSink,
+    style: LineStyle,
+    clock: Ticking,
+    runs: Runs<'_>,
+    wanted: &str,
+) {
+    let mut progress = ProgressLine::new(sink, style, clock);
     for (length, counts) in runs {
         progress.begin(*length);
         for bytes in *counts {
@@ -91,10 +173,10 @@ fn see(rt: &impl Abort, sink: MemSink, style: LineStyle, runs: Runs<'_>, wanted:
 /// A sink that takes little gets whole lines too.
 #[test]
 fn shows_runs(rt: HostRuntime) -> Result<(), Fail> {
-    for (runs, style, wanted) in ROWS {
+    for (runs, tick, style, wanted) in ROWS {
         for step in [3, usize::MAX] {
             let sink = MemSink::new(rt.alloc(), 10_000, step, None)?;
-            see(&rt, sink, *style, *runs, *wanted);
+            see(&rt, sink, *style, Ticking::by(*tick), *runs, *wanted);
         }
     }
     Ok(())
@@ -104,18 +186,26 @@ fn shows_runs(rt: HostRuntime) -> Result<(), Fail> {
 #[test]
 fn continues_after_a_failed_line(rt: HostRuntime) -> Result<(), Fail> {
     for (call, wanted) in [
-        (0, " 50 %  5 of 10 B\r 80 %  8 of 10 B\r\n"),
+        (
+            0,
+            " 50% of 10 B                     \r 80% of 10 B                     \r\n",
+        ),
         (
             1,
-            " 20 %  2 of 10 B\r 50 %  5 of 10 B\r 80 %  8 of 10 B\r\n",
+            " 20% of 10 B                     \r 50% of 10 B                     \r \
+             80% of 10 B                     \r\n",
         ),
-        (2, " 20 %  2 of 10 B\r 80 %  8 of 10 B\r\n"),
+        (
+            2,
+            " 20% of 10 B                     \r 80% of 10 B                     \r\n",
+        ),
     ] {
         let sink = MemSink::new(rt.alloc(), 10_000, usize::MAX, Some(call))?;
         see(
             &rt,
             sink,
             LineStyle::Rewritten,
+            Ticking::by(0),
             &[(Some(10), &[2, 3, 3])],
             wanted,
         );
@@ -126,7 +216,7 @@ fn continues_after_a_failed_line(rt: HostRuntime) -> Result<(), Fail> {
 #[test]
 fn shows_at_most_101_lines(rt: HostRuntime) -> Result<(), Fail> {
     let sink = MemSink::new(rt.alloc(), 10_000, usize::MAX, None)?;
-    let mut progress = ProgressLine::new(sink, LineStyle::Rewritten);
+    let mut progress = ProgressLine::new(sink, LineStyle::Rewritten, Ticking::by(1));
     progress.begin(Some(80 * GIB));
     for _ in 0..1280 {
         progress.advance(64 * MIB);
@@ -163,7 +253,7 @@ fn ends(alloc: Global, files: &mut MemFiles, words: &[&str], wanted: u8) -> bool
         &mut MemSource::new(Vec::new(alloc), 1, None),
         &mut output,
         &mut faults,
-        &mut None::<ProgressLine<MemSink>>,
+        &mut None::<ProgressLine<MemSink, Ticking>>,
     );
     status == wanted
 }
@@ -231,7 +321,7 @@ fn status_of(alloc: Global, fail_call: u64) -> Result<u8, Fail> {
         &mut input,
         &mut output,
         &mut faults,
-        &mut None::<ProgressLine<MemSink>>,
+        &mut None::<ProgressLine<MemSink, Ticking>>,
     );
     let is_reported = faults.bytes() == b"age_tool: 27 Write\n".as_slice();
     Ok(if is_reported == (status == 1) {

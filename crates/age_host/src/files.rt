@@ -19,7 +19,7 @@ use age_disk::{
 use age_fault::FileFault;
 use age_fileset::{FileSet, Log, OpenFault};
 use age_io::{Durability, Source, Tape};
-use age_messages::{Action, Failures, announce_copying, announce_sync};
+use age_messages::{Action, Failures, announce_copying, announce_passphrase, announce_sync};
 use std::alloc::Global;
 use std::rt::HostRuntime;
 use std::{fs, io};
@@ -102,6 +102,7 @@ impl<'r, 'w> HostFiles<'r, 'w> {
         match opened {
             Ok(file) => {
                 keep(&mut self.open, file.id())?;
+                announce_passphrase(self.rt, self.failures, name);
                 Ok(WatchedIn::new(file, name, self.failures))
             }
             Err(error) => {
@@ -140,10 +141,15 @@ impl<'r, 'w> HostFiles<'r, 'w> {
     fn refusal(&self, name: &str, error: io::Error) -> OpenFault
         ensures { OpenFails Write result }
     {
-        let action = opening(self.rt, name);
-        if error.kind() == io::ErrorKind::AlreadyExists && is_empty_at(self.rt, name) {
+        let is_there = error.kind() == io::ErrorKind::AlreadyExists;
+        if is_there && is_empty_at(self.rt, name) {
             self.failures.note_left_empty();
         }
+        let action = if is_there && self.failures.has_word("--no-clobber") {
+            Action::Keep
+        } else {
+            opening(self.rt, name)
+        };
         self.failures.note(action, self.failures.word(name), error);
         OpenFault::Fault(fault_of(error, FileFault::Write))
     }

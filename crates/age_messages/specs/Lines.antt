@@ -1,5 +1,5 @@
 -- Which line shows how far a run is, and when a line is due.
-use Rattle.std.specs.Prelude.{◌≡◌, ◌⊎◌, ℕ, ◌+◌, ◌-◌, ◌*◌, ◌/◌, ◌%◌, ◌^◌, min, Bool, true, false, List, ◌++◌}
+use Rattle.std.specs.Prelude.{◌≡◌, ◌⊎◌, ℕ, ◌+◌, ◌-◌, ◌*◌, ◌/◌, ◌%◌, ◌^◌, min, Bool, false, List, [], ◌∷◌, ◌++◌}
 use Rattle.std.specs.Prelude.{length, take, codes, decimal, nat_eq, nat_lt, nat_le, Option, None, Some}
 use Rattle.std.specs.Prelude.{if◌then◌else◌}
 use Rattle.age_io.specs.Taken.{Appends}
@@ -35,30 +35,78 @@ amount size bytes = if nat_eq size 1 then decimal bytes
 abbrev pub padded : ℕ → List ℕ → List ℕ
 padded width text = take (width - length text) (codes "      ") ++ text
 
--- what ends a line: a carriage return, so that the next one is written over it, or a line feed
-abbrev pub line_end : LineStyle → List ℕ
-line_end Rewritten = codes "\r"
-line_end Separate = codes "\n"
+-- a number below 100 in two digits, and seconds as hours, minutes and seconds
+abbrev pub two_digits : ℕ → List ℕ
+two_digits n = (48 + n / 10) ∷ (48 + n % 10) ∷ []
+
+abbrev pub clock_text : ℕ → List ℕ
+clock_text seconds = decimal (seconds / 3600) ++ (codes ":" ++ (two_digits (seconds / 60 % 60)
+    ++ (codes ":" ++ two_digits (seconds % 60))))
+
+-- how many bytes came in each of so many milliseconds' seconds, once the first has passed
+abbrev pub rate : ℕ → ℕ → ℕ
+rate count millis = if nat_lt millis 1000 then 0 else count * 1000 / millis
+
+abbrev pub rate_text : ℕ → List ℕ
+rate_text rate = if nat_eq rate 0 then [] else codes "  "
+    ++ (decimal (rate / (measure_of rate).size) ++ (codes " " ++ ((measure_of rate).name ++ codes "/s")))
+
+-- how long the rest of a length takes at a rate
+abbrev pub left_text : Option ℕ → ℕ → ℕ → List ℕ
+left_text None count rate = []
+left_text (Some length) count rate = if nat_eq rate 0 then []
+    else codes "  " ++ clock_text ((length - count) / rate)
+
+-- both, with the spaces that cover a longer text before it
+abbrev pub covering : List ℕ → List ℕ
+covering text = text ++ take (21 - length text) (codes "                     ")
+
+abbrev pub pace : Option ℕ → ℕ → ℕ → List ℕ
+pace length count rate = covering (rate_text rate ++ left_text length count rate)
+
+-- what ends a line: at a terminal how quick the run is, and a carriage return, so that the next one
+-- is written over it; in a log a line feed
+abbrev pub line_end : LineStyle → Option ℕ → ℕ → ℕ → List ℕ
+line_end Rewritten length count millis = pace length count (rate count millis) ++ codes "\r"
+line_end Separate length count millis = codes "\n"
 
 -- the same, of a line that covers a longer one over which it is written
-abbrev pub covering_end : LineStyle → List ℕ
-covering_end Rewritten = codes "                    \r"
-covering_end Separate = codes "\n"
+abbrev pub covering_end : LineStyle → ℕ → ℕ → List ℕ
+covering_end Rewritten count millis = pace None count (rate count millis) ++ codes "          \r"
+covering_end Separate count millis = codes "\n"
 
 -- the line for a count of bytes, with its end
 abbrev pub count_line : List ℕ → ℕ → List ℕ
 count_line end count = padded 6 (amount (measure_of count).size count)
     ++ (codes " " ++ ((measure_of count).name ++ end))
 
--- the line for a count of bytes, of a length if that is known and no less
-abbrev pub progress_line : LineStyle → Option ℕ → ℕ → List ℕ
-progress_line style None count = count_line (line_end style) count
-progress_line style (Some length) count = if nat_lt length count
-    then count_line (covering_end style) count
-    else padded 3 (decimal (percentage length count))
-    ++ (codes " %  " ++ (amount (measure_of length).size count
-    ++ (codes " of " ++ (amount (measure_of length).size length
-    ++ (codes " " ++ ((measure_of length).name ++ line_end style))))))
+-- what is shown before a length in units of a size, of which so much was read
+abbrev pub share : LineStyle → ℕ → ℕ → List ℕ
+share Rewritten size count = codes "% of "
+share Separate size count = codes "%  " ++ (amount size count ++ codes " of ")
+
+-- the line for a count of bytes after so many milliseconds, of a length if that is known and no less
+abbrev pub progress_line : LineStyle → Option ℕ → ℕ → ℕ → List ℕ
+progress_line style None count millis = count_line (line_end style None count millis) count
+progress_line style (Some length) count millis = if nat_lt length count
+    then count_line (covering_end style count millis) count
+    else padded 3 (decimal (percentage length count)) ++ (share style (measure_of length).size count
+    ++ (amount (measure_of length).size length ++ (codes " "
+    ++ ((measure_of length).name ++ line_end style (Some length) count millis))))
+
+-- whether the line for a count was shown, if that of this one came last
+abbrev pub was_shown : Option ℕ → ℕ → Bool
+was_shown None count = false
+was_shown (Some last) count = nat_eq last count
+
+-- what ends a run: its last line, unless that was shown, and at a terminal a line feed
+abbrev pub run_end : LineStyle → List ℕ
+run_end Rewritten = codes "\n"
+run_end Separate = []
+
+abbrev pub last_text : LineStyle → Option ℕ → ℕ → ℕ → Option ℕ → List ℕ
+last_text style length count millis last = (if was_shown last count then []
+    else progress_line style length count millis) ++ run_end style
 
 -- ---- When a line is due.
 
@@ -87,11 +135,6 @@ first_mark (Some length) = 0
 -- whether a line is due, if the next is due at that mark
 abbrev pub is_due : LineStyle → Option ℕ → ℕ → ℕ → Bool
 is_due style length next count = nat_le next (mark style length count)
-
--- whether a line is left to be ended
-abbrev pub is_left : LineStyle → Bool
-is_left Rewritten = true
-is_left Separate = false
 
 -- ---- What a sink took of a line.
 

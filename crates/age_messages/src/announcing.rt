@@ -33,7 +33,7 @@ fn show_unread(rt: &HostRuntime, word: &[u8]) -> bool {
         return false;
     }
     let word = Leading(word);
-    let _ = eprintln!(rt; "age_tool: {word} isn't UTF-8, as a name must be");
+    let _ = eprintln!(rt; "age_tool: {word}: it isn't UTF-8, as a name must be");
     true
 }
 
@@ -42,6 +42,20 @@ pub fn announce_reading(rt: &HostRuntime) {
     if rt.stdin().is_terminal() {
         let _ = eprintln!(rt;
             "age_tool: reading a header from standard input; for help, age_tool --help"
+        );
+    }
+}
+
+/// Says that a passphrase is read from a terminal, which asks for nothing.
+pub fn announce_passphrase(rt: &HostRuntime, failures: &Failures<'_>, name: &str) {
+    let is_typed = match name {
+        "/dev/tty" => true,
+        "/dev/stdin" => rt.stdin().is_terminal(),
+        _ => false,
+    };
+    if is_typed && failures.named_by("--pass") == Some(name) {
+        let _ = eprintln!(rt;
+            "age_tool: reading the passphrase from the terminal, which shows it; Ctrl-D ends it"
         );
     }
 }

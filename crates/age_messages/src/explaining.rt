@@ -4,56 +4,37 @@ use crate::escaped::{Escaped, Leading, Quoted, is_cut};
 use crate::failures::{Amount, Failure, Failures};
 use crate::head::Work;
 use crate::heard::Heard;
-use crate::hints::hint_of;
-use crate::line::size_line;
+use crate::hints::Reported;
 use age_io::Sink;
+use std::fmt::{self, Formatter};
 use std::io::Eprint;
 use std::rt::HostRuntime;
 
-/// The fault that a line reports.
-#[derive(Clone, Copy)]
-struct Reported {
-    number: u8,
-    is_first_line: bool,
-}
-
-/// The fault that a line reports, if it does.
-fn fault_in(line: &str) -> Option<Reported> {
-    let (number, rest) = line.strip_prefix("age_tool: ")?.split_once(' ')?;
-    Some(Reported {
-        number: number.parse().ok()?,
-        is_first_line: rest.ends_with(" line 1"),
-    })
-}
-
-/// Says on standard error what may surprise, however a run ended; what the machine answered, if that
-/// is why it stopped, or which file the fault is about; whether a position was saved; which files
-/// were one; and what is wrong with a file that was refused. Then it says what to do.
+/// Says on standard error why a run stopped, and what to do, in one line; whether a position was
+/// saved; or what is wrong with the words that were refused. Then, however it ended, what may
+/// surprise.
 pub fn explain<O: Sink>(rt: &HostRuntime, heard: &Heard<O>, failures: &Failures<'_>) {
+    let mut lines = heard.text().lines();
+    match lines.next() {
+        Some(line) => explain_end(rt, line, lines.next(), failures),
+        None if failures.is_inspecting() && !heard.is_long() => tell_work(rt, failures),
+        None => {}
+    }
     explain_words_taken(rt, failures);
     explain_files(rt, failures);
-    let mut lines = heard.text().lines();
-    let Some(line) = lines.next() else {
-        if failures.is_inspecting() && !heard.is_long() {
-            tell_work(rt, failures);
-        }
-        return;
+}
+
+/// Says more of a fault, and of a second one; or of words that were refused.
+fn explain_end(rt: &HostRuntime, line: &str, second: Option<&str>, failures: &Failures<'_>) {
+    let by_pass = failures.named_by("--pass").is_some();
+    let Some(fault) = Reported::of(line, by_pass) else {
+        return explain_refusal(rt, line, failures);
     };
-    match fault_in(line) {
-        Some(first) => {
-            explain_fault(rt, first, failures.first());
-            name_file(rt, first, failures);
-            if first.number == 11 {
-                tell_work(rt, failures);
-            }
-            if let Some(second) = lines.next().and_then(fault_in) {
-                explain_fault(rt, second, failures.unsaved());
-            }
-            give_hint(rt, first, failures);
-            tell_position(rt, failures);
-        }
-        None => explain_refusal(rt, line, failures),
+    explain_fault(rt, fault, failures);
+    if let Some(second) = second.and_then(|line| Reported::of(line, by_pass)) {
+        tell_failure(rt, second.number, failures.unsaved(), "");
     }
+    tell_position(rt, failures);
 }
 
 /// Says of a word what it means here, if other programs take it for something else.
@@ -78,7 +59,7 @@ fn explain_words_taken(rt: &HostRuntime, failures: &Failures<'_>) {
 fn explain_files(rt: &HostRuntime, failures: &Failures<'_>) {
     if let Some(name) = failures.cut_off() {
         let name = Leading(name.as_bytes());
-        let _ = eprintln!(rt; "age_tool: {name} became shorter while it was read");
+        let _ = eprintln!(rt; "age_tool: {name}: it became shorter while it was read");
     }
     if let Some(name) = failures.moved() {
         let name = Escaped(name.as_bytes());
@@ -99,49 +80,82 @@ fn explain_files(rt: &HostRuntime, failures: &Failures<'_>) {
 
 /// Says how much memory the file that was read last asks for, if a passphrase opens it.
 fn tell_work(rt: &HostRuntime, failures: &Failures<'_>) {
-    match failures.last_read().head.work() {
-        Some(Work::Allowed(log)) => {
-            let size = size_line(1024 << (log as u64).min(22));
-            if let Ok(size) = str::from_utf8(size.as_slice()) {
-                let _ = eprintln!(rt;
-                    "age_tool: work factor {log}: a passphrase takes {size} of memory"
-                );
-            }
-        }
-        Some(Work::TooHigh) => {
-            let _ = eprintln!(rt; "age_tool: work factor above 22: no age_tool opens the file");
-        }
-        None => {}
+    if let Some(work) = failures.last_read().head.work() {
+        let _ = eprintln!(rt; "age_tool: {work}");
     }
 }
 
-/// Says what the machine answered, if the fault came of the failure.
-fn explain_fault(rt: &HostRuntime, fault: Reported, failure: Option<Failure<'_>>) {
-    if let Some(failure) = failure
-        && failure.action.fault_number() == fault.number
-    {
-        let _ = eprintln!(rt; "age_tool: {failure}");
+/// Says what the machine answered, if a fault came of that; whether it did.
+fn tell_failure(rt: &HostRuntime, number: u8, failure: Option<Failure<'_>>, more: &str) -> bool {
+    match failure {
+        Some(failure) if failure.action.fault_number() == number => {
+            let _ = eprintln!(rt; "age_tool: {failure}{more}");
+            true
+        }
+        _ => false,
+    }
+}
+
+/// The file that a line is about, if it is about one, as the line begins.
+#[derive(Clone, Copy)]
+struct About<'w>(Option<&'w str>);
+
+impl<'w> fmt::Display for About<'w> {
+    fn fmt<W: fmt::Write>(&self, f: &mut Formatter<W>) -> fmt::Result {
+        match self.0 {
+            None => Ok(()),
+            Some(name) if name.is_empty() => f.write_str("standard input: "),
+            Some(name) => write!(f, "{}: ", Leading(name.as_bytes())),
+        }
     }
 }
 
 /// The file that a fault is about, if no failure of the machine names it.
-fn file_of<'w>(fault: Reported, failures: &Failures<'w>) -> Option<&'w str> {
-    match fault.number {
+fn file_of<'w>(number: u8, failures: &Failures<'w>) -> About<'w> {
+    About(match number {
         1..=22 | 24 | 29 => Some(failures.last_read().name),
         23 | 30 => failures.named_by("--position"),
         25 | 31 => failures.named_by("--old"),
         _ => None,
+    })
+}
+
+/// Says in one line what the machine answered, or else what is wrong with which file, and what to do.
+fn explain_fault(rt: &HostRuntime, fault: Reported<'_>, failures: &Failures<'_>) {
+    let number = fault.number;
+    if tell_failure(
+        rt,
+        number,
+        failures.first(),
+        more_of_failure(number, failures),
+    ) {
+        return;
+    }
+    let (name, last) = (file_of(number, failures), failures.last_read());
+    if number == 11
+        && let Some(work) = last.head.work()
+    {
+        return explain_work(rt, name, work);
+    }
+    let (what, to_do) = if number == 8 && fault.is_at_first_line() && last.bytes == 0 {
+        ("it is empty", "check where it comes from")
+    } else {
+        fault.sentence()
+    };
+    let place = if what.ends_with(' ') { fault.place } else { "" };
+    if !what.is_empty() {
+        let _ = eprintln!(rt; "age_tool: {name}{what}{place}: {to_do} (age_tool help {number})");
     }
 }
 
-/// Says which file a fault is about.
-fn name_file(rt: &HostRuntime, fault: Reported, failures: &Failures<'_>) {
-    if let Some(name) = file_of(fault, failures)
-        && !name.is_empty()
-    {
-        let name = Escaped(name.as_bytes());
-        let _ = eprintln!(rt; "age_tool: the file is {name}");
-    }
+/// Says of a file whose work factor is above the limit which limit would do, if one would.
+fn explain_work(rt: &HostRuntime, name: About<'_>, work: Work) {
+    let _ = match work {
+        Work::Allowed(log) => eprintln!(rt;
+            "age_tool: {name}{work}: if you trust the file, retry with --max-log {log} (age_tool help 11)"
+        ),
+        Work::TooHigh => eprintln!(rt; "age_tool: {name}{work} (age_tool help 11)"),
+    };
 }
 
 /// What to give to `--old`: where standard output went, the program can't say.
@@ -184,7 +198,7 @@ fn tell_position(rt: &HostRuntime, failures: &Failures<'_>) {
         tell_command(rt, saved, old_name(output));
         if output != "/dev/null" {
             let _ = eprintln!(rt;
-                "age_tool: hint: if IN can be read from its start, age_tool decrypt is quicker"
+                "age_tool: if IN can be read from its start, age_tool decrypt is quicker"
             );
         }
     } else if failures.named_by("--save").is_some() && failures.unsaved().is_none() {
@@ -192,51 +206,24 @@ fn tell_position(rt: &HostRuntime, failures: &Failures<'_>) {
     }
 }
 
-/// Whether a fault came of what holds nothing.
-fn is_of_empty(fault: Reported, last: Amount<'_>) -> bool {
-    fault.number == 8 && fault.is_first_line && last.bytes == 0
-}
-
-/// What to do if something holds nothing.
-fn hint_of_empty(last: Amount<'_>) -> &'static str {
-    if last.name.is_empty() {
-        "standard input is empty"
-    } else {
-        "the file is empty"
-    }
-}
-
 /// Whether a fault came of the name that an option gives, of which there is no file.
-fn is_of_missing(fault: Reported, option: &str, failures: &Failures<'_>) -> bool {
+fn is_of_missing(option: &str, failures: &Failures<'_>) -> bool {
     match (failures.named_by(option), failures.first()) {
-        (Some(name), Some(first)) => fault.number == 26 && first.is_of_missing(name),
+        (Some(name), Some(first)) => first.is_of_missing(name),
         _ => false,
     }
 }
 
-/// What to do after a fault.
-fn hint_for(fault: Reported, failures: &Failures<'_>) -> Option<&'static str> {
-    if is_of_empty(fault, failures.last_read()) {
-        Some(hint_of_empty(failures.last_read()))
-    } else if fault.number == 27 && failures.is_left_empty() {
-        Some("it is empty: a run that was killed may have left it")
-    } else if is_of_missing(fault, "--pass", failures) {
-        Some("--pass takes the name of a file that holds the passphrase")
-    } else if is_of_missing(fault, "--shared", failures) {
-        Some("--shared takes the name of a file that holds the shared secret")
-    } else if fault.number == 11
-        && matches!(failures.last_read().head.work(), Some(Work::TooHigh))
-    {
-        None
+/// What follows what the machine answered.
+fn more_of_failure(number: u8, failures: &Failures<'_>) -> &'static str {
+    if number == 27 && failures.is_left_empty() {
+        "; it is empty: a run that was killed may have left it"
+    } else if is_of_missing("--pass", failures) {
+        "; --pass takes the name of a file that holds the passphrase"
+    } else if is_of_missing("--shared", failures) {
+        "; --shared takes the name of a file that holds the shared secret"
     } else {
-        hint_of(fault.number, fault.is_first_line)
-    }
-}
-
-/// Says what to do after a fault.
-fn give_hint(rt: &HostRuntime, fault: Reported, failures: &Failures<'_>) {
-    if let Some(hint) = hint_for(fault, failures) {
-        let _ = eprintln!(rt; "age_tool: hint: {hint} (more: man age_tool-faults)");
+        ""
     }
 }
 
@@ -263,19 +250,19 @@ fn explain_refusal(rt: &HostRuntime, line: &str, failures: &Failures<'_>) {
 fn explain_passphrase(rt: &HostRuntime, last: Amount<'_>) {
     let name = Leading(last.name.as_bytes());
     let what = match last.bytes {
-        0 => "is empty",
-        1 => "holds nothing but a newline",
-        _ => "holds more than 65,536 bytes",
+        0 => "it is empty",
+        1 => "it holds nothing but a newline",
+        _ => "it holds more than 65,536 bytes",
     };
-    let _ = eprintln!(rt; "age_tool: {name} {what}");
+    let _ = eprintln!(rt; "age_tool: {name}: {what}");
 }
 
 /// Says what is wrong with a file of a wanted length. It was read until it was too long.
 fn explain_length(rt: &HostRuntime, last: Amount<'_>, wanted: u64) {
     let (name, bytes) = (Leading(last.name.as_bytes()), last.bytes);
     let _ = if bytes > wanted {
-        eprintln!(rt; "age_tool: {name} holds more than {wanted} bytes")
+        eprintln!(rt; "age_tool: {name}: it holds more than {wanted} bytes")
     } else {
-        eprintln!(rt; "age_tool: {name} holds {bytes} of {wanted} bytes")
+        eprintln!(rt; "age_tool: {name}: it holds {bytes} of {wanted} bytes")
     };
 }

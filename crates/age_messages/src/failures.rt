@@ -19,6 +19,8 @@ pub enum Action {
     Read,
     /// To make it.
     Create,
+    /// To make it if there is none, by the user's wish.
+    Keep,
     /// To open it to be written, or to write it.
     Write,
     /// To end it once it has reached the disk.
@@ -33,7 +35,7 @@ impl Action {
         match self {
             Action::Open => ("open ", ""),
             Action::Read => ("read ", ""),
-            Action::Create => ("create ", ""),
+            Action::Create | Action::Keep => ("create ", ""),
             Action::Write => ("write ", ""),
             Action::Sync => ("write ", " to disk"),
             Action::Save => ("save the position to ", ""),
@@ -76,6 +78,10 @@ fn failed<'w>(action: Action, name: &'w str, error: io::Error) -> Option<Failure
 
 impl<'w> fmt::Display for Failure<'w> {
     fn fmt<W: fmt::Write>(&self, f: &mut Formatter<W>) -> fmt::Result {
+        if self.action == Action::Keep {
+            let name = Leading(self.name.as_bytes());
+            return write!(f, "{name} exists, and --no-clobber was given");
+        }
         let (before, after) = self.action.words();
         let name = Escaped(self.name.as_bytes());
         write!(f, "can't {before}{name}{after}: ")?;

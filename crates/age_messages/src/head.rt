@@ -1,5 +1,8 @@
 //! The first bytes of a file, for the work factor that its header names.
 
+use crate::line::size_line;
+use std::fmt::{self, Formatter};
+
 /// How many bytes are kept: the first line, and a stanza of a passphrase with its work factor.
 const KEPT_MAX: usize = 80;
 
@@ -17,6 +20,19 @@ pub(crate) enum Work {
     Allowed(u8),
     /// One above all limits.
     TooHigh,
+}
+
+impl fmt::Display for Work {
+    fn fmt<W: fmt::Write>(&self, f: &mut Formatter<W>) -> fmt::Result {
+        match *self {
+            Work::Allowed(log) => {
+                let size = size_line(1024 << (log as u64).min(22));
+                let size = str::from_utf8(size.as_slice()).unwrap_or("");
+                write!(f, "work factor {log}: a passphrase takes {size} of memory")
+            }
+            Work::TooHigh => f.write_str("work factor above 22: no age_tool opens it"),
+        }
+    }
 }
 
 impl Head {

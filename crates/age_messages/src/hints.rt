@@ -1,54 +1,148 @@
-//! What to do after a fault, in a sentence.
+//! What a fault means, and what to do.
 
-/// What to do after the fault of a number, if there is something; `is_first_line` says that it is
-/// one of a header's first line. docs/FAULTS.md has the same sentences.
-pub(crate) fn hint_of(number: u8, is_first_line: bool) -> Option<&'static str> {
-    let hint = match number {
-        7 | 8 if is_first_line => "this may not be an age file: its first line has no newline",
-        1..=15 => hint_of_head(number),
-        _ => hint_of_rest(number),
-    };
-    if hint.is_empty() { None } else { Some(hint) }
+/// The fault that a line reports, with its place, and whether a passphrase was to open the file.
+#[derive(Clone, Copy)]
+pub(crate) struct Reported<'l> {
+    pub(crate) number: u8,
+    pub(crate) place: &'l str,
+    pub(crate) by_pass: bool,
 }
 
-fn hint_of_head(number: u8) -> &'static str {
-    match number {
-        1 => "an age file begins with the line age-encryption.org/v1",
-        2 => "remove the armor first: \
-             grep -v '^-----' f.asc | tr -d '\\r' | base64 -d > f.age",
-        3 | 4 | 5 | 6 => "the header is damaged: fetch the file again",
-        7 => "but for thousands of recipients, age programs don't write such headers: \
-             check where the file comes from",
-        8 => "the file was cut off: fetch all of it",
-        9 | 10 => "no age program writes such a header: the file was altered or forged, \
-             don't trust it",
-        11 => "if you trust the file and have the memory, 2^N KiB, give a larger --max-log, \
-             at most 22",
-        12 => "age_tool inspect shows the stanzas: --pass opens scrypt, --shared X25519, \
-             and --file-key any file; a key file is for age -d -i",
-        13 => "check the passphrase, or the shared secret: one newline at the end of the \
-             passphrase's file is ignored, a second one, a carriage return or a BOM isn't",
-        14 => "the header was altered, or --file-key is the key of another file",
-        15 => "check the file of --shared; if it is right, fetch the age file again",
-        _ => "",
+impl<'l> Reported<'l> {
+    /// The fault that a line reports, if it does.
+    pub(crate) fn of(line: &'l str, by_pass: bool) -> Option<Reported<'l>> {
+        let (number, rest) = line.strip_prefix("age_tool: ")?.split_once(' ')?;
+        let place = rest.split_once(' ').map_or("", |(_, place)| place);
+        Some(Reported {
+            number: number.parse().ok()?,
+            place,
+            by_pass,
+        })
+    }
+
+    /// Whether it is one of a header's first line.
+    pub(crate) fn is_at_first_line(&self) -> bool {
+        self.place == "line 1"
+    }
+
+    /// What is wrong, which is followed by the place if it ends with a space, and what to do.
+    /// docs/FAULTS.md has the same sentences. Nothing is known of 26 and 27 but what the machine
+    /// answered.
+    pub(crate) fn sentence(&self) -> (&'static str, &'static str) {
+        match self.number {
+            7 | 8 if self.is_at_first_line() => {
+                (
+                    "this may not be an age file",
+                    "its first line has no newline",
+                )
+            }
+            12 | 13 => sentence_of_key(self.number, self.by_pass),
+            1..=15 => sentence_of_head(self.number),
+            16..=22 => sentence_of_payload(self.number),
+            _ => sentence_of_rest(self.number),
+        }
     }
 }
 
-fn hint_of_rest(number: u8) -> &'static str {
+fn sentence_of_key(number: u8, by_pass: bool) -> (&'static str, &'static str) {
     match number {
-        16 => "the file ends after its header: fetch all of it",
-        17 => "the file is damaged or cut off here, or something was appended to it: \
-             fetch it again",
-        18 | 20 => "the file is cut off here: fetch the rest",
-        19 => "the file was cut off here or altered: fetch it again; if 19 remains, \
-             don't trust it",
-        21 => "something was appended to the file: OUT has the whole text, \
-             but the file isn't as its writer left it",
-        23 => "--position takes the file that --save wrote",
-        24 => "IN must be the file that was being decrypted when the position was saved",
-        25 | 31 => "--old takes the output of the run that saved the position",
-        28 => "a passphrase with work factor N takes 2^N KiB of memory",
-        30 => "give the position as it was saved",
-        _ => "",
+        12 if by_pass => ("it isn't encrypted with a passphrase", OTHER_KEYS),
+        12 => ("it isn't encrypted to an X25519 recipient", OTHER_KEYS),
+        _ if by_pass => (
+            "the passphrase doesn't open it",
+            "check the passphrase: only one trailing newline in its file is ignored, not a second \
+             one, a carriage return or a BOM",
+        ),
+        _ => (
+            "the shared secret doesn't open it",
+            "check the shared secret",
+        ),
     }
 }
+
+const OTHER_KEYS: &str = "age_tool inspect shows its stanzas; a key file is for age -d -i, or for \
+     python3 -m agefile decrypt --identity";
+
+fn sentence_of_head(number: u8) -> (&'static str, &'static str) {
+    match number {
+        1 => (
+            "not an age file",
+            "an age file begins with the line age-encryption.org/v1",
+        ),
+        2 => (
+            "it is armored",
+            "remove the armor first: grep -v '^-----' f.asc | tr -d '\\r' | base64 -d > f.age",
+        ),
+        3 | 4 | 5 | 6 => ("its header is damaged at ", "fetch the file again"),
+        7 => (
+            "its header is too long",
+            "no age program writes a header this large, except for thousands of recipients: check \
+             where the file comes from",
+        ),
+        8 => ("cut off in its header at ", "fetch all of it"),
+        9 | 10 => (
+            "altered or forged",
+            "no age program writes such a header: don't trust the file",
+        ),
+        11 => (
+            "its work factor is above the limit",
+            "if you trust the file, retry with a larger --max-log (up to 22; N needs 2^N KiB of \
+             memory)",
+        ),
+        14 => (
+            "the key doesn't match its header",
+            "the header was altered, or --file-key is the key of another file",
+        ),
+        _ => (
+            "malformed for the shared secret",
+            "check the file of --shared; if it is right, fetch the age file again",
+        ),
+    }
+}
+
+fn sentence_of_payload(number: u8) -> (&'static str, &'static str) {
+    match number {
+        16 => ("cut off after its header", "fetch all of it"),
+        17 => ("damaged or cut off at ", "fetch it again"),
+        18 | 20 => ("cut off at ", "fetch the rest"),
+        19 => (
+            "cut off or altered at ",
+            "fetch it again; if this happens again, don't trust the file",
+        ),
+        21 => (
+            "something was appended",
+            "OUT has the whole text, but the file isn't as its writer left it",
+        ),
+        _ => ("more than 2^48 chunks", "split the plaintext"),
+    }
+}
+
+fn sentence_of_rest(number: u8) -> (&'static str, &'static str) {
+    match number {
+        23 => (
+            "not a position",
+            "--position takes the file that --save wrote",
+        ),
+        24 => (
+            "not the file of the position",
+            "IN must be the file that was being decrypted when the position was saved",
+        ),
+        25 => ("shorter than the position says", OLD),
+        28 => (
+            "out of memory",
+            "a passphrase with work factor N takes 2^N KiB of memory",
+        ),
+        29 => (
+            "read 2^63 times without ending",
+            "supply an input that ends",
+        ),
+        30 => (
+            "altered, or not of this file's key",
+            "use the position file exactly as --save wrote it",
+        ),
+        31 => ("not the text of the position", OLD),
+        _ => ("", ""),
+    }
+}
+
+const OLD: &str = "--old takes the output of the run that saved the position";

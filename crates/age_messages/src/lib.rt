@@ -19,7 +19,9 @@ mod progress_line;
 mod text;
 mod typing;
 
-pub use announcing::{announce_copying, announce_reading, announce_sync, explain_words};
+pub use announcing::{
+    announce_copying, announce_passphrase, announce_reading, announce_sync, explain_words,
+};
 pub use explaining::explain;
 pub use failures::{Action, Failures};
 pub use heard::Heard;

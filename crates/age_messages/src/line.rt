@@ -2,24 +2,26 @@
 
 ghost use Rattle.std.specs.Prelude.{◌≡◌, ◌+◌, ◌^◌, ◌≤◌, ◌<◌, ◌++◌, length, codes, decimal};
 ghost use Rattle.age_messages.specs.{percentage, measure_of, amount, padded, count_line, progress_line, mark};
-ghost use Rattle.age_messages.specs.{line_end, covering_end, line_step, line_share};
+ghost use Rattle.age_messages.specs.{line_end, covering_end, line_step, line_share, share, last_text};
+ghost use Rattle.age_messages.specs.{two_digits, clock_text, rate, rate_text, left_text, pace};
+ghost use Rattle.age_messages.specs.{was_shown, run_end};
 
 use crate::line_style::LineStyle;
 use arrayvec::ArrayVec;
 use itoa::Buffer;
 
-/// A line on the stack, so that it takes no memory and goes out in one put. There is room for five
-/// numbers of any length that itoa writes.
-pub(crate) type Line = ArrayVec<u8, 256>;
+/// A line on the stack, so that it takes no memory and goes out in one put. There is room for all
+/// its numbers, of any length that itoa writes.
+pub(crate) type Line = ArrayVec<u8, 512>;
 
 /// A unit of bytes.
 #[derive(Clone, Copy)]
 struct Measure {
-    size: u64,
+    size: u128,
     name: &'static str,
 }
 
-fn measure_of(bytes: u64) -> Measure
+fn measure_of(bytes: u128) -> Measure
     ensures size { result.size ≡ (measure_of bytes).size }
     ensures name { result.name.now ≡ (measure_of bytes).name }
     ensures some { 0 < result.size }
@@ -41,15 +43,15 @@ fn measure_of(bytes: u64) -> Measure
 
 /// Appends a text for which there is room.
 fn push(line: &mut Line, text: &[u8])
-    requires { length line.old.items + length text.now ≤ 256 }
+    requires { length line.old.items + length text.now ≤ 512 }
     ensures { line.new.items ≡ line.old.items ++ text.now }
 {
     line.try_extend_from_slice(text).unwrap();
 }
 
 /// Appends a number in decimal.
-fn push_number(line: &mut Line, number: u64)
-    requires { length line.old.items + 40 ≤ 256 }
+fn push_number(line: &mut Line, number: u128)
+    requires { length line.old.items + 40 ≤ 512 }
     ensures text { line.new.items ≡ line.old.items ++ decimal number }
     ensures short { length line.new.items ≤ length line.old.items + 40 }
 {
@@ -58,7 +60,7 @@ fn push_number(line: &mut Line, number: u64)
 }
 
 /// A number of bytes in units of this size, to the tenth below.
-fn amount_in(size: u64, bytes: u64) -> Line
+fn amount_in(size: u128, bytes: u128) -> Line
     requires some { 0 < size }
     requires small { size ≤ 2 ^ 40 }
     ensures text { result.items ≡ amount size bytes }
@@ -78,7 +80,7 @@ fn amount_in(size: u64, bytes: u64) -> Line
 /// Appends a text after as many spaces as it is short of the width.
 fn push_padded(line: &mut Line, width: usize, text: &[u8])
     requires width { width ≤ 6 }
-    requires room { length line.old.items + (length text.now + 6) ≤ 256 }
+    requires room { length line.old.items + (length text.now + 6) ≤ 512 }
     ensures text { line.new.items ≡ line.old.items ++ padded width text.now }
     ensures short { length line.new.items ≤ length line.old.items + (length text.now + 6) }
 {
@@ -88,7 +90,7 @@ fn push_padded(line: &mut Line, width: usize, text: &[u8])
 
 /// Appends the name of a unit, and what ends the line.
 fn push_unit(line: &mut Line, unit: Measure, end: &[u8])
-    requires { length line.old.items + (length unit.name.now + (length end.now + 1)) ≤ 256 }
+    requires { length line.old.items + (length unit.name.now + (length end.now + 1)) ≤ 512 }
     ensures { line.new.items ≡ line.old.items ++ (codes " " ++ (unit.name.now ++ end.now)) }
 {
     push(line, b" ");
@@ -96,14 +98,132 @@ fn push_unit(line: &mut Line, unit: Measure, end: &[u8])
     push(line, end);
 }
 
+/// Appends a number below 100 in two digits.
+fn push_two_digits(line: &mut Line, number: u8)
+    requires below { number < 100 }
+    requires room { length line.old.items + 2 ≤ 512 }
+    ensures { line.new.items ≡ line.old.items ++ two_digits number }
+{
+    push(line, &[b'0' + number / 10, b'0' + number % 10]);
+}
+
+/// Seconds as hours, minutes and seconds.
+fn clock_text(seconds: u128) -> Line
+    ensures text { result.items ≡ clock_text seconds }
+    ensures short { length result.items ≤ 46 }
+{
+    let mut text = Line::new();
+    push_number(&mut text, seconds / 3600);
+    push(&mut text, b":");
+    push_two_digits(&mut text, (seconds / 60 % 60) as u8);
+    push(&mut text, b":");
+    push_two_digits(&mut text, (seconds % 60) as u8);
+    text
+}
+
+/// How many bytes came in a second, once the first second has passed.
+fn rate(count: u64, millis: u64) -> u128
+    ensures { result ≡ rate count millis }
+{
+    if millis < 1000 {
+        return 0;
+    }
+    count as u128 * 1000 / millis as u128
+}
+
+fn rate_text(rate: u128) -> Line
+    ensures text { result.items ≡ rate_text rate }
+    ensures short { length result.items ≤ 48 }
+{
+    let mut text = Line::new();
+    if rate != 0 {
+        let measure = measure_of(rate);
+        push(&mut text, b"  ");
+        push_number(&mut text, rate / measure.size);
+        push_unit(&mut text, measure, b"/s");
+    }
+    text
+}
+
+/// How long the rest of a length takes, if that is known.
+fn left_text(whole: Option<u64>, count: u64, rate: u128) -> Line
+    ensures text { result.items ≡ left_text whole count rate }
+    ensures short { length result.items ≤ 48 }
+{
+    let mut text = Line::new();
+    if let Some(whole) = whole
+        && rate != 0
+    {
+        push(&mut text, b"  ");
+        let seconds = whole.saturating_sub(count) as u128 / rate;
+        push(&mut text, clock_text(seconds).as_slice());
+    }
+    text
+}
+
+/// How quick a run is, with the spaces that cover a longer text before it.
+fn pace(whole: Option<u64>, count: u64, rate: u128) -> Line
+    ensures text { result.items ≡ pace whole count rate }
+    ensures short { length result.items ≤ 117 }
+{
+    let mut text = rate_text(rate);
+    push(&mut text, left_text(whole, count, rate).as_slice());
+    let missing = 21_usize.saturating_sub(text.len());
+    push(&mut text, &b"                     "[..missing]);
+    text
+}
+
+/// What ends a line.
+fn line_end(style: LineStyle, whole: Option<u64>, count: u64, millis: u64) -> Line
+    ensures text { result.items ≡ line_end style whole count millis }
+    ensures short { length result.items ≤ 130 }
+{
+    match style {
+        LineStyle::Rewritten => {
+            let mut text = pace(whole, count, rate(count, millis));
+            push(&mut text, b"\r");
+            text
+        }
+        LineStyle::Separate => line_feed(),
+    }
+}
+
+/// What ends a line that may be shorter than the one before it.
+fn covering_end(style: LineStyle, count: u64, millis: u64) -> Line
+    ensures text { result.items ≡ covering_end style count millis }
+    ensures short { length result.items ≤ 130 }
+{
+    match style {
+        LineStyle::Rewritten => {
+            let mut text = pace(None, count, rate(count, millis));
+            push(&mut text, b"          \r");
+            text
+        }
+        LineStyle::Separate => line_feed(),
+    }
+}
+
+fn line_feed() -> Line
+    ensures { result.items ≡ codes "\n" }
+{
+    let mut text = Line::new();
+    push(&mut text, b"\n");
+    text
+}
+
 /// The line for a count of bytes, with its end.
 fn count_line(end: &[u8], count: u64) -> Line
-    requires { length end.now ≤ 30 }
-    ensures { result.items ≡ count_line end.now count }
+    requires { length end.now ≤ 130 }
+    ensures text { result.items ≡ count_line end.now count }
+    ensures short { length result.items ≤ 500 }
 {
-    let measure = measure_of(count);
+    let measure = measure_of(count as u128);
     let mut line = Line::new();
-    push_padded(&mut line, 6, amount_in(measure.size, count).as_slice());
+    push_padded(
+        &mut line,
+        6,
+        amount_in(measure.size, count as u128).as_slice(),
+    );
     push_unit(&mut line, measure, end);
     line
 }
@@ -119,63 +239,99 @@ fn percentage(length: u64, count: u64) -> u64
 
 /// A number of bytes, with its unit.
 pub(crate) fn size_line(bytes: u64) -> Line {
-    let measure = measure_of(bytes);
-    let mut line = amount_in(measure.size, bytes);
+    let measure = measure_of(bytes as u128);
+    let mut line = amount_in(measure.size, bytes as u128);
     push_unit(&mut line, measure, b"");
     line
 }
 
-/// What ends a line.
-fn line_end(style: LineStyle) -> &'static [u8]
-    ensures text { result.now ≡ line_end style }
-    ensures short { length result.now ≤ 1 }
+/// Appends what is shown before a length, of which so much was read.
+fn push_share(line: &mut Line, style: LineStyle, size: u128, count: u64)
+    requires some { 0 < size }
+    requires small { size ≤ 2 ^ 40 }
+    requires room { length line.old.items + 90 ≤ 512 }
+    ensures text { line.new.items ≡ line.old.items ++ share style size count }
+    ensures short { length line.new.items ≤ length line.old.items + 90 }
 {
     match style {
-        LineStyle::Rewritten => b"\r",
-        LineStyle::Separate => b"\n",
-    }
-}
-
-/// What ends a line that may be shorter than the one before it.
-fn covering_end(style: LineStyle) -> &'static [u8]
-    ensures text { result.now ≡ covering_end style }
-    ensures short { length result.now ≤ 30 }
-{
-    match style {
-        LineStyle::Rewritten => b"                    \r",
-        LineStyle::Separate => b"\n",
+        LineStyle::Rewritten => push(line, b"% of "),
+        LineStyle::Separate => {
+            push(line, b"%  ");
+            push(line, amount_in(size, count as u128).as_slice());
+            push(line, b" of ");
+        }
     }
 }
 
 /// The line for a count of bytes out of this many.
-fn share_line(style: LineStyle, length: u64, count: u64) -> Line
-    requires { count ≤ length }
-    ensures { result.items ≡ progress_line style (Some length) count }
+fn share_line(style: LineStyle, whole: u64, count: u64, millis: u64) -> Line
+    requires { count ≤ whole }
+    ensures text { result.items ≡ progress_line style (Some whole) count millis }
+    ensures short { length result.items ≤ 500 }
 {
-    let measure = measure_of(length);
+    let measure = measure_of(whole as u128);
     let mut percent = Buffer::new();
     let mut line = Line::new();
     push_padded(
         &mut line,
         3,
-        percent.format(percentage(length, count)).as_bytes(),
+        percent.format(percentage(whole, count)).as_bytes(),
     );
-    push(&mut line, b" %  ");
-    push(&mut line, amount_in(measure.size, count).as_slice());
-    push(&mut line, b" of ");
-    push(&mut line, amount_in(measure.size, length).as_slice());
-    push_unit(&mut line, measure, line_end(style));
+    push_share(&mut line, style, measure.size, count);
+    push(&mut line, amount_in(measure.size, whole as u128).as_slice());
+    let end = line_end(style, Some(whole), count, millis);
+    push_unit(&mut line, measure, end.as_slice());
     line
 }
 
-/// The line for a count of bytes, of a length if that is known.
-pub(crate) fn line_of(style: LineStyle, length: Option<u64>, count: u64) -> Line
-    ensures { result.items ≡ progress_line style length count }
+/// The line for a count of bytes after so many milliseconds, of a length if that is known.
+pub(crate) fn line_of(style: LineStyle, whole: Option<u64>, count: u64, millis: u64) -> Line
+    ensures text { result.items ≡ progress_line style whole count millis }
+    ensures short { length result.items ≤ 500 }
 {
-    match length {
-        Some(length) if count <= length => share_line(style, length, count),
-        Some(_) => count_line(covering_end(style), count),
-        None => count_line(line_end(style), count),
+    match whole {
+        Some(whole) if count <= whole => share_line(style, whole, count, millis),
+        Some(_) => count_line(covering_end(style, count, millis).as_slice(), count),
+        None => count_line(line_end(style, None, count, millis).as_slice(), count),
+    }
+}
+
+/// Whether the line for a count was shown, if that of `last` came last.
+fn was_shown(last: Option<u64>, count: u64) -> bool
+    ensures { result ≡ was_shown last count }
+{
+    match last {
+        Some(last) => last == count,
+        None => false,
+    }
+}
+
+/// What ends a run, whose line for `last` bytes came last.
+pub(crate) fn last_of(
+    style: LineStyle,
+    length: Option<u64>,
+    count: u64,
+    millis: u64,
+    last: Option<u64>,
+) -> Line
+    ensures { result.items ≡ last_text style length count millis last }
+{
+    let mut text = if was_shown(last, count) {
+        Line::new()
+    } else {
+        line_of(style, length, count, millis)
+    };
+    push(&mut text, run_end(style));
+    text
+}
+
+fn run_end(style: LineStyle) -> &'static [u8]
+    ensures text { result.now ≡ run_end style }
+    ensures short { length result.now ≤ 1 }
+{
+    match style {
+        LineStyle::Rewritten => b"\n",
+        LineStyle::Separate => b"",
     }
 }
 

@@ -1,50 +1,65 @@
 //! A meter that shows how far a run is.
 
-ghost use Rattle.std.specs.Prelude.{◌≡◌, ◌+◌, None, Some, true, false, codes};
+ghost use Rattle.std.specs.Prelude.{◌≡◌, ◌+◌, None, Some, true, false};
 ghost use Rattle.age_io.specs.{with_more};
-ghost use Rattle.age_messages.specs.{progress_line, mark, first_mark, is_due, is_left, Shows};
+ghost use Rattle.age_messages.specs.{progress_line, last_text, mark, first_mark, is_due, Shows};
 
-use crate::line::{line_of, mark_of};
+use crate::line::{last_of, line_of, mark_of};
 use crate::line_style::LineStyle;
 use crate::text::show;
 use age_io::{Meter, Sink};
+use std::time::{Clock, Instant};
 
 /// A meter that shows how far a run is: on one line of a sink, which each later line is written
 /// over, as it ends in a carriage return; or in a few lines that stand by themselves, as in a log.
 ///
 /// If the length is known a line is due as the percentage rises, and otherwise, or after more was
-/// read than that, with each 64 MiB; in a log with each tenth, or each 10 GiB. A contract sees the
-/// sink, the length, how many bytes were read, the mark at which the next line is due, and whether
-/// there is a line to end. What the sink fails to take is left out.
-#[derive(Debug, Drop)]
-pub struct ProgressLine<O: Sink> {
+/// read than that, with each 64 MiB; in a log with each tenth, or each 10 GiB. At the end comes the
+/// last line, unless it was shown. A line on a terminal also says by a clock how quick the run is,
+/// and how long the rest takes. A contract sees the sink, the length, how many bytes were read, the
+/// mark at which the next line is due, after how many milliseconds the last line came by the clock,
+/// and of how many bytes it was. What the sink fails to take is left out.
+#[derive(Drop)]
+pub struct ProgressLine<O: Sink, C: Clock + Drop> {
     sink: O,
     style: LineStyle,
+    clock: C,
+    begun: Option<Instant>,
     length: Option<u64>,
     count: u64,
     next: u64,
-    shown: bool,
+    millis: u64,
+    last: Option<u64>,
+    is_open: bool,
 }
 
-impl<O: Sink> ProgressLine<O> {
+impl<O: Sink, C: Clock + Drop> ProgressLine<O, C> {
     /// Lines in this sink, for a run whose length isn't known before it begins.
-    pub fn new(sink: O, style: LineStyle) -> ProgressLine<O>
+    pub fn new(sink: O, style: LineStyle, clock: C) -> ProgressLine<O, C>
         ensures { result ≡ record {
           sink = sink;
           style = style;
+          clock = clock;
+          begun = None;
           length = None;
           count = 0;
           next = 1;
-          shown = false;
+          millis = 0;
+          last = None;
+          is_open = false;
         } }
     {
         ProgressLine {
             sink,
             style,
+            clock,
+            begun: None,
             length: None,
             count: 0,
             next: 1,
-            shown: false,
+            millis: 0,
+            last: None,
+            is_open: false,
         }
     }
 
@@ -57,27 +72,37 @@ impl<O: Sink> ProgressLine<O> {
     }
 }
 
-/// Whether a line is left to be ended.
-fn is_left(style: LineStyle) -> bool
-    ensures { result ≡ is_left style }
-{
-    match style {
-        LineStyle::Rewritten => true,
-        LineStyle::Separate => false,
+/// How many milliseconds have passed, by a clock; none, if it can't be read.
+fn millis_since<C: Clock>(begun: Option<Instant>, clock: &C) -> u64 {
+    match (begun, Instant::now(clock)) {
+        (Some(begun), Ok(now)) => {
+            let millis = now.duration_since(begun).as_millis();
+            millis.min(u64::MAX as u128) as u64
+        }
+        _ => 0,
     }
 }
 
-impl<O: Sink> Meter for ProgressLine<O> {
+impl<O: Sink, C: Clock + Drop> Meter for ProgressLine<O, C> {
     ghost count = { λ p. Some p.count };
 
     /// Writes nothing.
     fn begin(&mut self, length: Option<u64>)
         ensures next { self.new.next ≡ first_mark length }
-        ensures begun { self.new
-            ≡ record self.old { length = length; count = 0; next = self.new.next } }
+        ensures begun { self.new ≡ record self.old {
+          length = length;
+          count = 0;
+          next = self.new.next;
+          begun = self.new.begun;
+          last = None;
+          is_open = true;
+        } }
     {
         self.length = length;
         self.count = 0;
+        self.begun = Instant::now(&self.clock).ok();
+        self.last = None;
+        self.is_open = true;
         self.next = match length {
             Some(_) => 0,
             None => 1,
@@ -90,35 +115,45 @@ impl<O: Sink> Meter for ProgressLine<O> {
             → self.new ≡ record self.old { count = with_more bytes self.old.count } }
         ensures line { is_due self.old.style self.old.length self.old.next self.new.count ≡ true
             → Shows (O.view self.old.sink)
-            (progress_line self.old.style self.old.length self.new.count) (O.view self.new.sink) }
+            (progress_line self.old.style self.old.length self.new.count self.new.millis)
+            (O.view self.new.sink) }
         ensures due { is_due self.old.style self.old.length self.old.next self.new.count ≡ true
             → self.new ≡ record self.old {
               sink = self.new.sink;
               count = with_more bytes self.old.count;
               next = mark self.old.style self.old.length self.new.count + 1;
-              shown = is_left self.old.style;
+              millis = self.new.millis;
+              last = Some self.new.count;
             } }
     {
         self.count = self.count.saturating_add(bytes);
         let mark = mark_of(self.style, self.length, self.count);
         if mark >= self.next {
             self.next = mark + 1;
-            self.shown = is_left(self.style);
-            let line = line_of(self.style, self.length, self.count);
+            self.millis = millis_since(self.begun, &self.clock);
+            self.last = Some(self.count);
+            let line = line_of(self.style, self.length, self.count, self.millis);
             show(&mut self.sink, line.as_slice());
         }
     }
 
-    /// Ends the line with a line feed, if one was due.
+    /// Writes the last line, unless it was, and a line feed on a terminal.
     fn end(&mut self)
-        ensures quiet { self.old.shown ≡ false → self.new ≡ self.old }
-        ensures ended { self.new ≡ record self.old { sink = self.new.sink; shown = false } }
-        ensures line { self.old.shown ≡ true
-            → Shows (O.view self.old.sink) (codes "\n") (O.view self.new.sink) }
+        ensures quiet { self.old.is_open ≡ false → self.new ≡ self.old }
+        ensures ended { self.new ≡ record self.old {
+          sink = self.new.sink;
+          millis = self.new.millis;
+          is_open = false;
+        } }
+        ensures line { self.old.is_open ≡ true → Shows (O.view self.old.sink)
+            (last_text self.old.style self.old.length self.old.count self.new.millis self.old.last)
+            (O.view self.new.sink) }
     {
-        if self.shown {
-            self.shown = false;
-            show(&mut self.sink, b"\n");
+        if self.is_open {
+            self.is_open = false;
+            self.millis = millis_since(self.begun, &self.clock);
+            let text = last_of(self.style, self.length, self.count, self.millis, self.last);
+            show(&mut self.sink, text.as_slice());
         }
     }
 }

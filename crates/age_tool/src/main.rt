@@ -1,8 +1,11 @@
 //! Reads and writes age files: passes its arguments, the machine's files and its standard streams
 //! to `age_cli::run`, says what the machine answered if that is why it failed, and exits with the
-//! status that it returns.
+//! status that it returns. `help N` it answers itself.
 #![tactic(auto)]
 
+mod faults;
+
+use crate::faults::row_of;
 use age_cli::run;
 use age_file::{Reading, Writing};
 use age_host::{
@@ -47,6 +50,26 @@ fn progress_style(rt: &HostRuntime) -> LineStyle {
     }
 }
 
+/// What the words ask for if they are `help N`: what the fault of this number means.
+fn row_asked(words: &[&str]) -> Option<&'static str> {
+    if words.len() == 2 && words[0] == "help" {
+        row_of(words[1].parse().ok()?)
+    } else {
+        None
+    }
+}
+
+/// Prints what a fault means.
+fn print_row(rt: &HostRuntime, row: &str) -> ExitCode {
+    match println!(rt; "{row}") {
+        Ok(()) => ExitCode::SUCCESS,
+        Err(_) => {
+            let _ = eprintln!(rt; "age_tool: 27 Write");
+            ExitCode::from(1)
+        }
+    }
+}
+
 /// Runs the program on the words after its name, over the machine's files and its own standard
 /// streams, and returns its status.
 fn run_over<'r, 'w>(
@@ -58,7 +81,7 @@ fn run_over<'r, 'w>(
     let mut files = HostFiles::new(rt, failures);
     let mut input = Reading::new(Watched::new(rt.reader(), failures));
     let mut output = Writing::new(Watched::new(io::writer(rt), failures));
-    let mut progress = ProgressLine::new(Writing::new(rt.stderr()), progress_style(rt));
+    let mut progress = ProgressLine::new(Writing::new(rt.stderr()), progress_style(rt), rt);
     run(
         rt.alloc(),
         words,
@@ -88,7 +111,10 @@ fn main(rt: HostRuntime) -> ExitCode {
         Err(error) => return unread(&rt, &error),
     };
     match words_of(rt.alloc(), args.as_slice()) {
-        Ok(words) => run_words(&rt, words.as_slice()),
+        Ok(words) => match row_asked(words.as_slice()) {
+            Some(row) => print_row(&rt, row),
+            None => run_words(&rt, words.as_slice()),
+        },
         Err(error) => unread(&rt, &error),
     }
 }

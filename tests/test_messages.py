@@ -1,0 +1,115 @@
+"""What people read after a fault: of each number, in which circumstance, the file and the sentence, and that docs/FAULTS.md says to do the
+same; and that runs which go well say nothing of it. (What the system answered is in the transcripts, test_disk and test_saving.)"""
+import os
+import re
+import resource
+
+from tests.case import Case
+from tests.test_runs import Transcripts, unescaped
+from tools.manual import tables
+from tools.workspace import TOP
+
+ZEROS = "A" * 43
+VERSION, SCRYPT, END = "age-encryption.org/v1\n", f"-> scrypt {22 * 'A'} ", f"--- {ZEROS}\n"
+# Faults that no test can make: more than 2^48 chunks, and 2^63 reads. What the system answered is said of 26 and 27.
+UNMADE = {22, 26, 27, 29}
+RETRY = "if you trust the file, retry with "
+KEYS = "age_tool inspect shows its stanzas; a key file is for age -d -i, or for python3 -m agefile decrypt --identity"
+NO_LINE = "this may not be an age file: its first line has no newline"
+LIMIT = ("work factor {0}: a passphrase takes {1} of memory: " + RETRY + "--max-log {0}").format
+OLD = "--old takes the output of the run that saved the position"
+FORGED = "altered or forged: no age program writes such a header: don't trust the file"
+
+# Each: the number, the file that is named and what it holds, the sentence, and the words if they aren't those of a decryption by `pass`.
+ROWS = (
+    (1, "no-age", b"not age\n", "not an age file: an age file begins with the line age-encryption.org/v1"),
+    (2, "armored", b"-----BEGIN AGE ENCRYPTED FILE-----\n",
+     "it is armored: remove the armor first: grep -v '^-----' f.asc | tr -d '\\r' | base64 -d > f.age"),
+    (3, "bad-line", VERSION + "nothing\n", "its header is damaged at line 2: fetch the file again"),
+    (4, "bad-body", f"{VERSION}-> x\n=\n", "its header is damaged at line 3: fetch the file again"),
+    (5, "bad-end", f"{VERSION}-> x\n\n---\n", "its header is damaged at line 4: fetch the file again"),
+    (6, "no-stanza", VERSION + END, "its header is damaged at line 2: fetch the file again"),
+    (7, "long-header", f"{VERSION}-> {1_048_576 * 'a'}\n", "its header is too long: no age program writes a header this large, except for thousands of "
+     "recipients: check where the file comes from"),
+    (7, "one-line", 1_048_577 * "a", NO_LINE),
+    (8, "cut-header", lambda it: it.age[:100], "cut off in its header at line 3: fetch all of it"),
+    (8, "no-line", "not an age file", NO_LINE),
+    (8, "empty", "", "it is empty: check where it comes from"),
+    (9, "two-stanzas", f"{VERSION}{SCRYPT}10\n{ZEROS}\n-> x\n\n{END}", FORGED),
+    (10, "bad-scrypt", f"{VERSION}{SCRYPT}010\n{ZEROS}\n{END}", FORGED),
+    (11, "costly", f"{VERSION}{SCRYPT}19\n{ZEROS}\n{END}", LIMIT(19, "512.0 MiB"), "decrypt --pass pass --max-log 18 costly back"),
+    (11, "too-costly", f"{VERSION}{SCRYPT}23\n{ZEROS}\n{END}", "work factor above 22: no age_tool opens it"),
+    (12, "for-others", f"{VERSION}-> x\n\n{END}", f"it isn't encrypted with a passphrase: {KEYS}"),
+    (12, "for-none", f"{VERSION}-> x\n\n{END}", f"it isn't encrypted to an X25519 recipient: {KEYS}", "decrypt --shared secret for-none back"),
+    (13, "plain.age", None, "the passphrase doesn't open it: check the passphrase: only one trailing newline in its file is ignored, not a second one, "
+     "a carriage return or a BOM", "decrypt plain.age back --pass=wrong"),
+    (13, "x25519", None, "the shared secret doesn't open it: check the shared secret", "decrypt --shared other x25519 back"),
+    (14, "plain.age", None, "the key doesn't match its header: the header was altered, or --file-key is the key of another file",
+     f"decrypt --file-key {32 * '0'} plain.age back"),
+    (15, "x25519", None, "malformed for the shared secret: check the file of --shared; if it is right, fetch the age file again",
+     "decrypt --shared zero x25519 back"),
+    (16, "no-nonce", lambda it: it.age[:160], "cut off after its header: fetch all of it"),
+    (17, "damaged", lambda it: it.age[:150_000], "damaged or cut off at chunk 2: fetch it again"),
+    (18, "ten-more", lambda it: it.age[:166 + 65_552 + 10], "cut off at chunk 1: fetch the rest"),
+    (19, "tag-alone", lambda it: it.age[:166 + 65_552 + 16], "cut off or altered at chunk 1: fetch it again; if this happens again, don't trust the file"),
+    (20, "one-chunk", lambda it: it.age[:166 + 65_552], "cut off at chunk 1: fetch the rest"),
+    (21, "appended", lambda it: it.full + b"x", "something was appended: OUT has the whole text, but the file isn't as its writer left it"),
+    (23, "pass", None, "not a position: --position takes the file that --save wrote", "resume --position pass --old plain --pass pass plain.age back"),
+    (24, "full.age", None, "not the file of the position: IN must be the file that was being decrypted when the position was saved",
+     "resume --position position --old part --pass pass full.age back"),
+    (25, "short-old", 70_000 * "x", f"shorter than the position says: {OLD}", "resume --position position --old=short-old --pass pass plain.age back"),
+    (28, None, None, "out of memory: a passphrase with work factor N takes 2^N KiB of memory", "encrypt --pass pass --log 22 plain back"),
+    (30, "flipped", lambda it: it.read("position").replace(b"v2 2 ", b"v2 1 "),
+     "altered, or not of this file's key: use the position file exactly as --save wrote it", "resume --position=flipped --old part --pass pass plain.age back"),
+    (31, "altered", bytes(200_000), f"not the text of the position: {OLD}", "resume --position position --old altered --pass pass plain.age back"),
+)
+
+
+def within_memory():
+    resource.setrlimit(resource.RLIMIT_AS, (500_000 << 10, 500_000 << 10))
+
+
+class MessagesTest(Case):
+    """A passphrase, a text and its age file, and the position of a stop in its third chunk."""
+
+    def setUp(self):
+        super().setUp()
+        for name, held in (("pass", b"correct horse\n"), ("wrong", b"wrong horse\n"), ("plain", os.urandom(200_000)), ("full", os.urandom(65_536))):
+            self.write(name, held)
+        for name in ("plain", "full"):
+            self.tool(*f"encrypt --pass pass --log 10 {name} {name}.age".split())
+        self.age, self.full = self.read("plain.age"), self.read("full.age")
+        self.write("cut.age", self.age[:150_000])
+        self.tool(*"decrypt --pass pass --save position cut.age part".split())
+        texts = Transcripts([TOP / "tests" / "runs.d" / "shared.run"]).bytes
+        header, secret, recipient = (b"".join(map(unescaped, re.findall(r'"((?:[^"\\]|\\.)*)"', texts[it]))) for it in ("x25519_header", "secret", "recipient"))
+        for name, held in (("x25519", header + bytes(32)), ("secret", secret + recipient), ("other", recipient + recipient), ("zero", bytes(32) + recipient)):
+            self.write(name, held)
+
+    def test_faults(self):
+        page = (TOP / "docs" / "FAULTS.md").read_text().replace("`", "").replace(r"\|", "|")
+        for number, name, held, sentence, *words in ROWS:
+            if held is not None:
+                self.write(name, held(self) if callable(held) else held if isinstance(held, bytes) else held.encode())
+            [words] = words or [f"decrypt --pass pass {name} back"]
+            ended = self.tool(*words.split(), preexec_fn=within_memory if number == 28 else None)
+            said = f"age_tool: {name + ': ' if name else ''}{sentence} (age_tool help {number})\n".encode()
+            self.see(f"{number} of {name}", ended.returncode == 1 and re.fullmatch(rb"age_tool: %d [\w ]+\n" % number, ended.stderr), ended.stderr)
+            self.see(f"what is said of {number} of {name}", ended.advice == said, ended.advice)
+            row = re.search(rf"^\| {number} \| .*$", page, re.M)[0]
+            to_do = RETRY if number == 11 else sentence.partition(": ")[2]
+            self.see(f"FAULTS says to do the same after {number} of {name}", to_do in row or "above 22" in sentence, to_do, row)
+        known = {int(row["No."]) for row in tables((TOP / "docs" / "FAULTS.md").read_text()) if "No." in row}
+        self.see("each fault", {it[0] for it in ROWS} | UNMADE == known, known)
+
+    def test_standard_input(self):
+        """It has no name."""
+        for what, held, said in (("nothing", b"", b"it is empty: check where it comes from"), ("no line", b"a", NO_LINE.encode())):
+            ended = self.tool("inspect", stdin=None, input=held)
+            self.see(f"{what} came", ended.advice == b"age_tool: standard input: " + said + b" (age_tool help 8)\n", ended.advice)
+
+    def test_nothing_to_say(self):
+        for words in ("encrypt --pass pass --log 1 plain new.age", "decrypt --pass pass plain.age back", "decrypt --pass pass --save none plain.age back",
+                      "resume --position position --old part --pass pass plain.age back", "inspect x25519", "help 17"):
+            ended = self.tool(*words.split())
+            self.see(words, (ended.returncode, ended.stderr, ended.advice) == (0, b"", b""), ended.stderr, ended.advice)
