@@ -113,6 +113,23 @@ class DiskTest(FilesCase):
         with open(other, "rb") as device:
             self.see("OUT is a block device: its bytes", device.read(len(PLAIN)) == PLAIN)
 
+    @needs("losetup", root=True)
+    def test_resumed_from_a_device(self):
+        """A block device is passed over up to the position, and read from there."""
+        self.write("empty", b"")
+        self.expect(0, b"", "encrypt --pass pass --log 4 empty nothing")
+        front = len(self.read("nothing")) - 16
+        # So many bytes that the file ends with a block of the device.
+        text = random.Random(1).randbytes((128 << 12) - front - 16 * 8)
+        self.write("plain", text)
+        self.expect(0, b"", "encrypt --pass pass --log 4 plain age")
+        self.write("cut", self.read("age")[: front + 5 * 65_552 + 100])
+        self.tool(*"decrypt --pass pass --save saved cut part".split())
+        self.see("a position", self.is_position("saved", 5))
+        age = self.device("image", self.read("age"))
+        self.expect(0, b"", ["resume", "--position", "saved", "--old", "part", "--pass", "pass", age, "whole"], "IN is a block device")
+        self.see("IN is a block device: the text", self.read("whole") == text)
+
     @needs("losetup", "cc", root=True)
     def test_devices_that_cannot_be_synced(self):
         """A block device is synced."""
@@ -450,6 +467,18 @@ class DiskTest(FilesCase):
                 self.expect(1, said, f"decrypt --pass pass --save {at}/saved cut out", f"closing a position fails with {error}, {held}")
                 left = self.read(f"{at}-held/saved") if held else None
                 self.see(f"closing a position fails with {error}, {held}: kept", left == held and not self.is_there(f"{at}-held/saved.new-0"))
+
+    @needs("cc")
+    def test_name_of_an_option(self):
+        """An OUT that has the name of an option is waited for as another is, while it is written and at its end."""
+        self.write("plain", bytes(17 << 20))
+        self.expect(0, b"", "encrypt --pass pass --log 4 plain age")
+        waits = []
+        for name in ("out", "--no-sync"):
+            self.write("synced", b"")
+            self.tool("decrypt", "--pass", "pass", "--", "age", name, env=shim.loaded(SYNCED=self.path("synced")), check=True)
+            waits.append(self.read("synced").count(b"\n"))
+        self.see("an OUT named --no-sync", waits[0] == waits[1] > 1, waits)
 
     @needs("cc", "pkg-config", "fusermount3", root=True)
     def test_few_questions(self):

@@ -7,8 +7,11 @@ import functools
 import hashlib
 import hmac
 import os
+import pathlib
+import random
 import resource
 import signal
+import subprocess
 from tests.case import Case, needs
 from tests.sealing import seal
 from tests.test_runs import feed
@@ -213,6 +216,40 @@ class EnginesTest(Case):
             self.see(f"a file of {length} bytes: where it ends", ended.stderr.endswith(b" chunk %d\n" % chunk), ended.stderr)
         self.write("in", file[:91] + b"x" + file[92:])
         self.ends("another file", self.resume(position(2)), 24, b"")
+
+    def test_passes_over(self):
+        """What comes before a position isn't read of a file that has places, and has any bytes; of a pipe it is read."""
+        text = random.Random(1).randbytes(64 * CHUNK)
+        file, start = file_of(text), len(FRONT) + 60 * (CHUNK + 16)
+        self.decrypt(file[: start + 2 * CHUNK])
+        saved, old = self.read("position"), text[: 61 * CHUNK]
+        self.write("in", file)
+        ended, of_file = self.counted(saved, old, "in")
+        self.ends("a position far on", ended, 0, text)
+        self.see("what comes before it isn't read", of_file - len(old) < 8 * CHUNK, of_file)
+        with open(self.path("in"), "r+b") as sparse:
+            sparse.truncate(len(FRONT))
+            sparse.seek(start)
+            sparse.write(file[start:])
+        self.ends("a hole before it", self.counted(saved, old, "in")[0], 0, text)
+        source, thread = feed(file, CHUNK)
+        ended, of_pipe = self.counted(saved, old, "/dev/stdin", stdin=source)
+        os.close(source)
+        thread.join()
+        self.ends("a pipe", ended, 0, text)
+        self.see("a pipe is read from its start", of_pipe - of_file > 50 * CHUNK, of_pipe, of_file)
+
+    def counted(self, saved, old, name, stdin=None):
+        """A run that resumes, and how many bytes it read of all files."""
+        self.write("saved", saved)
+        self.write("old", old)
+        self.remove("out", "position")
+        words = "resume", "--position", "saved", "--old", "old", "--file-key", KEY.hex(), "--save", "position", name, "out"
+        with subprocess.Popen([self.program, *words], cwd=self.room, stdin=stdin, stderr=subprocess.PIPE) as run:
+            os.waitid(os.P_PID, run.pid, os.WEXITED | os.WNOWAIT)
+            count = int(pathlib.Path(f"/proc/{run.pid}/io").read_text().split()[1])
+            said = run.stderr.read()
+        return subprocess.CompletedProcess(words, run.returncode, b"", said), count
 
     def test_positions(self):
         self.write("in", file_of(LONG))

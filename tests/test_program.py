@@ -20,7 +20,7 @@ def within_memory():
 
 
 # What is said after the command that goes on from a position.
-ANEW = "age_tool: if IN can be read from its start, age_tool decrypt is quicker\n"
+ANEW = "age_tool: resume reads only the rest of IN; from a fast disk, age_tool decrypt is quicker\n"
 
 
 class ProgramTest(Case):

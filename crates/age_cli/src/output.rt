@@ -191,8 +191,8 @@ fn make_out<F: FileSet>(alloc: Global, files: &mut F, asked: &Writing<'_>) -> Re
         → CameSince (F.view files.old) (F.view files.new) (Absent asked.now.to.now))) result }
 {
     match asked.clobber {
-        ClobberOption::Allowed => Ok(files.create(alloc, asked.to)?),
-        ClobberOption::Refused => Ok(files.create_new(alloc, asked.to)?),
+        ClobberOption::Allowed => Ok(files.create(alloc, asked.to, asked.durability)?),
+        ClobberOption::Refused => Ok(files.create_new(alloc, asked.to, asked.durability)?),
     }
 }
 
@@ -229,7 +229,7 @@ fn prepare_save<F: FileSet>(alloc: Global, files: &mut F, asked: &Writing<'_>) -
         (F.view files.old) (F.view files.new) (λ _. Unit {0}) result }
 {
     match asked.save {
-        Some(save) => Ok(files.prepare(alloc, save, asked.position)?),
+        Some(save) => Ok(files.prepare(alloc, save, asked.position, asked.durability)?),
         None => Ok(()),
     }
 }

@@ -1,17 +1,17 @@
 //! A file of the machine that is read.
 
-ghost use Rattle.std.specs.Prelude.{◌≡◌, IfOk, OnErr, false};
+ghost use Rattle.std.specs.Prelude.{◌≡◌, ◌≤◌, IfOk, OnErr, false};
 ghost use Rattle.std.specs.Io.{ReadsAtMost};
 ghost use Rattle.age_io.specs.{IsNamed, ReadConsumes};
 ghost use Rattle.age_disk.specs.{IsUnread, as_source};
 ghost use Rattle.age_disk.specs.inner.{supply_of};
 
-use crate::names::{FileId, Resolved, Stream, is_random, resolve};
+use crate::names::{FileId, Resolved, Stream, is_on_disk, is_random, resolve};
 use age_io::{Failed, Failures, Source, Tape};
 use age_machine::{TRIES, above_streams, is_to_retry, too_many_tries};
 use std::alloc::Global;
 use std::fs::{File, Metadata};
-use std::io::{self, Read, Seek};
+use std::io::{self, Read, Seek, SeekFrom};
 use std::marker::Model;
 use std::rt::{HostRuntime, Stdin};
 
@@ -73,6 +73,35 @@ impl Origin {
         *is_at_end = *is_at_end || (n == 0 && !into.is_empty());
         Ok(n)
     }
+
+    /// Passes over bytes of a file on a disk, and returns how many. A stream is read from where it
+    /// stands, and so is what has no places.
+    fn skip(&mut self, most: u64) -> u64
+        ensures { result ≤ most }
+    {
+        match self {
+            Origin::File(file) => skip_in(file, most).unwrap_or(0),
+            _ => 0,
+        }
+    }
+}
+
+/// Passes over bytes of a file by one call, and returns how many: of a regular file no more than it
+/// has now. A block device refuses to go beyond its end, and stays where it is.
+fn skip_in(file: &mut File, most: u64) -> io::Result<u64>
+    ensures { IfOk result (λ n. n ≤ most) }
+{
+    let now = file.metadata()?;
+    if !is_on_disk(&now) {
+        return Ok(0);
+    }
+    let to_come = match length_of(&now) {
+        Some(len) => len.saturating_sub(file.stream_position()?),
+        None => most,
+    };
+    let n = most.min(to_come).min(i64::MAX as u64);
+    file.seek(SeekFrom::Current(n as i64))?;
+    Ok(n)
 }
 
 /// Whether a file stands at its end, by its length.
@@ -92,9 +121,9 @@ fn length_of(metadata: &Metadata) -> Option<u64> {
     }
 }
 
-/// A file of the machine that is read, or standard input. A contract sees the bytes that it gave,
-/// and whether a pull found the end; none that are to come; how many pulls have failed, and whether
-/// the last one did; and which file it is.
+/// A file of the machine that is read, or standard input. A contract sees the bytes that it gave or
+/// passed over, and whether a pull found the end; none that are to come; how many pulls have failed,
+/// and whether the last one did; and which file it is.
 #[derive(Drop)]
 pub struct HostIn {
     rt: HostRuntime,
@@ -192,7 +221,7 @@ impl HostIn {
         &self.name
     }
 
-    /// What it gave since it was opened.
+    /// What it gave or passed over since it was opened.
     pub fn given(&self) -> &Tape
         ensures { result.now ≡ self.now.given }
     {
@@ -304,6 +333,15 @@ impl Source for HostIn {
             }
         };
         self.failures.note(pulled)
+    }
+
+    fn skip(&mut self, most: u64) -> u64 {
+        let n = self.origin.skip(most);
+        self.given.note_unread(n);
+        if let Some(left) = &mut self.left {
+            *left = left.saturating_sub(n);
+        }
+        n
     }
 
     fn failures(&self) -> u64 {

@@ -49,6 +49,12 @@ impl<S: Source> Source for Counted<S> {
         Ok(n)
     }
 
+    fn skip(&mut self, most: u64) -> u64 {
+        let n = self.inner.skip(most);
+        self.count = self.count.saturating_add(n);
+        n
+    }
+
     fn failures(&self) -> u64 {
         self.inner.failures()
     }

@@ -22,7 +22,8 @@ pub use Decrypts.{StartFails, StopsOutside, WritesText}
 pub use Encrypts.{AgeFile, EncryptFails, EncryptsFront, SecretView, WhyStopped, without_last}
 pub use InARow.{AgeFileIsWhole, AllAnswerRight, AllFollow, AnswersRight, AreInARow, AreTexts, AuthenticRuns}
 pub use InARow.{BindsTo, Bound, CallsInARow, DecryptAnswers, DoneGaveFile, DoneGaveRest, DoneIsBound}
-pub use InARow.{DoneIsFile, FirstCall, GaveFile, GaveFront, GaveOld, GaveRest, Hands, HeadFaultsStay, IsSecret}
+pub use InARow.{DoneIsFile, FirstCall, GaveFile, GaveFront, GaveOld, GaveRest, Hands, HeadFaultsStay}
+pub use InARow.{IsSecret}
 pub use InARow.{NextCall, RestIsFile, ResumeAnswers, ResumedRun, RoundTrip, RunsAreBound, RunsInARow}
 pub use InARow.{StoppedGaveFront, UndamagedIsDecrypted, UndamagedIsResumed, WritesRight, last, last_took}
 pub use InARow.{passphrase_identity}

@@ -1,6 +1,6 @@
 -- What a run read and wrote, where a reader may continue after it, and how it ended.
-use Rattle.std.specs.Prelude.{◌≡◌, ℕ, List, ◌⊎◌, ◌^◌, ◌*◌, ◌<◌, ◌≤◌, ◌++◌, length, Option, ◌/◌, min, [], take}
-use Rattle.std.specs.Prelude.{Some, None, IsSomeAnd, Bool, true, false}
+use Rattle.std.specs.Prelude.{◌≡◌, ◌⊎◌, ◌+◌, ◌-◌, ◌*◌, ◌/◌, ◌^◌, ◌<◌, ◌≤◌, ℕ, min, List, [], ◌++◌, length, take}
+use Rattle.std.specs.Prelude.{Option, Some, None, IsSomeAnd, Bool, true, false}
 use Rattle.age_io.specs.Taken.{Appends}
 use Rattle.age_io.specs.Supply.{Supply}
 use Rattle.age_io.specs.{Consumes, IsAtEnd, SourceView, SinkView}
@@ -229,22 +229,26 @@ pub record MarksView : Type 0 where
   pub file_id : List ℕ
   pub chunks : List (List ℕ)
 
--- a position after some of these chunks, which are no more than so many bytes; after all, if they are
--- no more
+-- The last of so many chunks that a position is after, if only so many bytes of them are there, is no
+-- further before the end of these than four times as far as they are: after all, if all are there.
+abbrev pub IsNear : (chunks bytes index : ℕ) → Type 0
+IsNear chunks bytes index = chunks ≤ index + 4 * (chunks - bytes / chunk_length)
+
+-- a position after some of these chunks, which are no more than so many bytes
 pub record IsMarked (m : MarksView) (bytes : ℕ) (p : Position) : Type 0 where
   pub few : p.index ≤ length m.chunks
   pub within : p.index * chunk_length ≤ bytes
-  pub last : length m.chunks * chunk_length ≤ bytes → p.index ≡ length m.chunks
+  pub near : IsNear (length m.chunks) bytes p.index
   pub own : p.file_id ≡ m.file_id
   pub chain_is : p.chain ≡ chain (take p.index m.chunks)
   pub tagged : p.tag ≡ position_tag m.key p.index p.file_id p.chain
 
 -- where a reader may continue if only so many bytes of what a run wrote are there: the run's own
--- position if its chunks are no more than these, and else one after fewer
+-- position if its chunks are no more than these, and else one after fewer that is near
 pub record IsPositionWithin (r : Run) (bytes : ℕ) (p : Position) : Type 0 where
   pub few : p.index ≤ whole_chunks r
   pub within : p.index * chunk_length ≤ bytes
-  pub last : whole_chunks r * chunk_length ≤ bytes → p.index ≡ whole_chunks r
+  pub near : IsNear (whole_chunks r) bytes p.index
   pub own : HasId p r.file
   pub chain_is : p.chain ≡ chain_over p.index (held r)
   pub tagged : HasTag p r.file

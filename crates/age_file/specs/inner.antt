@@ -46,7 +46,7 @@ use Rattle.age_file.specs.declared.encryption.Written.{Written}
 pub mod Parts
 pub mod Marks
 unfoldable pub use Parts.*
-pub use Marks.{IsMark, IsMarkWithin}
+pub use Marks.{ArePairs, IsMark, IsPair}
 
 -- ---- Where a run stands, by its reader and its writer.
 

@@ -1,7 +1,7 @@
 //! The bytes that were pulled from a source and not used yet.
 
-ghost use Rattle.std.specs.Prelude.{◌≡◌, ◌≤◌, [], length, drop, IfOk};
-ghost use Rattle.age_file.specs.inner.{Refills, reader_view};
+ghost use Rattle.std.specs.Prelude.{◌≡◌, ◌≤◌, ℕ, List, [], length, drop, IfOk};
+ghost use Rattle.age_file.specs.inner.{Passes, Refills, reader_view};
 ghost use Rattle.age_file.specs.Runs.{pull_room};
 ghost use Rattle.age_io.specs.{Origin};
 
@@ -90,6 +90,23 @@ impl Intake {
         ensures pulls { self.new.pulls ≡ self.old.pulls }
     {
         self.from = self.to;
+    }
+
+    /// Passes over bytes that are to come, if all that came were used, and returns how many. They
+    /// count as the fewest pulls that could have given them.
+    pub(crate) fn skip<S: Source>(&mut self, source: &mut S, most: u64) -> u64
+        requires { self.old.bytes ≡ [] }
+        ensures bound { result ≤ most }
+        ensures skipped { (bytes : List ℕ) × (length bytes ≡ result)
+            × Passes (reader_view (S.view source.old) self.old)
+            (reader_view (S.view source.new) self.new) bytes }
+        ensures none { self.new.bytes ≡ [] }
+        ensures began { (from : Origin) → S.began source.old from → S.began source.new from }
+    {
+        let pulls_left = MOST_PULLS - self.pulls;
+        let n = source.skip(most.min(pulls_left.saturating_mul(PULL_ROOM as u64)));
+        self.pulls += n.div_ceil(PULL_ROOM as u64);
+        n
     }
 
     /// Pulls, if all bytes were used. False: the source is at its end.

@@ -1,10 +1,11 @@
 //! The chain over the chunks of a text, and the marks that are kept of it.
 
-ghost use Rattle.std.specs.Prelude.{◌≡◌, ◌++◌, ◌∷◌, ◌<◌, ◌≤◌, ◌*◌, ◌↔◌, [], true, length, List, ℕ, All};
+ghost use Rattle.std.specs.Prelude.{◌≡◌, ◌++◌, ◌∷◌, ◌<◌, ◌≤◌, ◌+◌, ◌*◌, ◌/◌, ◌↔◌, [], true, length, List, ℕ};
 ghost use Rattle.sha2.specs.Hashers.{Holds256};
 ghost use Rattle.age_chunk.specs.{chunk_length, chunk_limit};
 ghost use Rattle.age_file.specs.Bindings.{chain};
-ghost use Rattle.age_file.specs.inner.Marks.{IsMark, IsMarkWithin};
+ghost use Rattle.age_file.specs.Runs.{IsNear};
+ghost use Rattle.age_file.specs.inner.Marks.{IsMark, IsMarkWithin, IsPair, ArePairs};
 
 use crate::chunk_tape::ChunkTape;
 use age_io::Tape;
@@ -12,8 +13,8 @@ use age_stream::CHUNK_LEN;
 use sha2::{Digest, Sha256};
 use std::marker::Model;
 
-/// How many marks are kept: one for each power of two below 2^48.
-const MARKS: usize = 48;
+/// How many distances marks are kept at: each power of two below 2^48.
+const DISTANCES: usize = 48;
 
 /// The chain over the first chunks of a text, this many.
 #[derive(Clone, Copy)]
@@ -43,36 +44,102 @@ impl Mark {
     }
 }
 
-/// The last of some marks within this many bytes of the text; before the first chunk, if none is.
-fn last_within(marks: &[Mark], bytes: u64) -> Mark
-    ensures { (chunks : List (List ℕ)) → All (IsMark chunks) marks.now
-        → IsMarkWithin chunks bytes result }
-{
-    let mut last = Mark::start();
-    'marks: for mark in marks {
-        if mark.index > last.index && mark.is_within(bytes) {
-            last = *mark;
+/// The last two marks at a distance: whenever so many chunks came since the last, there is one more.
+#[derive(Clone, Copy)]
+pub(crate) struct Pair {
+    pub(crate) distance: u64,
+    pub(crate) last: Mark,
+    pub(crate) before: Mark,
+}
+
+impl Pair {
+    /// Before the first chunk.
+    fn start(distance: u64) -> Pair
+        requires { 0 < distance }
+        ensures pair { IsPair [] result }
+        ensures same { result.distance ≡ distance }
+    {
+        Pair {
+            distance,
+            last: Mark::start(),
+            before: Mark::start(),
         }
     }
-    last
+
+    /// After a chunk more, with the mark of all.
+    fn after(&self, mark: Mark) -> Pair
+        ensures pair { (chunks : List (List ℕ)) (chunk : List ℕ) → IsPair chunks self.now
+            → IsMark (chunks ++ chunk ∷ []) mark → mark.index ≡ length chunks + 1
+            → IsPair (chunks ++ chunk ∷ []) result }
+        ensures same { result.distance ≡ self.now.distance }
+    {
+        if mark.index.saturating_sub(self.last.index) < self.distance {
+            return *self;
+        }
+        Pair {
+            distance: self.distance,
+            last: mark,
+            before: self.last,
+        }
+    }
+}
+
+/// The pairs before the first chunk.
+fn start_pairs() -> [Pair; DISTANCES]
+    ensures { ArePairs [] result }
+{
+    let mut pairs = [Pair::start(1); DISTANCES];
+    for k in 0..DISTANCES {
+        pairs[k] = Pair::start(1 << k);
+    }
+    pairs
+}
+
+/// The pairs after a chunk more, with the mark of all.
+fn pairs_after(pairs: &[Pair; DISTANCES], mark: Mark) -> [Pair; DISTANCES]
+    ensures { (chunks : List (List ℕ)) (chunk : List ℕ) → ArePairs chunks pairs.now
+        → IsMark (chunks ++ chunk ∷ []) mark → mark.index ≡ length chunks + 1
+        → ArePairs (chunks ++ chunk ∷ []) result }
+{
+    let mut next = *pairs;
+    for k in 0..DISTANCES {
+        next[k] = pairs[k].after(mark);
+    }
+    next
+}
+
+/// The older mark of the first pair of which that is within this many bytes of the text; before the
+/// first chunk, if there is none.
+fn older_within(pairs: &[Pair; DISTANCES], bytes: u64) -> Mark
+    ensures { (chunks : List (List ℕ)) → ArePairs chunks pairs.now → length chunks < chunk_limit
+        → bytes / chunk_length < length chunks
+        → IsMarkWithin chunks bytes result × IsNear (length chunks) bytes result.index }
+{
+    for k in 0..DISTANCES {
+        let mark = pairs[k].before;
+        if mark.is_within(bytes) {
+            return mark;
+        }
+    }
+    Mark::start()
 }
 
 /// The chain over the chunks of a text, one link a chunk. A contract sees the chunks.
 ///
 /// Marks are kept of it, so that a run can also be continued before its end: for each power of two
-/// the last index that it divides and its double doesn't. So the last two multiples of each power
-/// are there, and within all but the last `d` chunks there is a mark less than `3 * d` before the end.
+/// two that are so far from each other. So within all but the last `d` chunks there is a mark less
+/// than `4 * d` before the end.
 #[derive(Drop)]
 pub(crate) struct Links {
     last: Mark,
-    marks: [Mark; MARKS],
+    pairs: [Pair; DISTANCES],
     chunks: ChunkTape,
 }
 
 impl Model for Links {
-    ghost use Rattle.std.specs.Prelude.{◌≡◌, ℕ, List, All, length};
+    ghost use Rattle.std.specs.Prelude.{◌≡◌, ℕ, List, length};
     ghost use Rattle.std.specs.Coded.{coded_list, coded_ℕ};
-    ghost use Rattle.age_file.specs.inner.Marks.{IsMark};
+    ghost use Rattle.age_file.specs.inner.Marks.{IsMark, ArePairs};
 
     ghost Value = { List (List ℕ) };
 
@@ -81,7 +148,7 @@ impl Model for Links {
     ghost view = { λ l. l.chunks };
 
     ghost invariant = { λ l. IsMark l.chunks l.last × (l.last.index ≡ length l.chunks)
-        × All (IsMark l.chunks) l.marks };
+        × ArePairs l.chunks l.pairs };
 }
 
 impl Links {
@@ -91,7 +158,7 @@ impl Links {
     {
         Links {
             last: Mark::start(),
-            marks: [Mark::start(); MARKS],
+            pairs: start_pairs(),
             chunks: ChunkTape::new(),
         }
     }
@@ -102,7 +169,7 @@ impl Links {
     {
         Links {
             last: self.last,
-            marks: self.marks,
+            pairs: self.pairs,
             chunks: self.chunks.again(),
         }
     }
@@ -126,8 +193,7 @@ impl Links {
         };
         self.chunks.note(chunk);
         self.last = mark;
-        let slot = (mark.index.trailing_zeros() as usize).min(MARKS - 1);
-        self.marks[slot] = mark;
+        self.pairs = pairs_after(&self.pairs, mark);
     }
 
     /// Links a chunk.
@@ -143,14 +209,16 @@ impl Links {
         self.link(digest, &text);
     }
 
-    /// The last mark within this many bytes of the text; of all chunks, if these are.
+    /// A mark within this many bytes of the text: of all chunks, if these are, and near the last one
+    /// that is, if not.
     pub(crate) fn mark_within(&self, bytes: u64) -> Mark
+        requires { length self.now < chunk_limit }
         ensures mark { IsMarkWithin self.now bytes result }
-        ensures last { length self.now * chunk_length ≤ bytes → result.index ≡ length self.now }
+        ensures near { IsNear (length self.now) bytes result.index }
     {
         if self.last.is_within(bytes) {
             return self.last;
         }
-        last_within(&self.marks, bytes)
+        older_within(&self.pairs, bytes)
     }
 }

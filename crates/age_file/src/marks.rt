@@ -52,9 +52,9 @@ impl Marks {
         }
     }
 
-    /// The position at the last mark within so many bytes of the text; if all whole chunks are
-    /// within them, it is the position of the stop. There is a mark less than three times as far
-    /// from the last whole chunk as these bytes are.
+    /// The position at a mark within so many bytes of the text; if all whole chunks are within them,
+    /// it is the position of the stop. The mark is at most four times as far from the last whole
+    /// chunk as these bytes are.
     pub fn within(&self, bytes: u64) -> Position
         ensures { IsMarked self.now bytes result }
     {

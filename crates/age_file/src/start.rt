@@ -1,9 +1,11 @@
 //! Reads a file up to its payload, and passes over the blocks of it that were opened before.
 
-ghost use Rattle.std.specs.Prelude.{◌≡◌, ◌+◌, ◌-◌, ◌≤◌, [], ◌++◌, length, take, min, IfOk, IfErr, OnOk};
+ghost use Rattle.std.specs.Prelude.{◌≡◌, ◌+◌, ◌-◌, ◌≤◌, ℕ, List, [], ◌++◌, length, take, min};
+ghost use Rattle.std.specs.Prelude.{IfOk, IfErr, OnOk};
 ghost use Rattle.age_file.specs.Decrypts.{StartFails};
 ghost use Rattle.age_file.specs.inner.{view_of_reader, SameReader};
 ghost use Rattle.age_file.specs.inner.{HasSome, Dries, NonceFails, TakesNonce, StartsAt, SkipsBlocks};
+ghost use Rattle.age_file.specs.inner.{Passes};
 ghost use Rattle.age_chunk.specs.{block_length};
 ghost use Rattle.age_file.specs.Runs.{pull_room};
 
@@ -67,7 +69,24 @@ pub(crate) fn need_bytes<S: Source>(
     Ok(())
 }
 
-/// Passes over this many blocks, unopened.
+/// Uses what was pulled, and passes over as much of what is to come as the source can: at most this
+/// many bytes, and returns how many.
+fn skip_some<S: Source>(reader: &mut Reader<'_, S>, most: u128) -> u128
+    ensures bound { result ≤ most }
+    ensures skipped { (bytes : List ℕ) × (length bytes ≡ result)
+        × Passes (view_of_reader S.view reader.old) (view_of_reader S.view reader.new) bytes }
+    ensures same { SameReader S.began reader.old reader.new }
+{
+    let n = most.min(reader.intake.bytes().len() as u128);
+    reader.intake.use_front(n as usize);
+    if n == most {
+        return n;
+    }
+    let more = (most - n).min(u128::from(u64::MAX)) as u64;
+    n + u128::from(reader.intake.skip(reader.source, more))
+}
+
+/// Passes over this many blocks, unopened, and unread as far as the source can pass over them.
 pub(crate) fn skip_blocks<S: Source>(
     reader: &mut Reader<'_, S>,
     blocks: u64,
@@ -77,7 +96,7 @@ pub(crate) fn skip_blocks<S: Source>(
     ensures same { SameReader S.began reader.old reader.new }
 {
     let all = u128::from(blocks) * BLOCK_LEN as u128;
-    let mut left = all;
+    let mut left = all - skip_some(reader, all);
     'pieces: while left > 0 {
         let cut = StreamFault {
             kind: StreamKind::Truncated,

@@ -114,8 +114,14 @@ pub trait FileSet {
     /// can be, and may make room for that beside it. Refuses with `Write` (27) if it can't, with
     /// `Memory` (28), and with [`SameFile`](OpenFault::SameFile) if it was opened or created before,
     /// unless it is the file of `spared`. A file that is created after this is refused if it is the
-    /// prepared one.
-    fn prepare(&mut self, alloc: Global, name: &str, spared: Option<&str>) -> Result<(), OpenFault>
+    /// prepared one. The room is on the disk then, if it is to be.
+    fn prepare(
+        &mut self,
+        alloc: Global,
+        name: &str,
+        spared: Option<&str>,
+        durability: Durability,
+    ) -> Result<(), OpenFault>
         ensures noted { view self.new
             ≡ with_event (Prepared name.now (option_map (λ s. s.now) spared.entry))
             (made_as [] name.now result) (view self.old) }
@@ -124,7 +130,13 @@ pub trait FileSet {
     /// Opens a file to be written, and makes it if there is none. Refuses with `Write` (27) if it
     /// can't be opened, with `Memory` (28), and with [`SameFile`](OpenFault::SameFile) if it was
     /// opened, prepared or created before; a file that the call made is then removed, if it can be.
-    fn create(&mut self, alloc: Global, name: &str) -> Result<Self::Out, OpenFault>
+    /// The disk is waited for while it is written, so that the end needn't wait long, if it is to be.
+    fn create(
+        &mut self,
+        alloc: Global,
+        name: &str,
+        durability: Durability,
+    ) -> Result<Self::Out, OpenFault>
         ensures noted { view self.new ≡ with_event (Created name.now) (made_as [] name.now result)
             (view self.old) }
         ensures begun { IfOk result (λ o. ((Self.Out.view o).taken.bytes ≡ [])
@@ -134,7 +146,12 @@ pub trait FileSet {
 
     /// Makes a file to be written, as `create` does, and refuses one that is there too, with `Write`
     /// (27): it is as it was then, and no link is followed.
-    fn create_new(&mut self, alloc: Global, name: &str) -> Result<Self::Out, OpenFault>
+    fn create_new(
+        &mut self,
+        alloc: Global,
+        name: &str,
+        durability: Durability,
+    ) -> Result<Self::Out, OpenFault>
         ensures noted { view self.new ≡ with_event (Made name.now)
             (made_as (Absent name.now ∷ []) name.now result) (view self.old) }
         ensures begun { IfOk result (λ o. ((Self.Out.view o).taken.bytes ≡ [])

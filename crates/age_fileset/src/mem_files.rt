@@ -403,7 +403,13 @@ impl FileSet for MemFiles {
     }
 
     /// Tries nothing: a name that can't be written is refused when it is replaced.
-    fn prepare(&mut self, _alloc: Global, name: &str, spared: Option<&str>) -> Result<(), OpenFault>
+    fn prepare(
+        &mut self,
+        _alloc: Global,
+        name: &str,
+        spared: Option<&str>,
+        _durability: Durability,
+    ) -> Result<(), OpenFault>
         ensures ok { IsOk result }
         ensures kept { self.new ≡ record self.old {
           events = self.old.events
@@ -416,7 +422,12 @@ impl FileSet for MemFiles {
 
     /// Gives a sink with the room that was given for it; the entry is made when it is closed.
     /// Refuses with `Write` (27) exactly if the name is one that can't be written.
-    fn create(&mut self, alloc: Global, name: &str) -> Result<MemOut, OpenFault>
+    fn create(
+        &mut self,
+        alloc: Global,
+        name: &str,
+        _durability: Durability,
+    ) -> Result<MemOut, OpenFault>
         ensures made { IfOk result (λ o. o ≡ (name.now, empty_with self.old.room)) }
         ensures refused { IsErrOf result (Fault FileFault.Write)
             ↔ Contains self.old.refused name.now }
@@ -436,7 +447,12 @@ impl FileSet for MemFiles {
 
     /// As `create`, but refuses with `Write` (27) exactly if the name is one that can't be written, or
     /// if a file has it.
-    fn create_new(&mut self, alloc: Global, name: &str) -> Result<MemOut, OpenFault>
+    fn create_new(
+        &mut self,
+        alloc: Global,
+        name: &str,
+        _durability: Durability,
+    ) -> Result<MemOut, OpenFault>
         ensures made { IfOk result (λ o. o ≡ (name.now, empty_with self.old.room)) }
         ensures refused { IsErrOf result (Fault FileFault.Write)
             ↔ (Contains self.old.refused name.now

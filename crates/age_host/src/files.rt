@@ -42,9 +42,6 @@ pub struct HostFiles<'r, 'w> {
     ended: Option<Ended>,
     saved: Saved,
     failures: &'r Failures<'w>,
-    // Whether the disk is waited for while the run goes on. This goes by the words alone: what is
-    // waited for at the end is said by each call.
-    durability: Durability,
 }
 
 impl<'r, 'w> HostFiles<'r, 'w> {
@@ -59,7 +56,6 @@ impl<'r, 'w> HostFiles<'r, 'w> {
             ended: None,
             saved: Saved::directly(rt),
             failures,
-            durability: durability_of(failures),
         }
     }
 
@@ -251,15 +247,6 @@ impl<'r, 'w> HostFiles<'r, 'w> {
     }
 }
 
-/// Whether a run is to wait for the disk, by the words of its command line.
-fn durability_of(failures: &Failures<'_>) -> Durability {
-    if failures.has_word("--no-sync") {
-        Durability::Buffered
-    } else {
-        Durability::Synced
-    }
-}
-
 /// Keeps the name of what was refused, if that is a file of another name too.
 fn note_same(
     failures: &Failures<'_>,
@@ -281,12 +268,13 @@ fn prepared_at(
     rt: &HostRuntime,
     name: &str,
     spared: Option<FileId>,
+    durability: Durability,
     failures: &Failures<'_>,
 ) -> io::Result<Prepared> {
     if failures.has_word("--no-clobber") && is_of_other_use(alloc, rt, name) {
         return Err(io::Error::other("it holds no position, and --no-clobber was given"));
     }
-    Prepared::new(alloc, rt, name, spared, durability_of(failures))
+    Prepared::new(alloc, rt, name, spared, durability)
 }
 
 /// Whether this is the file to which standard error leads.
@@ -596,10 +584,11 @@ impl<'r, 'w> FileSet for HostFiles<'r, 'w> {
         alloc: Global,
         name: &str,
         spared: Option<&str>,
+        durability: Durability,
     ) -> Result<(), OpenFault> {
         self.log.prepared(name, spared);
         let spared = spared.and_then(|spared| FileId::at(self.rt, spared));
-        let prepared = prepared_at(alloc, self.rt, name, spared, self.failures);
+        let prepared = prepared_at(alloc, self.rt, name, spared, durability, self.failures);
         let admitted = match prepared {
             Ok(prepared) => self.admit_prepared(prepared),
             Err(error) => Err(self.refusal(name, error)),
@@ -610,7 +599,12 @@ impl<'r, 'w> FileSet for HostFiles<'r, 'w> {
         admitted
     }
 
-    fn create(&mut self, alloc: Global, name: &str) -> Result<WatchedOut<'r, 'w>, OpenFault>
+    fn create(
+        &mut self,
+        alloc: Global,
+        name: &str,
+        durability: Durability,
+    ) -> Result<WatchedOut<'r, 'w>, OpenFault>
         ensures noted { self.new.log.events ≡ self.old.log.events ++ Created name.now ∷ [] }
         ensures came { self.new.log.outcomes ≡ self.old.log.outcomes ++ made_as [] name.now result }
         ensures unended { self.new.ended ≡ self.old.ended }
@@ -621,7 +615,7 @@ impl<'r, 'w> FileSet for HostFiles<'r, 'w> {
         ensures faults { IfErr result (OpenFails Write) }
     {
         self.log.created(name);
-        let opened = HostOut::open(alloc, self.rt, name, self.durability);
+        let opened = HostOut::open(alloc, self.rt, name, durability);
         let out = self.admit_created(name, opened);
         if let Err(fault) = out {
             self.log.refused(name, fault);
@@ -629,7 +623,12 @@ impl<'r, 'w> FileSet for HostFiles<'r, 'w> {
         out
     }
 
-    fn create_new(&mut self, alloc: Global, name: &str) -> Result<WatchedOut<'r, 'w>, OpenFault>
+    fn create_new(
+        &mut self,
+        alloc: Global,
+        name: &str,
+        durability: Durability,
+    ) -> Result<WatchedOut<'r, 'w>, OpenFault>
         ensures noted { self.new.log.events ≡ self.old.log.events ++ Made name.now ∷ [] }
         ensures came { self.new.log.outcomes
             ≡ self.old.log.outcomes ++ made_as (Absent name.now ∷ []) name.now result }
@@ -642,7 +641,7 @@ impl<'r, 'w> FileSet for HostFiles<'r, 'w> {
         ensures faults { IfErr result (OpenFails Write) }
     {
         self.log.made(name);
-        let opened = HostOut::make(alloc, self.rt, name, self.durability);
+        let opened = HostOut::make(alloc, self.rt, name, durability);
         let out = self.admit_created(name, opened);
         match out {
             Ok(_) => self.log.absent(name),

@@ -76,6 +76,10 @@ impl<'r, 'w> Source for WatchedIn<'r, 'w> {
         pulled
     }
 
+    fn skip(&mut self, most: u64) -> u64 {
+        self.source.skip(most)
+    }
+
     fn failures(&self) -> u64 {
         self.source.failures()
     }

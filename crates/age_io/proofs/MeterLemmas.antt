@@ -1,7 +1,7 @@
 -- What a meter is shown of a source, from where that began.
 use base.Fml.{GName}
-use Rattle.std.proofs.Common.{ℕ, ◌+◌, ◌≤◌, ◌≡◌, List, [], ◌∷◌, length, take, ◌++◌, map, sym, ap, ap₂, ◌∙◌, refl, subst, arith, Option, Some, None}
-use Rattle.std.proofs.lemmas.List.{map-append, append_assoc, append-nil, length-append, length-take-le}
+use Rattle.std.proofs.Common.{ℕ, ◌+◌, ◌≡◌, List, [], ◌∷◌, length, ◌++◌, map, sym, ap, ◌∙◌, refl, subst, arith, Option, Some, None}
+use Rattle.std.proofs.lemmas.List.{map-append, append_assoc, append-nil, length-append}
 use Rattle.std.proofs.lemmas.List.Sums.{sum_by-append}
 use Rattle.age_io.proofs.SupplyLemmas.{Consumes-trans, Consumes-nil}
 use Rattle.std.specs.List.{sum}
@@ -25,24 +25,25 @@ abbrev from : GName → Supply → Option (List Shown) → Lending
 from meter coming shown = record { meter = meter; coming = coming; shown = shown }
 
 since_more : (meter : GName) (coming : Supply) (before : Option (List Shown)) (left after : Supply) (shown now : Option (List Shown))
-    → (n : ℕ) (into : List ℕ) → n ≤ length into → Consumes left after (take n into) → Adds shown now (Advances n)
+    → (bytes : List ℕ) → Consumes left after bytes → Adds shown now (Advances (length bytes))
     → CountsSince (from meter coming before) left shown → CountsSince (from meter coming before) after now
-since_more meter coming None left after shown now n into most read adds since = tt
-since_more meter coming (Some before) left after shown now n into most read adds since =
-    let bytes = since.0 in let counts = since.1 in (
-      bytes ++ take n into,
+since_more meter coming None left after shown now bytes read adds since = tt
+since_more meter coming (Some before) left after shown now bytes read adds since =
+    let n = length bytes in let counts = since.1 in (
+      since.0 ++ bytes,
       counts ++ n ∷ [],
-      Consumes-trans coming left after bytes (take n into) since.2 read,
-      length-append bytes (take n into) ∙ ap₂ (λ x y. x + y) since.3 (length-take-le n into most) ∙ sym (sum_more counts n),
+      Consumes-trans coming left after since.0 bytes since.2 read,
+      length-append since.0 bytes ∙ ap (λ x. x + n) since.3 ∙ sym (sum_more counts n),
       grown now (before ++ map Advances counts) (Advances n) (subst (λ s. Adds s now (Advances n)) since.4 adds)
           ∙ ap Some (shown_more before counts n),
     )
 
--- what a pull gave is counted
-pub pulls_since : (from : Lending) (left after : Supply) (shown now : Option (List Shown)) (n : ℕ) (into : List ℕ)
-    → n ≤ length into → Consumes left after (take n into) → Adds shown now (Advances n)
+-- what came is counted
+pub more_since : (from : Lending) (left after : Supply) (shown now : Option (List Shown)) (n : ℕ) (bytes : List ℕ)
+    → length bytes ≡ n → Consumes left after bytes → Adds shown now (Advances n)
     → CountsSince from left shown → CountsSince from after now
-pulls_since from = since_more from.meter from.coming from.shown
+more_since from left after shown now n bytes size read adds =
+    since_more from.meter from.coming from.shown left after shown now bytes read (subst (λ k. Adds shown now (Advances k)) (sym size) adds)
 
 -- a meter that has begun was shown no count yet
 pub begins_since : (meter : GName) (left : Supply) (now : Option (List Shown)) → CountsSince (from meter left now) left now

@@ -2,8 +2,8 @@
 use Rattle.std.specs.Prelude.{◌≡◌, ℕ, List, ◌++◌, ◌<◌, Option, Bool, true, Result, MatchResult, length, take}
 use Rattle.std.specs.Io.KnownBytes as known
 
--- the bytes of a source: those that it gave so far, those that are still to come if they are shown,
--- and whether a pull found that none are
+-- the bytes of a source: those that it gave or passed over so far, those that are still to come if
+-- they are shown, and whether a pull found that none are
 pub record Supply : Type 0 where
   pub given : List ℕ
   pub left : Option (List ℕ)
@@ -13,6 +13,11 @@ pub record Supply : Type 0 where
 pub record Consumes (old new : Supply) (bytes : List ℕ) : Type 0 where
   pub given : new.given ≡ old.given ++ bytes
   pub left : known.Consumes old.left new.left bytes
+
+-- a source passed over this many bytes, which nobody read: nothing else is known of them, unless what
+-- was to come is shown
+abbrev pub Skips : Supply → Supply → ℕ → Type 0
+Skips old new n = (bytes : List ℕ) × (length bytes ≡ n) × Consumes old new bytes
 
 -- a source gave nothing
 pub record Keeps (old new : Supply) : Type 0 where

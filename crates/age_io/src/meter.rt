@@ -17,7 +17,7 @@ pub trait Meter {
         ensures count { count self.new ≡ begun (count self.old) }
         ensures shown { Adds (shown self.old) (shown self.new) (Begins length) };
 
-    /// This many bytes more were read.
+    /// This many bytes more were read, or passed over.
     fn advance(&mut self, bytes: u64)
         ensures count { count self.new ≡ counted bytes (count self.old) }
         ensures shown { Adds (shown self.old) (shown self.new) (Advances bytes) };

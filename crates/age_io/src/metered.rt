@@ -1,7 +1,8 @@
 //! A source that reports to a meter how many bytes it gives.
 
 ghost use Rattle.std.specs.Prelude.{◌≡◌, ◌≤◌, length, IfOk, MatchResult, is_err};
-ghost use Rattle.age_io.specs.{ReadConsumes, one_more, pulled, AddsPull, BeganWith, Origin};
+ghost use Rattle.age_io.specs.{ReadConsumes, Skips, one_more, pulled, counted, Adds, AddsPull, Advances};
+ghost use Rattle.age_io.specs.{BeganWith, Origin};
 
 use crate::failed::Failed;
 use crate::meter::Meter;
@@ -44,6 +45,27 @@ impl<'m, S: Source, M: Meter> Source for Metered<'m, S, M> {
         let n = self.source.pull(into)?;
         self.meter.advance(n as u64);
         Ok(n)
+    }
+
+    /// Does what the source's own does, and reports to the meter how many bytes it passed over.
+    fn skip(&mut self, most: u64) -> u64
+        ensures bound { result ≤ most }
+        ensures skipped { Skips (S.view self.old.source).supply (S.view self.new.source).supply
+            result }
+        ensures counted { (S.view self.new.source).failed ≡ (S.view self.old.source).failed }
+        ensures last { (S.view self.new.source).failing ≡ (S.view self.old.source).failing }
+        ensures metered { M.count self.new.meter.now ≡ counted result (M.count self.old.meter.now) }
+        ensures shown { Adds (M.shown self.old.meter.now) (M.shown self.new.meter.now)
+            (Advances result) }
+        ensures since { (from : Origin)
+            → BeganWith (S.began self.old.source) self.old.meter.ghost_name
+            (S.view self.old.source).supply (M.shown self.old.meter.now) from
+            → BeganWith (S.began self.new.source) self.new.meter.ghost_name
+            (S.view self.new.source).supply (M.shown self.new.meter.now) from }
+    {
+        let n = self.source.skip(most);
+        self.meter.advance(n);
+        n
     }
 
     fn failures(&self) -> u64 {

@@ -1,7 +1,7 @@
 //! Where bytes come from.
 
 ghost use Rattle.std.specs.Prelude.{◌≡◌, ◌≤◌, ℕ, Bool, false, [], length, IfOk, MatchResult, is_err, List};
-ghost use Rattle.age_io.specs.{ReadConsumes, one_more, Origin, SourceView};
+ghost use Rattle.age_io.specs.{ReadConsumes, Skips, one_more, Origin, SourceView};
 ghost use Rattle.std.specs.Coded.{coded_ℕ, coded×, coded_bool, coded_list};
 
 use crate::failed::Failed;
@@ -32,6 +32,18 @@ pub trait Source {
             (λ _. (view self.new).failed ≡ one_more (view self.old).failed) }
         ensures last { (view self.new).failing ≡ is_err result }
         ensures began { (from : Origin) → began self.old from → began self.new from };
+
+    /// Passes over bytes that are to come, without reading them, and returns how many: at most as
+    /// many as asked for, and none if the source can't, or is at its end.
+    fn skip(&mut self, most: u64) -> u64
+        ensures bound { result ≤ most }
+        ensures skipped { Skips (view self.old).supply (view self.new).supply result }
+        ensures counted { (view self.new).failed ≡ (view self.old).failed }
+        ensures last { (view self.new).failing ≡ (view self.old).failing }
+        ensures began { (from : Origin) → began self.old from → began self.new from }
+    {
+        0
+    }
 
     /// How many pulls have failed.
     fn failures(&self) -> u64

@@ -15,7 +15,7 @@ pub use Calls.{Missing, Opened, Reclaimed, Removed, Renamed, Synced, SyncedNames
 pub use Calls.{Unwaited, UnwaitedNames, Waited, Wrote}
 pub use Disk.{IsAmong, MayLead, MayLeave, MayLeaveFile, after_call, after_calls, at_path, changed}
 pub use Disk.{for_file, sized, written}
-pub use Ends.{Closes, Discards, EndedFile, IsOnDisk, IsThere, IsUntouched, OpensDevice}
+pub use Ends.{Closes, Discards, EndedFile, IsOnDisk, IsThere, IsUntouched}
 pub use Ends.{TouchesItself}
 unfoldable pub use Held.*
 pub use Laws.{ChangedIfLockedLate, HasOneLock, IsUnchanged, LostIfNamesUnwaited, NumbersAreApart}

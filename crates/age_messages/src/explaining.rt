@@ -198,7 +198,7 @@ fn tell_position(rt: &HostRuntime, failures: &Failures<'_>) {
         tell_command(rt, saved, old_name(output));
         if output != "/dev/null" {
             let _ = eprintln!(rt;
-                "age_tool: if IN can be read from its start, age_tool decrypt is quicker"
+                "age_tool: resume reads only the rest of IN; from a fast disk, age_tool decrypt is quicker"
             );
         }
     } else if failures.named_by("--save").is_some() && failures.unsaved().is_none() {

@@ -1,4 +1,5 @@
--- The chunks of the chain if positions are kept, what of a source is unread, and the parts of a position's text.
+-- The chunks of the chain if positions are kept, what of a source is unread, and the parts of a
+-- position's text.
 -- Private: no public contract cites this module.
 use Rattle.std.specs.Prelude.{ℕ, List, [], ◌∷◌, Option, Some, None, ◌++◌, codes}
 use Rattle.age_file.specs.declared.position.PositionPolicy.{PositionPolicy}

@@ -1,7 +1,7 @@
 use Rattle.std.proofs.Common.{◌∙◌, ◌≡◌, ◌+◌, ◌++◌, ◌∷◌, [], sym, ap, arith, length, List, ℕ}
 use Rattle.std.proofs.lemmas.List.{length-append}
 use Rattle.age_file.specs.{chain, link, Mark}
-use Rattle.age_file.proofs.{chain_on, mark_all_of, marks_on}
+use Rattle.age_file.proofs.{chain_on, mark_all_of}
 use Rattle.age_file.proofs.links.Links.link.Goals as goal
 
 pub invariant_of-self : goal.invariant_of-self
@@ -13,4 +13,4 @@ invariant_of-self c =
     let size : mark.index ≡ length (chunks ++ chunk ∷ []) = omega (arith, c.self.invariant.1, length-append chunks (chunk ∷ [])) in
     let last = mark_all_of (chunks ++ chunk ∷ []) mark size (c.finalize.ensures _ c.requires.fed
     ∙ ap (λ (cs : List (List ℕ)). link (chain cs) chunk) (sym c.self.view_is) ∙ sym (chain_on chunks chunk)) in
-    rw now (last, size, marks_on chunks chunk c.self.inside.marks c.min-slot.result mark last c.self.invariant.2)
+    rw now (last, size, c.pairs_after-self-inside.ensures chunks chunk c.self.invariant.2 last (omega (arith, c.self.invariant.1)))

@@ -21,6 +21,7 @@ use Rattle.age_io.specs.contracts.tape.Piece.{the_row as Piece}
 use Rattle.age_io.specs.contracts.tape.Cell.{the_row as R}
 use Rattle.age_io.specs.contracts.tape.Cell.of as f
 use Rattle.age_io.proofs.tape.Cell.of.Statement.{statement}
+use Rattle.age_io.specs.inner.{went_by}
 use Rattle.age_io.proofs.tape.Cell.of.Code as code
 
 abbrev borrowed : Slot 3
@@ -36,7 +37,7 @@ of_spec 𝓤 𝓛 𝓜 𝓡 wired =
     f.Key.name code.function (code.unfolded 𝓤 𝓛.H 𝓜 𝓡 wired) (λ κs. (shr_vals, tt))
     (λ κs. (shr_Tells (named 0) κs.0 (Piece (named_lft 3 1 tt κs) (named_lft 3 2 tt κs)), tt)) (λ κs qs bounds a _ are.
     let p = a.0.now in let vs = shr_vals a.0 in
-    let made : Cell = record { bytes = unwrap_or (option_map (λ b. b.now.bytes) p.before) [] ++ p.bytes.now } in
+    let made : Cell = record { bytes = unwrap_or (option_map (λ b. b.now.bytes) p.before) [] ++ went_by p.more } in
     qed 𝓛 ((raw (alive 𝓛 f.signature κs qs) ⊛ ‵ (owns (types_at f.signature.params κs) a (vs, tt))) ∷ ‵ ftrue ∷ []) ∵
     split ! $ keep ! (0 ∷ []) $ enter ! _ _ _ _ _ $ alloc_all ! (λ l. pass_all ! refl ((tt, tt), tt) $
     sets ! (agg ! (no_more !)) refl (tt, tt) $ returns ! (look_at ! 0 refl) $ free_all ! refl $ suffices ! _
