@@ -473,12 +473,8 @@ class DiskTest(FilesCase):
         """An OUT that has the name of an option is waited for as another is, while it is written and at its end."""
         self.write("plain", bytes(17 << 20))
         self.expect(0, b"", "encrypt --pass pass --log 4 plain age")
-        waits = []
-        for name in ("out", "--no-sync"):
-            self.write("synced", b"")
-            self.tool("decrypt", "--pass", "pass", "--", "age", name, env=shim.loaded(SYNCED=self.path("synced")), check=True)
-            waits.append(self.read("synced").count(b"\n"))
-        self.see("an OUT named --no-sync", waits[0] == waits[1] > 1, waits)
+        waits = [self.synced(f"decrypt --pass pass -- age {name}", f"an OUT named {name}") for name in ("out", "--no-sync")]
+        self.see("an OUT named --no-sync is waited for", len(waits[0]) == len(waits[1]) > 1, waits)
 
     @needs("cc", "pkg-config", "fusermount3", root=True)
     def test_few_questions(self):
