@@ -96,6 +96,18 @@ class ProgramsCase(BindingsCase):
             line = f"{fault} {place}".strip() if prefix is None else f"{prefix}{MEANINGS[fault]} ({fault}{place and ', ' + place})"
             self.see(f"{what}: {fault}", (run.returncode, said) == (1, line + "\n"), run.stderr)
 
+    def see_streams_that_fail(self, what, program):
+        """A program doesn't end with 0 if it writes to a full disk, a byte or many, or reads a folder."""
+        for length in (1, 200_000):
+            self.write("whole", self.sealed(plain_of(length)))
+            with open(self.path("whole"), "rb") as file, open("/dev/full", "wb") as full:
+                run = subprocess.run([program, "pw"], cwd=self.room, stdin=file, stdout=full, stderr=subprocess.PIPE)
+            self.see(f"{what}: {length} bytes to a full disk", run.returncode in (1, 2) and run.stderr, run.returncode)
+        folder = os.open(self.room, os.O_RDONLY)
+        run = subprocess.run([program, "pw"], cwd=self.room, stdin=folder, capture_output=True)
+        os.close(folder)
+        self.see(f"{what}: a folder", run.returncode in (1, 2) and run.stderr and not run.stdout, run.returncode)
+
 
 class FilesTest(ProgramsCase):
     """What C and Python say of files."""
@@ -221,6 +233,7 @@ class CTest(ProgramsCase):
 
     def test_plain(self):
         self.see_checks("plain")
+        self.see_streams_that_fail("decrypt", self.made["plain", "decrypt"])
 
     def test_sanitized(self):
         self.see_checks("sanitized")
@@ -254,6 +267,7 @@ class CTest(ProgramsCase):
         ):
             run = subprocess.run([made, word], cwd=self.room, input=given, capture_output=True)
             self.see(f"salvage.c: {what}", (run.returncode, run.stdout, run.stderr.decode()) == want, run.returncode, run.stderr)
+        self.see_streams_that_fail("salvage.c", made)
 
     @needs("valgrind")
     def test_secrets(self):
@@ -401,6 +415,7 @@ class LanguagesTest(ProgramsCase):
             is_cut = text.startswith(run.stdout) and len(run.stdout) <= length // 65_536 * 65_536
             self.see(f"{what}: {length} bytes, cut", run.returncode == 1 and is_cut)
         self.see_reports(what, program, prefix)
+        self.see_streams_that_fail(what, program)
 
     def see_sample(self, what, words, last):
         """The program in bindings/README.md, over a file that age made: the text and the last bytes of it, as the language writes them."""

@@ -326,7 +326,7 @@ func TestKinds(t *testing.T) {
 		for _, at := range []bool{false, true} {
 			err := faultOf(it.data, it.key, at)
 			var fault *Fault
-			if !errors.As(err, &fault) {
+			if !errors.As(err, &fault) || fault.Chunk < -1 {
 				t.Error(it.what, at, err)
 			}
 			for _, kind := range []error{ErrWrongKey, io.ErrUnexpectedEOF, ErrDamaged} {
@@ -540,8 +540,8 @@ func TestMessages(t *testing.T) {
 		{append(full, 0), pw(), "agefile: something was appended to the file (21 Trailing)"},
 		{data, Passphrase(nil, MaxWork), "agefile: the passphrase must have 1 to 65,536 bytes (255 Misused)"},
 		{data, Passphrase(make([]byte, 65537), 0), "agefile: the passphrase must have 1 to 65,536 bytes (255 Misused)"},
-		{data, Passphrase([]byte("pw"), 0), "agefile: maxWork must be 1 to 22 (255 Misused)"},
-		{data, Passphrase([]byte("pw"), 23), "agefile: maxWork must be 1 to 22 (255 Misused)"},
+		{data, Passphrase([]byte("p"), 0), "agefile: maxWork must be 1 to 22 (255 Misused)"},
+		{data, Passphrase(make([]byte, 65536), 23), "agefile: maxWork must be 1 to 22 (255 Misused)"},
 		{data, Passphrase([]byte("pw"), -1), "agefile: maxWork must be 1 to 22 (255 Misused)"},
 		{data, FileKey(make([]byte, 15)), "agefile: the file key must have 16 bytes (255 Misused)"},
 		{data, SharedSecret(make([]byte, 31), make([]byte, 32)), "agefile: secret must have 32 bytes (255 Misused)"},

@@ -116,6 +116,97 @@ func TestShortWrites(t *testing.T) {
 	}
 }
 
+// A sink that takes less than it is given, and says nothing, is an error. What a Reader couldn't write
+// stays in it.
+func TestBriefWrites(t *testing.T) {
+	text := textOf(100_000)
+	data := sealed(t, text)
+	r, err := Open(bytes.NewReader(data), pw())
+	if err != nil {
+		t.Fatal(err)
+	}
+	var rest bytes.Buffer
+	if n, err := r.WriteTo(brief{}); n != 65_535 || err != io.ErrShortWrite {
+		t.Error("a Reader:", n, err)
+	}
+	if _, err := r.WriteTo(&rest); err != nil || !bytes.Equal(rest.Bytes(), text[65_535:]) {
+		t.Error("the rest of a Reader:", rest.Len(), err)
+	}
+	if n, err := opened(t, data).WriteTo(brief{}); n != 65_535 || err != io.ErrShortWrite {
+		t.Error("a File:", n, err)
+	}
+	if _, err := Salvage(brief{}, bytes.NewReader(data), pw()); err != io.ErrShortWrite {
+		t.Error("Salvage:", err)
+	}
+	if _, err := Create(brief{}, []byte("pw"), 1); err != io.ErrShortWrite {
+		t.Error("a header:", err)
+	}
+	w, err := Create(io.Discard, []byte("pw"), 1)
+	if err != nil {
+		t.Fatal(err)
+	}
+	w.out = brief{}
+	if first, again := w.Close(), w.Close(); first != io.ErrShortWrite || again != io.ErrShortWrite {
+		t.Error("the last chunk:", first, again)
+	}
+}
+
+// A source that fails, in the header, before a chunk, in one or after the last, isn't a cut file.
+func TestSalvageFails(t *testing.T) {
+	data := sealed(t, textOf(131_072))
+	for _, end := range []int{30, len(data) - 65_552, len(data) - 100, len(data)} {
+		file := io.MultiReader(bytes.NewReader(data[:end]), iotest.ErrReader(io.ErrClosedPipe))
+		if _, err := Salvage(io.Discard, file, pw()); err != io.ErrClosedPipe {
+			t.Error(end, err)
+		}
+	}
+}
+
+// broken is a file that can't be read from a place on.
+type broken struct {
+	*bytes.Reader
+	from int64
+}
+
+func (b *broken) ReadAt(into []byte, at int64) (int, error) {
+	if at+int64(len(into)) <= b.from {
+		return b.Reader.ReadAt(into, at)
+	}
+	n, _ := b.Reader.ReadAt(into[:max(0, b.from-at)], at)
+	return n, io.ErrClosedPipe
+}
+
+func max(a, b int64) int64 {
+	if a > b {
+		return a
+	}
+	return b
+}
+
+// A ReadAt that fails isn't damage: in the header, in the last chunk, and in one that is read later.
+func TestReadAtFails(t *testing.T) {
+	text := textOf(200_000)
+	data := sealed(t, text)
+	size := int64(len(data))
+	for _, from := range []int64{0, 30, size - 100} {
+		if _, err := OpenAt(&broken{bytes.NewReader(data), from}, size, pw()); err != io.ErrClosedPipe {
+			t.Error(from, err)
+		}
+	}
+	under := &broken{bytes.NewReader(data), size}
+	file, err := OpenAt(under, size, pw())
+	if err != nil {
+		t.Fatal(err)
+	}
+	under.from = size - 10_000 // in chunk 2
+	for _, n := range []int{200_000, 190_000} {
+		got := make([]byte, n)
+		if n, err := file.ReadAt(got, 0); n != 131_072 || err != io.ErrClosedPipe || !bytes.Equal(got[:n], text[:n]) {
+			t.Error(n, err)
+		}
+	}
+}
+
 // testing/iotest's rules for readers, over sources that return in each way that io.Reader allows.
 func TestIotest(t *testing.T) {
 	for _, n := range lengths {
@@ -208,6 +299,10 @@ func TestNothing(t *testing.T) {
 	}
 	if n := file.Size(); n != 0 {
 		t.Error(n)
+	}
+	var reader Reader
+	if n, err := reader.WriteTo(io.Discard); n != 0 || err != errNotOpen {
+		t.Error(n, err)
 	}
 	for what, err := range map[string]error{
 		"Open": second(Open(nil, pw())), "OpenAt": second(OpenAt(nil, 5, pw())), "Create": second(Create(nil, []byte("pw"), 1)),

@@ -5,6 +5,7 @@ import (
 	"crypto/cipher"
 	"encoding/binary"
 	"errors"
+	"io"
 	"math/big"
 	"math/bits"
 	"os"
@@ -135,9 +136,18 @@ func TestRecipients(t *testing.T) {
 			t.Error(bad, err)
 		}
 	}
+	// (what computes X25519 gives zeros for a point of low order, or fails)
 	zero := func(secret, point []byte) ([]byte, error) { return make([]byte, 32), nil }
-	if _, err := CreateX25519(os.Stdout, zero, newChacha, public(text)); err == nil {
-		t.Error("a point of low order")
+	fails := func(secret, point []byte) ([]byte, error) {
+		if point[0] == 9 {
+			return exchange(secret, point)
+		}
+		return nil, io.ErrUnexpectedEOF
+	}
+	for _, it := range []Exchange{zero, fails} {
+		if _, err := CreateX25519(os.Stdout, it, newChacha, public(text)); err == nil || !strings.Contains(err.Error(), "low order") {
+			t.Error("a point of low order:", err)
+		}
 	}
 	wrong := func(key []byte) (cipher.AEAD, error) { return newChacha(make([]byte, 32)) }
 	if _, err := CreateX25519(os.Stdout, exchange, wrong, public(text)); err == nil {

@@ -1,9 +1,17 @@
 /* Files in memory by one call: texts of all lengths that matter, files that are cut or damaged, other passphrases, and rooms that are too
- * short, at whose end memory is guarded by the sanitizers.
+ * short, at whose end memory is guarded by the sanitizers. No key is left in memory that is freed.
  *
  * usage: once
  */
+#define _DEFAULT_SOURCE
+#include <stdlib.h>
+
+static void free_wiped(void *at);
+
+#undef _DEFAULT_SOURCE /* the file that is tried defines it */
+#define free free_wiped
 #include "../once.c"
+#undef free
 
 #include <stdio.h>
 
@@ -14,6 +22,14 @@ static void see(int holds, const char *what, size_t len) {
         failed++;
         printf("%s: %zu bytes\n", what, len);
     }
+}
+
+/* What held keys is overwritten before it is freed. */
+static void free_wiped(void *at) {
+    size_t left = 0;
+    for (size_t i = 0; i < sizeof(struct once); i++) left += ((uint8_t *)at)[i] != 0;
+    see(left == 0, "left of a call, which held keys", left);
+    free(at);
 }
 
 static uint8_t *room_of(size_t len) {
@@ -31,6 +47,7 @@ static void try_length(size_t len) {
     size_t most = age_once_room(len), file_len, text_len;
     uint8_t *text = room_of(len), *file = room_of(most), *back = room_of(most);
     for (size_t i = 0; i < len; i++) text[i] = (uint8_t)(i * 2654435761u >> 13);
+    see(most >= AGE_C_SEAL_FRONT + len + 16 * (len / 65536 + (len % 65536 != 0 || len == 0)), "the room", len);
     see(age_once_encrypt(text, len, pass, 2, 1, file, most - 1, &file_len) == -1 && file_len == 0, "too little room", len);
     see(age_once_encrypt(text, len, pass, 2, 23, file, most, &file_len) == AGE_C_MISUSED && file_len == 0, "a work factor of 23", len);
     see(age_once_encrypt(text, len, pass, 2, 1, file, most, &file_len) == 0 && file_len <= most, "encrypting", len);

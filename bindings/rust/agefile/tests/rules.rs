@@ -1,6 +1,6 @@
 //! What `std::io` says of readers and writers.
 
-use agefile::{decrypt, encrypt, AgeFile, AgeReader, AgeWriter, Key};
+use agefile::{decrypt, encrypt, salvage, AgeFile, AgeReader, AgeWriter, Key};
 use std::io::{self, BufRead, Cursor, ErrorKind, Read, Seek, SeekFrom, Write};
 
 const LENGTHS: [usize; 7] = [0, 1, 65_535, 65_536, 65_537, 131_072, 200_000];
@@ -77,6 +77,9 @@ fn readers() {
             }
         }
         see_reader(AgeFile::open(Cursor::new(&data[..]), key()).unwrap(), &text);
+        let mut out = Vec::new();
+        let found = salvage(Pieces(&data[..], 9_999, false), key(), &mut out).unwrap();
+        assert!(found.is_whole() && out == text);
     }
 }
 
@@ -119,4 +122,42 @@ fn writers() {
         left = &left[n..];
     }
     assert_eq!(decrypt(&file.finish().unwrap(), key()).unwrap(), text);
+}
+
+/// A source that fails, and a sink that takes everything and can't pass it on.
+struct Broken;
+
+impl Read for Broken {
+    fn read(&mut self, _: &mut [u8]) -> io::Result<usize> {
+        Err(ErrorKind::BrokenPipe.into())
+    }
+}
+
+impl Write for Broken {
+    fn write(&mut self, bytes: &[u8]) -> io::Result<usize> {
+        Ok(bytes.len())
+    }
+
+    fn flush(&mut self) -> io::Result<()> {
+        Err(ErrorKind::BrokenPipe.into())
+    }
+}
+
+/// A file isn't whole if its sink can't pass it on, and a source that fails isn't a cut file.
+#[test]
+fn failures_are_reported() {
+    let data = encrypt(&text_of(131_072), b"pw", 1).unwrap();
+    let mut file = AgeWriter::create(Broken, b"pw", 1).unwrap();
+    file.write_all(b"text").unwrap();
+    let mut errors = vec![
+        file.flush().unwrap_err(),
+        file.finish().map(drop).unwrap_err(),
+        salvage(&data[..], key(), Broken).unwrap_err(),
+    ];
+    for end in [30, data.len() - 65_552, data.len() - 100, data.len()] {
+        errors.push(salvage((&data[..end]).chain(Broken), key(), io::sink()).unwrap_err());
+    }
+    for error in errors {
+        assert_eq!(error.kind(), ErrorKind::BrokenPipe);
+    }
 }
