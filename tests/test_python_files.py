@@ -398,7 +398,8 @@ class PythonFilesTest(BindingsCase):
         with agefile.open(out, "wb", passphrase="pw", work=1) as file:
             for turn in range(400):
                 piece = rnd.randbytes(rnd.choice((0, 1, 100, 16_383, 16_384, 16_385, 70_000)))
-                file.write((bytes, bytearray, memoryview)[turn % 3](piece))
+                piece = piece[len(piece) % 4:] if turn % 4 == 3 else piece
+                file.write((bytes, bytearray, memoryview, lambda it: memoryview(it).cast("I"))[turn % 4](piece))
                 text += piece
                 if file.tell() != len(text):
                     break

@@ -395,9 +395,9 @@ func TestReadOn(t *testing.T) {
 		t.Fatal(err)
 	}
 	var got []byte
-	into := make([]byte, 50000)
+	into := make([]byte, 70000)
 	for stumbled := 0; ; {
-		n, err := reader.Read(into)
+		n, err := reader.Read(into[:50000+stumbled%2*20000]) // (into a chunk's room, and into a whole one)
 		got = append(got, into[:n]...)
 		if err == io.EOF {
 			if stumbled == 0 {
