@@ -255,6 +255,8 @@ class CTest(ProgramsCase):
         begin = len(data) - 200_000 - 4 * 16
         lost = "salvage: lost: from byte {} to before byte {}\n"
         bad = flipped(flipped(data, begin + 5), begin + 2 * BLOCK)
+        long = plain_of(1_200_000)
+        self.write("bare", b"pw")  # without a newline
         self.write("long", b"w" * 65_536 + b"\nmore")
         for what, word, given, want in (
             ("a whole file", "pw", data, (0, text, "")),
@@ -262,6 +264,8 @@ class CTest(ProgramsCase):
                                                lost.format(0, 65_536) + lost.format(131_072, 196_608))),
             ("a cut file", "pw", data[:begin + BLOCK + 116], (1, text[:65_536] + bytes(100), lost.format(65_536, 65_636)
                                                               + "salvage: the text may have been longer\n")),
+            ("a file that is longer than what a header may be", "bare", self.sealed(long), (0, long, "")),
+            ("no chunk that opens", "pw", flipped(self.sealed(b"text"), -1), (1, b"", "salvage: no chunk opens\nsalvage: the text may have been longer\n")),
             ("another passphrase", "other", data, (1, b"", "salvage: 13 WrongKey\n")),
             ("a passphrase that is too long", "long", data, (1, b"", "salvage: 255 Misused\n")),
         ):
