@@ -372,8 +372,11 @@ class DiskTest(FilesCase):
         """A file system that can't sync is no fault, and one that fails is."""
         for error in (errno.EINVAL, errno.EOPNOTSUPP):
             self.remove("new", "saved")
-            self.expect(0, b"", "decrypt --pass pass age new", f"no fsync, {error}", {"FSYNC": error})
-            self.expect(1, chunk_fault(2), "decrypt --pass pass --save saved cut out", f"no fsync of a position, {error}", {"FSYNC": error})
+            said = b"age_tool: %b: its file system can't sync; it may not be on the disk yet\n"
+            self.expect(0, said % b"new", "decrypt --pass pass age new", f"no fsync, {error}", {"FSYNC": error})
+            self.expect(0, b"", "decrypt --no-sync --pass pass age other", f"no fsync is wanted, {error}", {"FSYNC": error})
+            stopped = chunk_fault(2) + said % b"out"
+            self.expect(1, stopped, "decrypt --pass pass --save saved cut out", f"no fsync of a position, {error}", {"FSYNC": error})
             self.see(f"no fsync, {error}: both", self.read("new") == PLAIN and self.is_position("saved", 2))
         for error, only in ((errno.EIO, "f"), (errno.EIO, "d"), (errno.EROFS, "f"), (errno.EROFS, "d")):
             self.remove("new", "saved")

@@ -352,6 +352,11 @@ impl Ended {
     {
         &self.took
     }
+
+    /// Whether its file system has no way to wait until it has reached the disk.
+    pub fn is_unwaited(&self) -> bool {
+        self.machine.is_unwaited()
+    }
 }
 
 /// A file of the machine that is written, or standard output or error. A regular file keeps its

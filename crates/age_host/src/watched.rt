@@ -173,6 +173,9 @@ impl<'r, 'w> WatchedOut<'r, 'w> {
                 if id.is_some() && id != FileId::at(rt, name) {
                     failures.note_moved(name);
                 }
+                if ended.is_unwaited() {
+                    failures.note_unwaited(name);
+                }
                 log.put(&label, ended.took());
             }
             Err(error) => {

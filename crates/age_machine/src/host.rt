@@ -251,6 +251,8 @@ pub struct HostMachine {
     rt: HostRuntime,
     calls: Calls,
     failed: Failed,
+    // A file system had no way to wait for a file.
+    is_unwaited: bool,
 }
 
 impl HostMachine {
@@ -264,6 +266,7 @@ impl HostMachine {
             rt: *rt,
             calls: Calls::new(),
             failed: Failed::new(),
+            is_unwaited: false,
         }
     }
 
@@ -275,7 +278,13 @@ impl HostMachine {
             rt: self.rt,
             calls: self.calls.again(),
             failed: Failed::new(),
+            is_unwaited: self.is_unwaited,
         }
+    }
+
+    /// Whether a file system had no way to wait until a file had reached the disk.
+    pub fn is_unwaited(&self) -> bool {
+        self.is_unwaited
     }
 
     /// Takes a file that is open to be written. Its path may lead elsewhere by now.
@@ -443,6 +452,7 @@ impl Machine for HostMachine {
             }
             Ok(false) => {
                 self.calls.note(&Word::Unwaited(file.node));
+                self.is_unwaited = true;
                 Ok(())
             }
             Err(error) => Err(self.break_file(file, error)),

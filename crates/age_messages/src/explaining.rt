@@ -67,6 +67,12 @@ fn explain_files(rt: &HostRuntime, failures: &Failures<'_>) {
             "age_tool: OUT was moved: {name} leads to another file now, or to none"
         );
     }
+    if let Some(name) = failures.unwaited() {
+        let name = Leading(name.as_bytes());
+        let _ = eprintln!(rt;
+            "age_tool: {name}: its file system can't sync; it may not be on the disk yet"
+        );
+    }
     if failures.is_of(&["encrypt"])
         && let Some(name) = failures.named_by("--pass")
         && let Some(what) = failures.untypable()

@@ -179,6 +179,7 @@ pub struct Failures<'w> {
     pub(crate) output: Cell<Option<&'w str>>,
     cut_off: Cell<Option<&'w str>>,
     moved: Cell<Option<&'w str>>,
+    unwaited: Cell<Option<&'w str>>,
     is_left_empty: Cell<bool>,
     typing: Cell<Typing>,
 }
@@ -196,6 +197,7 @@ impl<'w> Failures<'w> {
             output: Cell::new(None),
             cut_off: Cell::new(None),
             moved: Cell::new(None),
+            unwaited: Cell::new(None),
             is_left_empty: Cell::new(false),
             typing: Cell::new(Typing::new()),
         }
@@ -310,6 +312,16 @@ impl<'w> Failures<'w> {
     /// The name of a file that was written, at which another file or none is now.
     pub(crate) fn moved(&self) -> Option<&'w str> {
         self.moved.get()
+    }
+
+    /// Keeps the name of a file that was written, if its file system can't wait for the disk.
+    pub fn note_unwaited(&self, name: &'w str) {
+        self.unwaited.set(Some(name));
+    }
+
+    /// The name of a file that was written, whose file system can't wait for the disk.
+    pub(crate) fn unwaited(&self) -> Option<&'w str> {
+        self.unwaited.get()
     }
 
     /// Keeps that a file that isn't to be replaced is empty.
