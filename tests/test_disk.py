@@ -25,6 +25,11 @@ def unsynced(name, error):
     return WRITE + reason(f"write {name} to disk", error)
 
 
+def unwaited(name):
+    """What is said of an OUT whose file system can't sync."""
+    return b"age_tool: %b: its file system can't sync; it may not be on the disk yet\n" % name.encode()
+
+
 class DiskTest(FilesCase):
     """One test for each place where a file can be lost."""
 
@@ -207,7 +212,7 @@ class DiskTest(FilesCase):
         """A file that the system makes up has no length of its own, and takes what is written to it."""
         self.write("name", b"renamed")
         self.expect(0, b"", "encrypt --pass pass --log 4 name short")
-        self.expect(0, b"", "decrypt --pass pass short /proc/self/comm")
+        self.expect(0, unwaited("/proc/self/comm"), "decrypt --pass pass short /proc/self/comm")
         self.expect(1, unwritten("/proc/self/limits", errno.EACCES), "decrypt --pass pass short /proc/self/limits", **as_nobody())
 
     def test_two_runs(self):
@@ -372,10 +377,9 @@ class DiskTest(FilesCase):
         """A file system that can't sync is no fault, and one that fails is."""
         for error in (errno.EINVAL, errno.EOPNOTSUPP):
             self.remove("new", "saved")
-            said = b"age_tool: %b: its file system can't sync; it may not be on the disk yet\n"
-            self.expect(0, said % b"new", "decrypt --pass pass age new", f"no fsync, {error}", {"FSYNC": error})
+            self.expect(0, unwaited("new"), "decrypt --pass pass age new", f"no fsync, {error}", {"FSYNC": error})
             self.expect(0, b"", "decrypt --no-sync --pass pass age other", f"no fsync is wanted, {error}", {"FSYNC": error})
-            stopped = chunk_fault(2) + said % b"out"
+            stopped = chunk_fault(2) + unwaited("out")
             self.expect(1, stopped, "decrypt --pass pass --save saved cut out", f"no fsync of a position, {error}", {"FSYNC": error})
             self.see(f"no fsync, {error}: both", self.read("new") == PLAIN and self.is_position("saved", 2))
         for error, only in ((errno.EIO, "f"), (errno.EIO, "d"), (errno.EROFS, "f"), (errno.EROFS, "d")):
