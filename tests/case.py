@@ -32,7 +32,7 @@ def twice(one, other):
 # The lines that are advice for people: they may change, and have tests of their own (tests/test_program.py).
 ADVICE = re.compile(
     rb"age_tool: (?:.* \(age_tool help \d+\)$|position saved in |resume reads only |no position was saved|- is a file |--max-log does nothing "
-    rb"|the passphrase in |work factor |OUT was moved: )"
+    rb"|the passphrase in |work factor |OUT was moved: |none of them was given|only one of them )"
 )
 
 

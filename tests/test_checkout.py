@@ -67,15 +67,17 @@ class CheckoutTest(Case):
         self.see("check tests what it proved", run.stdout.splitlines() == [str(CRATES / "age_tool/out/age_tool"), str(TOP / "bindings/out"), "None"], run)
 
     def test_stale_program(self):
-        """`age_tool` builds again what was changed, also by a file that is older than the program, and what is gone."""
+        """`age_tool` builds again what was changed, also by a file that is older than the program, what is gone, and by another kit."""
         top = self.copy_of_sources("c d")
         (top / "build").write_text('#!/bin/sh\necho built\n')
         program = top / "crates/age_tool/out/age_tool"
         program.parent.mkdir()
-        source = top / "crates/age_kdf/src/lib.rt"
+        source, kit = top / "crates/age_kdf/src/lib.rt", self.path("rt")
+        kit.touch(0o755)
+        env = {**os.environ, "PATH": f"{self.room}:{os.environ['PATH']}"}
 
         def has_built(name, wanted):
-            said = subprocess.run([top / "age_tool"], capture_output=True, text=True)
+            said = subprocess.run([top / "age_tool"], capture_output=True, text=True, env=env)
             self.see(name, ("built" in said.stdout) == wanted, said)
             shutil.copy("/usr/bin/true", program)
             later = time.time() + 0.01
@@ -90,3 +92,7 @@ class CheckoutTest(Case):
         next((top / "crates/age_kdf/proofs").rglob("*.antt")).unlink()
         has_built("a removed file", True)
         has_built("nothing is gone since", False)
+        kit.write_text("another")
+        has_built("another kit", True)
+        env["PATH"] = os.environ["PATH"].replace(os.path.dirname(shutil.which("rt")), "")
+        has_built("no kit", False)

@@ -6,7 +6,9 @@ import fcntl
 import os
 import pathlib
 import random
+import resource
 import shutil
+import signal
 import stat
 import subprocess
 import threading
@@ -23,6 +25,18 @@ FUSED = pathlib.Path(__file__).parent.parent / "tools" / "fused.c"
 
 def unsynced(name, error):
     return WRITE + reason(f"write {name} to disk", error)
+
+
+def within_memory():
+    resource.setrlimit(resource.RLIMIT_AS, (500_000 << 10, 500_000 << 10))
+
+
+def resident(process):
+    """How many bytes of its memory a process has touched; none if it has ended."""
+    try:
+        return int(pathlib.Path(f"/proc/{process}/statm").read_text().split()[1]) * resource.getpagesize()
+    except (OSError, IndexError):
+        return 0
 
 
 def unwaited(name):
@@ -806,6 +820,22 @@ class DiskTest(FilesCase):
             self.write(name, held)
             ended = self.tool("decrypt", "--no-clobber", "--pass", "pass", "age", name)
             self.see(f"an output that is {name}", (ended.stderr, ended.advice) == (refused(name, more), b""), ended.stderr)
+
+    def test_ends_in_scrypt(self):
+        """A run of encrypt that is killed, or refused memory, while it derives the key has made no OUT and changed none. An OUT that has to
+        be new is refused before."""
+        self.write("old", b"old text")
+        for name in ("new", "old"):
+            run = self.started(f"encrypt --pass pass --log 18 plain {name}")
+            waits_for(lambda run=run: resident(run.pid) > 100 << 20)
+            self.see(f"{name}: not there yet", name == "old" or not self.is_there(name))
+            run.terminate()
+            self.ends(f"{name}: killed", run, -signal.SIGTERM, b"")
+        costly = "encrypt --pass pass --log 22 plain"
+        self.expect(1, b"age_tool: 28 Memory\n", f"{costly} new", preexec_fn=within_memory)
+        self.expect(1, b"age_tool: 28 Memory\n", f"{costly} old", preexec_fn=within_memory)
+        self.expect(1, refused("old"), f"{costly} old --no-clobber", preexec_fn=within_memory)
+        self.see("none is made, and none is changed", not self.is_there("new") and self.read("old") == b"old text")
 
     def test_shared(self):
         """No more than 65 bytes of a shared secret are read: a pipe that stays open isn't waited for."""

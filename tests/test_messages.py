@@ -1,5 +1,6 @@
 """What people read after a fault: of each number, in which circumstance, the file and the sentence, and that docs/FAULTS.md says to do the
-same; and that runs which go well say nothing of it. (What the system answered is in the transcripts, test_disk and test_saving.)"""
+same; what they read after words that are refused; and that runs which go well say nothing of it. (More of what the system answered is in
+the transcripts, test_disk and test_saving.)"""
 import os
 import re
 import resource
@@ -11,8 +12,9 @@ from tools.workspace import TOP
 
 ZEROS = "A" * 43
 VERSION, SCRYPT, END = "age-encryption.org/v1\n", f"-> scrypt {22 * 'A'} ", f"--- {ZEROS}\n"
-# Faults that no test can make: more than 2^48 chunks, and 2^63 reads. What the system answered is said of 26 and 27.
-UNMADE = {22, 26, 27, 29}
+# Faults that no run has, each with its sentence and the reason.
+UNMADE = ((22, "more than 2^48 chunks: split the plaintext", "they have 2^64 bytes, and a file has fewer than 2^63"),
+          (29, "read 2^63 times without ending: supply an input that ends", "at a million reads a second these take 292,000 years"))
 RETRY = "if you trust the file, retry with "
 KEYS = "age_tool inspect shows its stanzas; a key file is for age -d -i, or for python3 -m agefile decrypt --identity"
 NO_LINE = "this may not be an age file: its first line has no newline"
@@ -64,6 +66,59 @@ ROWS = (
     (31, "altered", bytes(200_000), f"not the text of the position: {OLD}", "resume --position position --old altered --pass pass plain.age back"),
 )
 
+# What the system answered. Each: the number, the words, and what is said.
+MISSING, FOLDER = "No such file or directory", "Is a directory"
+MACHINE = (
+    (26, "encrypt --pass none plain back", f"can't open none: {MISSING}; --pass takes the name of a file that holds the passphrase"),
+    (26, "decrypt --pass=none plain.age back", f"can't open none: {MISSING}; --pass takes the name of a file that holds the passphrase"),
+    (26, "decrypt --shared none plain.age back", f"can't open none: {MISSING}; --shared takes the name of a file that holds the shared secret"),
+    (26, "encrypt --pass pass none back", f"can't open none: {MISSING}"),
+    (26, "encrypt --pass folder plain back", f"can't open folder: {FOLDER}; to encrypt a folder, pack it first, as by tar"),
+    (26, "encrypt --pass pass folder back", f"can't open folder: {FOLDER}; to encrypt a folder, pack it first, as by tar"),
+    (26, "decrypt --pass pass folder back", f"can't open folder: {FOLDER}"),
+    (26, "resume --position none --old part --pass pass plain.age back", f"can't open none: {MISSING}"),
+    (26, "inspect plain/more", "can't open plain/more: Not a directory"),
+    (26, "inspect loop", "can't open loop: Too many levels of symbolic links"),
+    (26, "inspect /proc/self/mem", "can't read /proc/self/mem: Input/output error"),
+    (27, "encrypt --pass pass --log 1 plain none/new", f"can't create none/new: {MISSING}"),
+    (27, "decrypt --pass pass plain.age folder", f"can't write folder: {FOLDER}"),
+    (27, "decrypt --pass pass plain.age /dev/full", "can't write /dev/full: No space left on device"),
+    (27, "decrypt --no-clobber --pass pass plain.age part", "part exists, and --no-clobber was given"),
+    (27, "decrypt --pass pass --save plain/saved plain.age back", "can't write plain/saved: Not a directory\nage_tool: no position was saved"),
+    (27, "decrypt --no-clobber --pass pass plain.age empty", "empty exists, and --no-clobber was given; it is empty: a run that was killed may have left it"),
+)
+
+# Words that are refused. Each: the words, and what is said.
+NONE_GIVEN, TWO_GIVEN = "none of them was given; --pass takes the name of a file that holds the passphrase", "only one of them can be given"
+ONE_KEY, ONE_WAY = "give one of --pass, --file-key and --shared", "give one of --clear and --pass"
+TWICE, KEY = "same file named twice", 32 * "0"
+REFUSED = (
+    ("decrypt plain.age back", ONE_KEY, NONE_GIVEN), ("resume --position position --old part plain.age back", ONE_KEY, NONE_GIVEN),
+    (f"decrypt --pass pass --file-key {KEY} plain.age back", ONE_KEY, TWO_GIVEN),
+    (f"decrypt --shared=secret --file-key {KEY} plain.age back", ONE_KEY, TWO_GIVEN),
+    (f"decrypt --pass pass --file-key {KEY} --max-log 9 plain.age back", ONE_KEY, TWO_GIVEN),
+    ("drill script plain.age", ONE_WAY, NONE_GIVEN), ("drill --clear --pass pass script plain.age", ONE_WAY, TWO_GIVEN),
+    ("decrypt --file-key 00 plain.age back", "bad file key", "--file-key takes 32 hexadecimal digits"),
+    ("encrypt --pass empty plain back", "bad passphrase file", "empty: it is empty"),
+    ("encrypt --pass newline plain back", "bad passphrase file", "newline: it holds nothing but a newline"),
+    ("encrypt --pass letters plain back", "bad passphrase file", "letters: it holds more than 65,536 bytes"),
+    ("decrypt --shared pass plain.age back", "bad shared file", "pass: it holds 14 of 64 bytes"),
+    ("decrypt --shared plain plain.age back", "bad shared file", "plain: it holds more than 64 bytes"),
+    ("encrypt --pass pass --random wrong plain back", "bad random file", "wrong: it holds 12 of 48 bytes"),
+    ("drill --pass pass script plain.age", "bad script line 2", "script:2: no line of a script, or it reaches past the payload's end"),
+    ("drill --clear 1script plain", "bad script line 1", "./1script:1: no line of a script, or it reaches past the payload's end"),
+    ("drill --clear long none", "script too long", "long: it has more than 1,000 lines or 1,048,576 bytes"),
+    ("drill --clear script huge", "payload too long", "huge: its payload has more than 16,777,216 bytes"),
+    ("encrypt --pass pass plain ./plain", TWICE, "./plain and plain are the same file"),
+    ("encrypt --pass pass plain pass", TWICE, "--pass and OUT are the same file: pass"),
+    ("encrypt plain pass --pass=pass", TWICE, "OUT and --pass are the same file: pass"),
+    ("encrypt --no-sync --pass pass --random plain --progress full.age plain", TWICE, "--random and OUT are the same file: plain"),
+    ("decrypt --pass pass --save plain.age --no-clobber plain.age back", TWICE, "--save and IN are the same file: plain.age"),
+    ("resume --position=position --save=position --old part --pass pass plain.age position", TWICE, "--position and --save and OUT are the same file: position"),
+    ("resume --position position --old plain.age --shared pass -- plain.age back", TWICE, "--old and IN are the same file: plain.age"),
+    ("drill --clear fifo fifo", TWICE, "SCRIPT and IN are the same file: fifo"),
+)
+
 
 def within_memory():
     resource.setrlimit(resource.RLIMIT_AS, (500_000 << 10, 500_000 << 10))
@@ -74,7 +129,9 @@ class MessagesTest(Case):
 
     def setUp(self):
         super().setUp()
-        for name, held in (("pass", b"correct horse\n"), ("wrong", b"wrong horse\n"), ("plain", os.urandom(200_000)), ("full", os.urandom(65_536))):
+        os.mkdir(self.path("folder"))
+        os.symlink("loop", self.path("loop"))
+        for name, held in (("pass", b"correct horse\n"), ("wrong", b"wrong horse\n"), ("empty", b""), ("plain", os.urandom(200_000)), ("full", os.urandom(65_536))):
             self.write(name, held)
         for name in ("plain", "full"):
             self.tool(*f"encrypt --pass pass --log 10 {name} {name}.age".split())
@@ -100,7 +157,32 @@ class MessagesTest(Case):
             to_do = RETRY if number == 11 else sentence.partition(": ")[2]
             self.see(f"FAULTS says to do the same after {number} of {name}", to_do in row or "above 22" in sentence, to_do, row)
         known = {int(row["No."]) for row in tables((TOP / "docs" / "FAULTS.md").read_text()) if "No." in row}
-        self.see("each fault", {it[0] for it in ROWS} | UNMADE == known, known)
+        self.see("each fault", {it[0] for it in (*ROWS, *UNMADE, *MACHINE)} == known, known)
+        for number, sentence, reason in UNMADE:
+            row, said = re.search(rf"^\| {number} \| .*$", page, re.M)[0], (TOP / "crates/age_messages/src/hints.rt").read_text()
+            self.see(f"FAULTS says to do the same after {number}", f'"{sentence}"' in said and sentence.partition(": ")[2] in row, reason)
+
+    def test_answers(self):
+        for number, words, said in MACHINE:
+            ended = self.tool(*words.split())
+            said = f"age_tool: {number} {'Read' if number == 26 else 'Write'}\nage_tool: {said}\n".encode()
+            self.see(words, (ended.returncode, ended.stderr + ended.advice) == (1, said), ended.stderr, ended.advice)
+
+    def test_refused(self):
+        """No file changes."""
+        for name, held in (("newline", b"\n"), ("letters", 65_537 * b"x"), ("script", b"end\nstop\n"), ("long", 1_001 * b"end\n"), ("huge", bytes(16_777_217))):
+            self.write(name, held)
+        self.write("1script", b"end")
+        os.mkfifo(self.path("fifo"))
+        files = [it for it in self.room.iterdir() if it.is_file()]
+        before = [it.read_bytes() for it in files]
+        for words, line, said in REFUSED:
+            ended = self.tool(*words.split())
+            said = f"age_tool: {line}\nage_tool: {said}\n".encode()
+            self.see(words, (ended.returncode, ended.stderr + ended.advice) == (2, said), ended.stderr, ended.advice)
+        ended = self.tool("encrypt", "--no-sync", "--pass", "pass", "", "")
+        self.see("two empty names", ended.stderr == f'age_tool: {TWICE}\nage_tool: IN and OUT are the same file: ""\n'.encode(), ended.stderr)
+        self.see("no file changes", [it.read_bytes() for it in files] == before and not self.is_there("back"))
 
     def test_standard_input(self):
         """It has no name."""
@@ -109,7 +191,10 @@ class MessagesTest(Case):
             self.see(f"{what} came", ended.advice == b"age_tool: standard input: " + said + b" (age_tool help 8)\n", ended.advice)
 
     def test_nothing_to_say(self):
-        for words in ("encrypt --pass pass --log 1 plain new.age", "decrypt --pass pass plain.age back", "decrypt --pass pass --save none plain.age back",
-                      "resume --position position --old part --pass pass plain.age back", "inspect x25519", "help 17"):
+        self.write("odd", f"{VERSION}{SCRYPT}x\n{ZEROS}\n{END}".encode())
+        for words in (
+            "encrypt --pass pass --log 1 plain new.age", "decrypt --pass pass plain.age back", "decrypt --pass pass --save none plain.age back",
+            "resume --position position --old part --pass pass plain.age back", "inspect x25519", "inspect odd", "help 17",
+        ):
             ended = self.tool(*words.split())
             self.see(words, (ended.returncode, ended.stderr, ended.advice) == (0, b"", b""), ended.stderr, ended.advice)

@@ -57,13 +57,20 @@ class ProgramTest(Case):
     def test_words(self):
         self.ends("encrypt", self.encrypted, 0)
         bad = b"age_tool: bad command line\nage_tool: "
-        self.ends("a word that isn't UTF-8", self.tool(b"\xff"), 2, b"", bad + b"\\xff: it isn't UTF-8, as a name must be\n")
+        for words in ((b"\xff",), (b"inspect", b"\xff", b"\xfe")):
+            self.ends(f"the first word that isn't UTF-8, of {len(words)}", self.tool(*words), 2, b"", bad + b"\\xff: it isn't UTF-8, as a name must be\n")
+        for length, cut in ((1_000, b""), (1_001, b"..")):
+            said = bad + 1_000 * rb"\xff" + cut + b": it isn't UTF-8, as a name must be\n"
+            self.ends(f"a word of {length} bytes that aren't UTF-8", self.tool(length * b"\xff"), 2, b"", said)
+        said = bad + 600 * rb"\xff" + 400 * b"n" + b"..: it isn't UTF-8, as a name must be\n"
+        self.ends("a word of bytes and letters", self.tool(600 * b"\xff" + 600 * b"n"), 2, b"", said)
         said = bad + rb"caf\xe9\u{1b}[2J\n: it isn't UTF-8, as a name must be" + b"\n"
         self.ends("a name that isn't UTF-8", self.decrypt(b"caf\xe9\x1b[2J\n", "back"), 2, b"", said)
 
     def test_usage(self):
         """The line says that a key has to be given, which the rules of the arguments can't say. A command's help fits a terminal."""
         key = "<--pass <FILE>|--file-key <HEX>|--shared <FILE>>"
+        self.see("the program's help", all(len(it) <= 80 for it in self.tool("--help").stdout.splitlines()))
         for command, which in (("encrypt", ""), ("inspect", ""), ("decrypt", key), ("resume", key), ("drill", "<--clear|--pass <FILE>>")):
             shown = self.tool(command, "--help").stdout.decode()
             with self.subTest(command):
@@ -239,6 +246,7 @@ class ProgramTest(Case):
             ("encrypt -r age1 plain back", "for a recipient: python3 -m agefile encrypt --recipient KEY IN OUT"),
             ("encrypt -R all plain back", "for recipients: python3 -m agefile encrypt --recipients-file FILE IN OUT"),
             ("encrypt --armor plain back", "age_tool writes no armor: leave it out"), ("encrypt -f plain back", "without --no-clobber an existing OUT is overwritten"),
+            ("-v", "the version is shown by age_tool --version"), ("decrypt --pass pass plain.age cut.age back", "a command takes one file at a time"),
             ("encrypt --log -1 plain back", "for a file of that name, write './-1'"), ("decrypt --passs pass plain.age back", "a similar argument exists: '--pass'"),
         ):
             ended = self.tool(*words.split())
@@ -250,7 +258,7 @@ class ProgramTest(Case):
         """What the parser says of a word shows codes, as all other lines do."""
         name, shown = "c\x1b]0;a\x07\r\u202e\u200b\nage_tool: 27 Write", rb"c\u{1b}]0;a\u{7}\r\u{202e}\u{200b}\nage_tool: 27 Write"
         for words, begins in (
-            (("decrypt", "--pass", "pass", "plain.age", "back", name), b"age_tool: unexpected argument '%s'\n\nUsage: "),
+            (("decrypt", "--pass", "pass", "plain.age", "back", name), b"age_tool: unexpected argument '%s'\n\n  tip: a command takes one file at a time\n\nUsage: "),
             ((name,), b"age_tool: no such command: '%s'\n\nUsage: "), (("encrypt", "--" + name), b"age_tool: unexpected argument '--%s'\n\n  tip: "),
             (("encrypt", f"--log={name}"), b"age_tool: invalid value '%s' for '--log <N>': not a number from 1 to 22\n"),
         ):
@@ -261,7 +269,7 @@ class ProgramTest(Case):
     def test_passphrases_that_can_not_be_typed(self):
         for held, what in (
             (b"correct horse\r\n", "a carriage return"), (b"\xef\xbb\xbfcorrect horse\n", "a byte order mark"), (b"correct horse\n\n", "a second newline"),
-            (b"correct\nhorse\n", "a second line"), (b"correct\0horse", "a zero byte"), (b"correct\thorse\n", "a control character"),
+            (b"correct\nhorse\n", "a second line"), (b"correct\0horse", "a zero byte"), (b"correct\thorse\n", "a control character"), (b"correct\x7fhorse\n", "a control character"),
             (b"correct horse\n", None), (b"correct horse", None), ("gr\u00f6\u00dfer\n".encode(), None), (b"\xef\xbb\xbe", None),
         ):
             self.write("words", held)
@@ -269,6 +277,8 @@ class ProgramTest(Case):
             for option in (("--pass", "words"), ("--pass=words",)):
                 ended = self.tool("encrypt", *option, "--log", "1", "plain", "words.age")
                 self.see(held, (ended.returncode, ended.stderr, ended.advice) == (0, b"", said), ended.stderr, ended.advice)
+            ended = self.tool(*"encrypt --pass words --log 1 words words.age".split())
+            self.see(f"{held} encrypts itself", (ended.returncode, ended.advice) == (0, said), ended.advice)
             ended = self.tool(*"decrypt --pass words words.age back".split())
             self.see(f"{held} decrypts", (ended.returncode, ended.advice) == (0, b""), ended.advice)
 
@@ -279,7 +289,7 @@ class ProgramTest(Case):
         for words, status, said in (
             ("decrypt --pass pass plain.age -", 0, dash), ("decrypt --pass pass plain.age ./-", 0, b""), ("encrypt --pass pass --log 1 - back", 0, dash),
             ("decrypt --shared shared --max-log 9 plain.age back", 1, none), ("decrypt --file-key=00 --max-log=9 plain.age back", 2, none),
-            ("decrypt --pass pass --max-log 22 plain.age back", 0, b""), ("decrypt --max-log 9 plain.age back", 2, b""),
+            ("decrypt --pass pass --max-log 22 plain.age back", 0, b""),
         ):
             ended = self.tool(*words.split())
             self.see(words, (ended.returncode, said in ended.advice if said else ended.advice) == (status, True if said else b""), ended.advice)
@@ -306,14 +316,26 @@ class ProgramTest(Case):
         self.see("a refused file has none", b"work factor" not in ended.advice, ended.advice)
 
     def test_what_takes_long(self):
-        """In a log nothing is said of the wait for the disk. No second line says that no position was saved."""
+        """From 64 MiB on: a terminal shows that the disk is waited for, and a log nothing of it; an old output is copied first, which is said with
+        --progress. No second line says that no position was saved."""
         self.path("zeros").write_bytes(b"")
         os.truncate(self.path("zeros"), (64 << 20) + 100_000)
         self.encrypt("1 --no-sync zeros long.age")
         ended = self.decrypt("long.age", "back")
         self.see("in a log nothing is said of the wait", (ended.returncode, ended.stderr) == (0, b""), ended.stderr)
-        os.truncate(self.path("long.age"), 64 << 20)
-        ended = self.decrypt("--no-sync", "--save", "/dev/full", "long.age", "back")
+        for size, said in ((64 << 20, b"age_tool: waiting for the disk\n"), ((64 << 20) - 1, b"")):
+            os.truncate(self.path("zeros"), size)
+            self.ends(f"at a terminal, {size} bytes", self.on_terminal("stderr", *"encrypt --pass pass --log 1 zeros new.age".split()), 0, b"", said)
+        self.remove("new.age")
+        age, copying = self.read("long.age"), b"age_tool: copying part (64.0 MiB) first\n"
+        for chunks, option, said in ((1024, "--progress", copying), (1024, "--no-clobber", b""), (1023, "--progress", b"")):
+            self.write("cut.age", age[:165 + chunks * 65_552 + 1])
+            self.decrypt("--no-sync", "--save", "position", "cut.age", "part")
+            ended = self.tool(*f"resume {option} --no-sync --position position --old part --pass pass long.age new".split())
+            self.remove("new")
+            lines = b"".join(it for it in ended.stderr.splitlines(keepends=True) if b"%" not in it)
+            self.see(f"an old output of {chunks} chunks, {option}", (ended.returncode, lines) == (0, said), ended.stderr)
+        ended = self.decrypt("--no-sync", "--save", "/dev/full", "cut.age", "back")
         self.see("a position that can't be saved", ended.returncode == 1 and b"no position was saved" not in ended.advice, ended.advice)
 
     def test_hints_of_names(self):
@@ -343,10 +365,15 @@ class ProgramTest(Case):
             self.see(f"the command for {name!r}", pasted.returncode == 0 and self.read("whole") == self.plain, command, pasted.stderr)
             self.remove("whole")
         self.see("no name is run", not self.is_there("RUN"))
+        for name, shown in (
+            ("./a_b-c:d,e+f@g%h.9", "./a_b-c:d,e+f@g%h.9"), ("a b;c", "'a b;c'"), ("gr\u00f6\u00dfe", "'gr\u00f6\u00dfe'"), ("it's", r"$'it\'s'"), ("tab\t", r"$'tab\011'"),
+        ):
+            ended = self.decrypt("--save", name, "cut.age", "part")
+            self.see(f"the form of {name!r}", f" --position {shown} --old part .. IN NEW\n".encode() in ended.advice, ended.advice)
         long = "./" * 600 + "position"
         ended = self.decrypt("--save", long, "cut.age", "part")
-        said = f"age_tool: position saved in {long[:1000]}..; to go on from there, give it to age_tool resume as --position, and as --old part\n{ANEW}"
-        self.see("a name that isn't shown whole", ended.advice.endswith(said.encode()), ended.advice)
+        said = f"age_tool: position saved in {long[:1000]}..; to go on from there: age_tool resume --position {long} --old part .. IN NEW\n{ANEW}"
+        self.see("a long name is whole in the command", ended.advice.endswith(said.encode()), ended.advice)
 
     def test_advice_on_positions(self):
         self.write("cut.age", self.age[:150_000])
@@ -386,6 +413,12 @@ class ProgramTest(Case):
             status = os.waitstatus_to_exitcode(os.waitpid(child, 0)[1])
             self.see(f"a passphrase from {name}", (status, came) == (0, said) and self.read("back") == b"a short text\n", status, came)
             self.remove("back")
+        child, tty = terminal.start(["env", "-C", str(self.room), str(self.program), *"encrypt --pass pass --log 1 /dev/tty typed.age".split()])
+        os.write(tty, b"a text\n\x04")
+        came = terminal.output(tty)
+        os.close(tty)
+        status = os.waitstatus_to_exitcode(os.waitpid(child, 0)[1])
+        self.see("another file from a terminal", (status, b"passphrase" in came) == (0, False), status, came)
         with open(self.path("pass"), "rb") as held:
             ended = self.tool(*"decrypt --pass /dev/stdin short.age back".split(), stdin=held)
         self.ends("a passphrase from a file", ended, 0)
@@ -510,7 +543,8 @@ class SecretTest(FilesCase):
             self.remove("position", "old")
             self.write("cut", self.age[:150000])
             self.tool(*"decrypt --pass pass --save position cut old".split())
-            for words in ("decrypt --pass pass in out", "resume --position position --old old --pass pass in out"):
+            resume = "resume --position position --old old --pass pass in out"
+            for words in ("encrypt --pass pass --log 4 in out", "decrypt --pass pass in out", resume):
                 feeding = Feeding(self, words)
                 held = heap(feeding.run.pid)
                 found = [at for at, piece in enumerate(pieces) if piece in held]

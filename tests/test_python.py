@@ -468,7 +468,7 @@ class PythonTest(BindingsCase):
             def write(self, _):
                 return self.said
 
-        for said, kind in ((None, BlockingIOError), (1 << 20, OSError), (-1, OSError)):
+        for said, kind in ((None, BlockingIOError), (1 << 20, OSError), (0, OSError), (-1, OSError)):
             with limited(20):
                 self.see(f"a sink that says {said}", raised(kind, agefile.salvage, io.BytesIO(data), Sink(said), file_key=KEY))
 

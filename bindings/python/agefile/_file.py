@@ -51,8 +51,7 @@ class AgeFile(AgeReader):
         """Opens a chunk, as the last one if it is that, into the room or another one: how long its text is."""
         self._fault = OSError(LOST)
         block, have = self._read_block(number)
-        self._to_chunk(number)
-        ended = self._opened(have, out, block)
+        ended = self._opened(have, out, block, number)
         count = self._room.count.value
         if number == self._last and not ended:
             self._opened(0)

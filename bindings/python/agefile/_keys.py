@@ -4,7 +4,6 @@ from __future__ import annotations
 
 import base64
 import os
-import subprocess
 from collections.abc import Callable, Iterable, Iterator
 from typing import Tuple
 
@@ -116,6 +115,8 @@ def x25519_of(secret: bytes) -> Callable[[bytes], bytes]:
 
 def by_openssl(secret: bytes, point: bytes) -> bytes:
     """The same by `openssl pkeyutl`. The keys lie in memory alone, as DER (RFC 8410)."""
+    import subprocess  # (here, since all others start sooner without it)
+
     files = []
     try:
         for begin, key in (("302e020100300506032b656e04220420", secret), ("302a300506032b656e032100", point)):

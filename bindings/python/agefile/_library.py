@@ -163,6 +163,7 @@ def _library() -> ctypes.CDLL:
         "age_c_block": [reader] + given + given + [count],
         "age_c_end": [reader] + given + given + [count],
         "age_c_seek": [reader, ctypes.c_uint64],
+        "age_c_open_at": [reader, ctypes.c_uint64] + given + given + [count],
         "age_c_size": [reader, ctypes.c_uint64, ctypes.POINTER(ctypes.c_uint64), ctypes.POINTER(ctypes.c_uint64)],
         "age_c_seal_passphrase": given + [number] + given + given + [count, writer],
         "age_c_seal_key": given + given + given + [count, writer],

@@ -32,10 +32,7 @@ def decrypt(data: bytes, *, passphrase: str | bytes | None = None, file_key: byt
 
 
 def _by_workers(first: AgeFile, data: bytes, workers: int) -> bytes:
-    text = bytearray(first.size)
-
-    def put(at: int, piece: memoryview) -> None:
-        text[at:at + len(piece)] = piece
-
-    copy_text(first, lambda: io.BytesIO(data), put, workers)
-    return bytes(text)
+    text = io.BytesIO(bytes(first.size))  # (whose value isn't copied, as a bytearray's would be)
+    with text.getbuffer() as room:
+        copy_text(first, lambda: io.BytesIO(data), room, workers)
+    return text.getvalue()

@@ -151,12 +151,16 @@ class AgeReader(Buffered):
         self._rest = self._rest[have:]
         return self._opened(filled(self._file, block, have), out)
 
-    def _opened(self, have: int, out: memoryview | None = None, block: Any = None) -> bool:
-        """Opens a block, or what is left at the end, of the room or another place, into the room or another one: whether it is the end."""
+    def _opened(self, have: int, out: memoryview | None = None, block: Any = None, number: int | None = None) -> bool:
+        """Opens a block, or what is left at the end, of the room or another place, into the room or another one: the next one, or the one
+        of that number. Whether it is the end."""
         room, ended = self._room, have < BLOCK
-        call = C.age_c_end if ended else C.age_c_block
         text = room.text.given if out is None else (WholeChunk.from_buffer(out), CHUNK)
-        answer = call(self._state, room.block.place if block is None else block, have, *text, room.count)
+        given = room.block.place if block is None else block, have, *text, room.count
+        if number is not None:
+            answer = C.age_c_open_at(self._state, number, *given)
+        else:
+            answer = (C.age_c_end if ended else C.age_c_block)(self._state, *given)
         if answer != 0:
             self._fault = fault_of(answer, self._state.fault_chunk if answer in PLACED else None)
             raise again(self._fault)

@@ -85,7 +85,7 @@ def put(file: Any, out: bytes) -> None:
     while out:
         if (count := file.write(out)) is None:  # the file doesn't block, and took nothing
             wait(file, select.POLLOUT)
-        elif 0 <= count <= len(out):
+        elif 0 < count <= len(out):
             out = out[count:]
         else:
             raise OSError(f"the file's write() returned {count}, and was given {len(out)} bytes")

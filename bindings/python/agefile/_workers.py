@@ -52,8 +52,8 @@ def put_at(descriptor: int, at: int, text: memoryview) -> None:
         at, text = at + count, text[count:]
 
 
-def copy_text(first: AgeFile, source: Callable[[], Any], put: Callable[[int, memoryview], None], workers: int) -> None:
-    """Writes the text of a file at its places, by so many threads. Each reads a part of it by a file object that `source` makes, without
+def copy_text(first: AgeFile, source: Callable[[], Any], out: Callable[[int, memoryview], None] | memoryview, workers: int) -> None:
+    """Writes the text of a file at its places, or into memory, by so many threads. Each reads a part by a file object that `source` makes, without
     the work of a passphrase. If one fails, those after it stop, and the fault of the first part that has one is raised: no part before
     it has any. Only if none is raised the text is whole: the last chunk proved its length when `first` was opened."""
     step = max(1, -(-first.size // (CHUNK * workers))) * CHUNK
@@ -65,11 +65,14 @@ def copy_text(first: AgeFile, source: Callable[[], Any], put: Callable[[int, mem
         try:
             if at < end:
                 with first.reopen(source()) as file:
-                    room = memoryview(bytearray(PIECE))
+                    room = out[at:end] if isinstance(out, memoryview) else memoryview(bytearray(PIECE))
                     file.seek(at)
                     while at < end and not over.is_set() and not any(faults[:number]):
                         count = file.readinto(room[:min(PIECE, end - at)])
-                        put(at, room[:count])
+                        if isinstance(out, memoryview):
+                            room = room[count:]
+                        else:
+                            out(at, room[:count])
                         at += count
         except BaseException as fault:
             faults[number] = fault

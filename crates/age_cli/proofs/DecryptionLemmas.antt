@@ -1,14 +1,12 @@
 -- What a decryption did whose engine ran, resumed or not.
-use Rattle.std.proofs.Common.{◌≡◌, ◌++◌, [], ap, ℕ, List, Bool, Option, Some, None, true, true≢false, Result, Ok, Err, OnOk, OnErr, IsErr, IfOk, IfErr, sym, subst, refl}
-use Rattle.std.specs.Prelude.{is_err, is_some, IsSomeAnd}
-use Rattle.std.proofs.lemmas.Result.{IfErr-weaker}
+use Rattle.std.proofs.Common.{◌≡◌, ◌++◌, [], ap, ℕ, List, Bool, Option, Some, None, true, true≢false, Result, Ok, Err, OnOk, OnErr, IsErr, IfErr, MatchResult, sym, subst, refl}
+use Rattle.std.specs.Prelude.{is_some, IsSomeAnd}
 use Rattle.clap.specs.Words.{Text}
-use Rattle.age_io.specs.{SinkView, SourceView, IsAtEnd}
+use Rattle.age_io.specs.{SinkView, IsAtEnd}
 use Rattle.age_io.specs.Supply.{Supply}
 use Rattle.age_io.specs.declared.durability.Durability.{Durability}
 use Rattle.age_fault.specs.declared.fault.FileFault.{FileFault}
-use Rattle.age_file.specs.{DecryptEnds, DecryptStops, DecryptsMarked, FindsMarks, MarksView, resume_ports, ResumesMarked, ResumeStops}
-use Rattle.age_file.specs.{ResumeEnds, Ports, ports, Run}
+use Rattle.age_file.specs.{Beginning, DecryptEnds, DecryptStops, DecryptsMarked, FindsMarks, MarksView, Ports, Resumption, Run, from_either}
 use Rattle.age_file.specs.declared.decryption.Done.{Done}
 use Rattle.age_file.specs.declared.decryption.Stopped.{Stopped}
 use Rattle.age_file.specs.declared.position.Position.{Position}
@@ -22,7 +20,7 @@ use Rattle.age_cli_args.specs.declared.request.ProgressOption.TheVariants.{Shown
 use Rattle.age_command.specs.{allows_by, refuses_by}
 use Rattle.age_command.specs.declared.ending.Ending.{Ending}
 use Rattle.age_command.specs.declared.identity.Identity.{Identity}
-use Rattle.age_cli.specs.{Engine, Interruption, decrypt_engine, resume_engine, paths_of, kept_for, IsPlaced, StopsText, WasRead, old_found}
+use Rattle.age_cli.specs.{Earlier, Engine, GoesOn, Interruption, decrypt_engine, paths_of, kept_for, IsPlaced, StopsText}
 use Rattle.age_cli.specs.inner.{Concludes, ConcludesDecryption, IsPlacedBy, PlacesEnd, RunsEngine}
 use Rattle.age_cli.proofs.EngineLemmas.{the_some}
 use Rattle.age_cli.proofs.PutLemmas.{concluded, concludes_from}
@@ -47,17 +45,17 @@ placed_so (Some r) Kept (Some m) settled own (Some p) found by = found settled p
 -- ---- How the engine of a decryption ended, by how that ended.
 
 module _ (marks : Option MarksView) (settled : ℕ) (engine : Result (Unit {0}) Interruption) where
-  ends_so : (end : Result Done Stopped) → PlacesEnd marks settled end engine → (Ends : Done → Run → Type 0) (P : Type 0) → ((d : Done) (r : Run) → Ends d r → P)
-      → (run : Option Run) → IfOk end (λ done. IsSomeAnd run (Ends done)) → OnOk engine P
-  ends_so (Ok done) places Ends P so run ends = let of = the_some run ends in subst (λ (e : Result (Unit {0}) Interruption). OnOk e P) (sym places) (so done of.0 of.2)
-  ends_so (Err s) places Ends P so run ends = subst (λ (e : Result (Unit {0}) Interruption). OnOk e P) (sym places.2) tt
+  ends_so : (Ends : Done → Run → Type 0) (Stops : Stopped → Type 0) (P : Type 0) → ((d : Done) (r : Run) → Ends d r → P) → (run : Option Run)
+      → (end : Result Done Stopped) → PlacesEnd marks settled end engine → MatchResult end (λ done. IsSomeAnd run (Ends done)) Stops → OnOk engine P
+  ends_so Ends Stops P so run (Ok done) places ends = let of = the_some run ends in subst (λ (e : Result (Unit {0}) Interruption). OnOk e P) (sym places) (so done of.0 of.2)
+  ends_so Ends Stops P so run (Err s) places stops = subst (λ (e : Result (Unit {0}) Interruption). OnOk e P) (sym places.2) tt
 
-  stops_so : (end : Result Done Stopped) → PlacesEnd marks settled end engine → (P : FileFault → Option Position → Type 0)
-      → IfErr end (λ s. (position : Option Position) → IsPlacedBy marks settled s.position position → P s.fault position)
-      → IfErr engine (λ s. P s.fault s.position)
-  stops_so (Ok done) places P stops = subst (λ (e : Result (Unit {0}) Interruption). IfErr e (λ s. P s.fault s.position)) (sym places) tt
-  stops_so (Err s) places P stops =
-      subst (λ (e : Result (Unit {0}) Interruption). IfErr e (λ s. P s.fault s.position)) (sym places.2) (stops places.0 places.1)
+  stops_so : (Ends : Done → Type 0) (Stops : Stopped → Type 0) (P : FileFault → Option Position → Type 0)
+      → ((s : Stopped) → Stops s → (position : Option Position) → IsPlacedBy marks settled s.position position → P s.fault position)
+      → (end : Result Done Stopped) → PlacesEnd marks settled end engine → MatchResult end Ends Stops → IfErr engine (λ s. P s.fault s.position)
+  stops_so Ends Stops P so (Ok done) places ends = subst (λ (e : Result (Unit {0}) Interruption). IfErr e (λ s. P s.fault s.position)) (sym places) tt
+  stops_so Ends Stops P so (Err s) places stops =
+      subst (λ (e : Result (Unit {0}) Interruption). IfErr e (λ s. P s.fault s.position)) (sym places.2) (so s stops places.0 places.1)
 
   fails_so : (end : Result Done Stopped) → PlacesEnd marks settled end engine → IsErr engine → IsErr end
   fails_so (Ok done) places failed = absurd (true≢false (sym (subst (λ (e : Result (Unit {0}) Interruption). IsErr e) places failed)))
@@ -65,100 +63,55 @@ module _ (marks : Option MarksView) (settled : ℕ) (engine : Result (Unit {0}) 
 
 -- ---- It ran, and OUT was ended.
 
-record Ran (IsPorts : Ports → Type 0) (Later : Outcome → Type 0) (d : Decrypting) (engine : Engine) (before after : Ports)
-    (Ends : Done → Run → Type 0) (Stops : Option Run → Stopped → Type 0) (old new : FilesView) (Unshown : Type 0) : Type 0 where
-  pub after_is : IsPorts after
-  pub later : (o : Outcome) → CameSince old new o → Later o
-  pub over : CameSince old new (Gave (reading_of d.from.now after.source))
-  pub silent : d.progress ≡ Silent → Unshown
-  pub ends : (x : Done) (y : Run) → Ends x y → (engine.ends before after × (after.sink.failed ≡ before.sink.failed)) × IsAtEnd after.source.supply
-  pub halts : (settled : ℕ) (f : FileFault) (position : Option Position) → StopsText (kept_for (option_text d.save)) Stops settled f position
-      → engine.stops settled f position before after
-  pub named : after.sink.label ≡ before.sink.label
+module _ (IsPorts : Ports → Type 0) (Later : Outcome → Type 0) (d : Decrypting) (i : Identity) (earlier : Option Earlier) (from : Option Resumption)
+    (before after : Ports) (after_is : IsPorts after) (goes : (P : Option Resumption → Ports → Ports → Type 0) → P from before after
+    → GoesOn IsPorts Later earlier P before after) (old new : FilesView) (later : (o : Outcome) → CameSince old new o → Later o)
+    (over : CameSince old new (Gave (reading_of d.from.now after.source))) (Unshown : Type 0) (Progress : Supply → Supply → Result (Unit {0}) Ending → Type 0)
+    (silent : d.progress ≡ Silent → Unshown) where
+  abbrev keep : PositionPolicy
+  keep = kept_for (option_text d.save)
 
-module _ {IsPorts : Ports → Type 0} {Later : Outcome → Type 0} {d : Decrypting} {engine : Engine} {before after : Ports} {Ends : Done → Run → Type 0}
-    {Stops : Option Run → Stopped → Type 0} {old new : FilesView} {Unshown : Type 0} (Progress : Supply → Supply → Result (Unit {0}) Ending → Type 0)
-    (x : Ran IsPorts Later d engine before after Ends Stops old new Unshown) where
-  abbrev Shows : Result (Unit {0}) Ending → Type 0
-  Shows r = d.progress ≡ Shown → OnOk r (IsAtEnd after.source.supply) → Progress before.source.supply after.source.supply r
+  abbrev begun : Option Resumption → Beginning
+  begun = from_either (allows_by i) (refuses_by i)
 
-  abbrev Runs : Result (Unit {0}) Ending → Type 0
-  Runs r = RunsEngine IsPorts Later engine (paths_of d) d.durability d.progress before old new Unshown Progress r
+  abbrev Ends : Done → Run → Type 0
+  Ends = DecryptEnds keep (allows_by i) (begun from) before after
 
-  abbrev Concluded : Result (Unit {0}) Ending → Result Done Stopped → Option MarksView → Type 0
-  Concluded r end marks = ConcludesDecryption (λ n. CameSince old new (Settled d.durability after.sink.taken.bytes n)) d after.sink end marks old new r
+  abbrev Stops : Option Run → Stopped → Type 0
+  Stops = DecryptStops keep (allows_by i) (begun from) before after
 
-  runs_so : (run : Option Run) (end : Result Done Stopped) (marks : Option MarksView) (r : Result (Unit {0}) Ending)
-      → FindsMarks run (kept_for (option_text d.save)) marks → IfOk end (λ done. IsSomeAnd run (Ends done)) → IfErr end (Stops run) → Shows r
-      → Concluded r end marks → Runs r
-  runs_so run end marks r found done stopped shown c = record {
-    after = after;
-    after_is = x.after_is;
-    over = x.later (Gave (reading_of d.from.now after.source)) x.over;
-    end = c.engine;
-    settled = c.settled;
-    ends = ends_so marks c.settled c.engine end c.places Ends (engine.ends before after × (after.sink.failed ≡ before.sink.failed)) (λ d r did. (x.ends d r did).0) run done;
-    stops = stops_so marks c.settled c.engine end c.places (λ fault position. engine.stops c.settled fault position before after) (IfErr-weaker end _ _
-        (λ s stops position by. x.halts c.settled s.fault position (run, s, refl, stops, placed_so run (kept_for (option_text d.save)) marks c.settled s.position position found by))
-        stopped);
-    named = x.named;
-    certain = λ failed there. x.later (Settled d.durability after.sink.taken.bytes c.settled) (c.certain (fails_so marks c.settled c.engine end c.places failed) there);
-    concludes = c.concludes;
-    silent = x.silent;
-    shown = λ asked. shown asked (ended_with _ c.engine r _ (ends_so marks c.settled c.engine end c.places Ends (IsAtEnd after.source.supply) (λ d r did. (x.ends d r did).1) run done)
-        (concluded (option_text d.save) d.durability after.sink c.settled c.engine old new r c.concludes).done);
-  }
+  abbrev engine : Engine
+  engine = decrypt_engine IsPorts Later keep i earlier
 
--- ---- A decryption.
-
-module _ (IsPorts : Ports → Type 0) (Later : Outcome → Type 0) (d : Decrypting) (i : Identity) (before after : Ports) (after_is : IsPorts after) (old new : FilesView)
-    (later : (o : Outcome) → CameSince old new o → Later o) (over : CameSince old new (Gave (reading_of d.from.now after.source)))
-    (Unshown : Type 0) (Progress : Supply → Supply → Result (Unit {0}) Ending → Type 0) (silent : d.progress ≡ Silent → Unshown) where
-  abbrev ran : after.sink.label ≡ before.sink.label → Ran IsPorts Later d (decrypt_engine (kept_for (option_text d.save)) i) before after
-      (DecryptEnds (allows_by i) before after) (DecryptStops (kept_for (option_text d.save)) (allows_by i) (refuses_by i) before after) old new Unshown
-  ran named = record {
-    after_is = after_is;
-    later = later;
-    over = over;
-    silent = silent;
-    ends = λ x y did. (((x, y, did), did.2.1), did.1.is.at_end did.1.ended);
-    halts = λ settled f position stops. stops;
-    named = named;
-  }
-
-  pub runs_opened : (end : Result Done Stopped) (marks : Option MarksView) (keep : PositionPolicy) (r : Result (Unit {0}) Ending) → keep ≡ kept_for (option_text d.save)
-      → (did : DecryptsMarked keep (allows_by i) (refuses_by i) before after end marks) → Shows Progress (ran did.is.named) r
-      → Concluded Progress (ran did.is.named) r end marks → Runs Progress (ran did.is.named) r
-  runs_opened end marks keep r kept did shown concludes =
-      let asked = subst (λ (k : PositionPolicy). DecryptsMarked k (allows_by i) (refuses_by i) before after end marks) kept did in
-      runs_so Progress (ran did.is.named) asked.is.run end marks r asked.found asked.is.done asked.is.stopped shown concludes
-
--- ---- A decryption that is resumed.
-
-module _ (IsPorts : Ports → Type 0) (Later : Outcome → Type 0) (d : Decrypting) (old_name : Text) (i : Identity) (from : Position) (first last : SourceView)
-    (before after : Ports) (after_is : IsPorts after) (first_is : IsPorts (ports first before.sink)) (last_is : IsPorts (ports last after.sink)) (old new : FilesView)
-    (later : (o : Outcome) → CameSince old new o → Later o) (over : CameSince old new (Gave (reading_of d.from.now after.source)))
-    (read : WasRead Later (old_found from old_name) old_name first last)
-    (Unshown : Type 0) (Progress : Supply → Supply → Result (Unit {0}) Ending → Type 0) (silent : d.progress ≡ Silent → Unshown) where
-  abbrev ran_on : after.sink.label ≡ before.sink.label → Ran IsPorts Later d (resume_engine IsPorts Later (kept_for (option_text d.save)) i from old_name) before after
-      (ResumeEnds (allows_by i) from (resume_ports before first) (resume_ports after last))
-      (ResumeStops (allows_by i) from (resume_ports before first) (resume_ports after last) (kept_for (option_text d.save)) (refuses_by i)) old new Unshown
-  ran_on named = record {
-    after_is = after_is;
-    later = later;
-    over = over;
-    silent = silent;
-    ends = λ x y did. (((first, last, first_is, last_is, read, (x, y, did)), did.3.1), did.2.is.at_end did.2.ended);
-    halts = λ settled f position stops. (first, last, first_is, last_is, read, stops);
-    named = named;
-  }
-
-  pub resumed_by : (end : Result Done Stopped) (marks : Option MarksView) (keep : PositionPolicy) (r : Result (Unit {0}) Ending) → keep ≡ kept_for (option_text d.save)
-      → (did : ResumesMarked keep (allows_by i) (refuses_by i) from (resume_ports before first) (resume_ports after last) end marks)
-      → Shows Progress (ran_on did.is.named) r → Concluded Progress (ran_on did.is.named) r end marks → Runs Progress (ran_on did.is.named) r
-  resumed_by end marks keep r kept did shown concludes =
-      let asked = subst (λ (k : PositionPolicy). ResumesMarked k (allows_by i) (refuses_by i) from (resume_ports before first) (resume_ports after last) end marks) kept did in
-      runs_so Progress (ran_on did.is.named) asked.is.run end marks r asked.found asked.is.done asked.is.stopped shown concludes
+  pub runs_opened : (end : Result Done Stopped) (marks : Option MarksView) (policy : PositionPolicy) (r : Result (Unit {0}) Ending) → policy ≡ keep
+      → DecryptsMarked policy (allows_by i) (begun from) before after end marks
+      → (d.progress ≡ Shown → OnOk r (IsAtEnd after.source.supply) → Progress before.source.supply after.source.supply r)
+      → ConcludesDecryption (λ n. CameSince old new (Settled d.durability after.sink.taken.bytes n)) d after.sink end marks old new r
+      → RunsEngine IsPorts Later engine (paths_of d) d.durability d.progress before old new Unshown Progress r
+  runs_opened end marks policy r kept did shown c =
+      let asked = subst (λ (k : PositionPolicy). DecryptsMarked k (allows_by i) (begun from) before after end marks) kept did in
+      let run = asked.is.run in
+      record {
+        after = after;
+        after_is = after_is;
+        over = later (Gave (reading_of d.from.now after.source)) over;
+        end = c.engine;
+        settled = c.settled;
+        ends = ends_so marks c.settled c.engine Ends (Stops run) (engine.ends before after × (after.sink.failed ≡ before.sink.failed)) (λ x y did. (
+          goes (λ from before after. (done : Done) × (run : Run) × DecryptEnds keep (allows_by i) (begun from) before after done run) (x, y, did),
+          did.2.1,
+        )) run end c.places asked.is.answers;
+        stops = stops_so marks c.settled c.engine (λ done. IsSomeAnd run (Ends done)) (Stops run) (λ fault position. engine.stops c.settled fault position before after) (λ s stops position by.
+            goes (λ from before after. StopsText keep (DecryptStops keep (allows_by i) (begun from) before after) c.settled s.fault position)
+            (run, s, refl, stops, placed_so run keep marks c.settled s.position position asked.found by)) end c.places asked.is.answers;
+        named = asked.is.named;
+        certain = λ failed there. later (Settled d.durability after.sink.taken.bytes c.settled) (c.certain (fails_so marks c.settled c.engine end c.places failed) there);
+        concludes = c.concludes;
+        silent = silent;
+        shown = λ asks. shown asks (ended_with _ c.engine r _ (ends_so marks c.settled c.engine Ends (Stops run) (IsAtEnd after.source.supply)
+            (λ x y did. did.1.is.at_end did.1.ended) run end c.places asked.is.answers)
+            (concluded (option_text d.save) d.durability after.sink c.settled c.engine old new r c.concludes).done);
+      }
 
 -- ---- Its conclusion, from before something else was done.
 
@@ -183,7 +136,3 @@ pub came_before : (save : Option Text) (durability : Durability) (sink : SinkVie
 came_before save durability sink settled engine old mid new r c o came =
     let facts = concluded save durability sink settled engine mid new r c in
     came_then facts.puts old mid new facts.grows o came
-
-pub on_stop : (engine : Result (Unit {0}) Interruption) (stopped : Bool) (P : Type 0) → stopped ≡ is_err engine → (stopped ≡ true → P) → OnErr engine P
-on_stop (Ok done) stopped P is so = tt
-on_stop (Err s) stopped P is so = so is

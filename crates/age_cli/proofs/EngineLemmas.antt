@@ -4,7 +4,7 @@ use Rattle.std.proofs.Common.{OnOk, IfOk, IfErr}
 use Rattle.std.specs.Prelude.{IsErr, IsSomeAnd, IfSome, is_some, ◌≢◌}
 use Rattle.clap.specs.Words.{Text}
 use Rattle.age_io.specs.declared.durability.Durability.{Durability}
-use Rattle.age_file.specs.{Ports, SecretView, EncryptFails}
+use Rattle.age_file.specs.{Ports, SecretView, EncryptsFront}
 use Rattle.age_file.specs.declared.encryption.Written.{Written}
 use Rattle.age_file.specs.Encrypts.{Encrypts}
 use Rattle.age_fault.specs.declared.fault.FileFault.{FileFault}
@@ -32,7 +32,7 @@ pub sealing_ends : (secret : SecretView) (before after : Ports) (r : Result Writ
 sealing_ends secret before after (Ok written) ends = ((written, ends), ends.none_failed.1)
 sealing_ends secret before after (Err f) ends = tt
 
-pub sealing_stops : (secret : SecretView) (settled : ℕ) (before after : Ports) (r : Result Written FileFault) → IfErr r (EncryptFails secret before after)
+pub sealing_stops : (secret : SecretView) (settled : ℕ) (before after : Ports) (r : Result Written FileFault) → IfErr r (EncryptsFront secret before after)
     → IfErr (sealing_end r) (λ s. (encrypt_engine secret).stops settled s.fault s.position before after)
 sealing_stops secret settled before after (Ok written) fails = tt
 sealing_stops secret settled before after (Err f) fails = (fails, refl)
@@ -45,7 +45,7 @@ lacks_none (Some name) = tt
 
 module _ (IsPorts : Ports → Type 0) (Came : Outcome → Type 0) (engine : Engine) (p : Paths) (durability : Durability) (before after : Ports)
     (before_is : IsPorts before) (after_is : IsPorts after) (new : AreNew before) (input : WasRead Came (Found p.from) p.from before.source after.source)
-    (fresh : p.clobber ≡ Refused → Came (Absent p.to)) (named : after.sink.label ≡ p.to) where
+    (fresh : p.clobber ≡ Refused → Came (Absent p.to)) (named : after.sink.taken.label ≡ p.to) where
   abbrev returned : (e : Option EndedFile) (out : EndedFile) → e ≡ Some out → out.took ≡ after.sink.taken.bytes → TouchesItself out → Returned IsPorts Came p e
   returned e out is took within = record {
     before = before;
@@ -61,7 +61,7 @@ module _ (IsPorts : Ports → Type 0) (Came : Outcome → Type 0) (engine : Engi
     within = within;
   }
 
-  same_entry : (out : EndedFile) → out.took ≡ after.sink.taken.bytes → entry after.sink.label after.sink.taken.bytes ≡ entry p.to out.took
+  same_entry : (out : EndedFile) → out.took ≡ after.sink.taken.bytes → entry after.sink.taken.label after.sink.taken.bytes ≡ entry p.to out.took
   same_entry out took = ap (λ n. entry n after.sink.taken.bytes) named ∙ ap (λ b. entry p.to b) (sym took)
 
   module _ (old mid now : FilesView) (opened : PutsOnly [] old mid) (late : (o : Outcome) → CameSince mid now o → Came o) (settled : ℕ) where
@@ -76,7 +76,7 @@ module _ (IsPorts : Ports → Type 0) (Came : Outcome → Type 0) (engine : Engi
           there = o.2.there (did.1 ∙ new.failed);
           safe = λ synced. o.2.safe synced (did.1 ∙ new.failed);
           puts = subst (λ (x : Entry). PutsOnly (x ∷ []) old now) (same_entry o.0 o.2.took)
-              (grows_then [] (entry after.sink.label after.sink.taken.bytes ∷ []) old mid now opened c.puts_only);
+              (grows_then [] (entry after.sink.taken.label after.sink.taken.bytes ∷ []) old mid now opened c.puts_only);
         }
     engine_ended (Err s) did (Ok y) c = absurd c
     engine_ended end did (Err e) c = tt
@@ -101,7 +101,7 @@ module _ (IsPorts : Ports → Type 0) (Came : Outcome → Type 0) (engine : Engi
           cause = inr (record {
             promise = did.0;
             is = (c.1, refl);
-            said = subst (λ (n : Text). Came (Unwritten n)) named (late (Unwritten after.sink.label) c.2);
+            said = subst (λ (n : Text). Came (Unwritten n)) named (late (Unwritten after.sink.taken.label) c.2);
             caused = subst (λ (x : Option OutFile). IfSome x (λ y. 0 < o.0.failed)) (sym o.2.same) o.2.caused;
           });
           outs = [];

@@ -6,7 +6,7 @@ use Rattle.std.proofs.lemmas.Result.{on_ok_weaker, IfErr-weaker}
 use Rattle.age_io.specs.{Shown as ShownOne, IsAtEnd, Adds, Begins, Ends, Lending, CountsSince}
 use Rattle.age_io.specs.Supply.{Supply}
 use Rattle.age_fault.specs.declared.fault.FileFault.{FileFault}
-use Rattle.age_file.specs.{SecretView, EncryptFails, Ports}
+use Rattle.age_file.specs.{SecretView, EncryptsFront, Ports}
 use Rattle.age_file.specs.declared.encryption.Written.{Written}
 use Rattle.age_file.specs.Encrypts.{Encrypts}
 use Rattle.age_fileset.specs.{Event, Closed, FilesView, Outcome, Found, Absent, Gave, CameSince, Does, reading_of}
@@ -66,16 +66,22 @@ sealed_to_end s before after end (Err e) ends done = tt
 sealed_to_end s before after (Ok w) (Ok x) ends done = ends.at_end
 sealed_to_end s before after (Err f) (Ok x) ends done = absurd (true≢false (sym done))
 
+-- what it wrote went under the name that OUT has
+sealed_named : (s : SecretView) (before after : Ports) (end : Result Written FileFault) → IfOk end (Encrypts s before after)
+    → IfErr end (EncryptsFront s before after) → after.sink.taken.label ≡ before.sink.taken.label
+sealed_named s before after (Ok w) ends fails = ends.wrote.named
+sealed_named s before after (Err f) ends fails = fails.wrote.named
+
 -- an encryption ran, and the reading of IN was over before OUT was ended
 pub runs_sealed : (IsPorts : Ports → Type 0) (Came : Outcome → Type 0) (e : Encrypting) (secret : SecretView) (before after : Ports) (opened mid new : FilesView)
     (Unshown : Type 0) (show_old show_new : Option (List ShownOne)) (size : Option ℕ) (settled : ℕ) (sealed : Result Written FileFault) (r : Result (Unit {0}) Ending)
     → IsPorts after → Came (Gave (reading_of e.from.now after.source)) → Does [] opened mid → IfOk sealed (Encrypts secret before after)
-    → IfErr sealed (EncryptFails secret before after) → after.sink.label ≡ before.sink.label
+    → IfErr sealed (EncryptsFront secret before after)
     → Concludes None e.durability after.sink settled (sealing_end sealed) mid new r
     → (e.progress ≡ Silent → Unshown) → (e.progress ≡ Shown → ShowsRun size before.source.supply after.source.supply show_old show_new)
     → RunsEngine IsPorts Came (encrypt_engine secret) (record { from = e.from.now; to = e.to.now; save = None; clobber = e.clobber }) e.durability e.progress
     before opened new Unshown (λ coming left ended. ShowsReadings size coming left show_old show_new ended) r
-runs_sealed IsPorts Came e secret before after opened mid new Unshown show_old show_new size settled sealed r after_is over did ends fails named concludes silent shown = record {
+runs_sealed IsPorts Came e secret before after opened mid new Unshown show_old show_new size settled sealed r after_is over did ends fails concludes silent shown = record {
   after = after;
   after_is = after_is;
   over = over;
@@ -83,7 +89,7 @@ runs_sealed IsPorts Came e secret before after opened mid new Unshown show_old s
   settled = settled;
   ends = sealing_ends secret before after sealed ends;
   stops = sealing_stops secret settled before after sealed fails;
-  named = named;
+  named = sealed_named secret before after sealed ends fails;
   certain = λ failed some. absurd (true≢false (sym some));
   concludes = concludes_from None e.durability after.sink settled opened mid new did (sealing_end sealed) r concludes;
   silent = silent;
@@ -104,7 +110,7 @@ module _ (IsPorts : Ports → Type 0) (asked : Request) (old mid new : FilesView
   opened = xs ++ (ys ++ creating p.clobber p.to ∷ [])
 
   pub acts_engine : IsPorts before → AreNew before → Came (Found p.from before.source.supply.left size)
-      → (p.clobber ≡ Refused → Came (Absent p.to)) → before.sink.label ≡ p.to
+      → (p.clobber ≡ Refused → Came (Absent p.to)) → before.sink.taken.label ≡ p.to
       → RunsEngine IsPorts Came engine p (durability_of asked) (progress_of asked) before mid new Unshown
       (λ coming left ended. ShowsReadings size coming left show_old show_new ended) r
       → Does opened old mid
@@ -125,7 +131,16 @@ module _ (IsPorts : Ports → Type 0) (asked : Request) (old mid new : FilesView
       λ events. then_closed xs ys p.clobber p.to durability old.events mid.events new.events noted events ∙ ap (λ (order : List Event). old.events ++ order) (sym done_is) in
       let shown : progress_of asked ≡ Shown → ShowsProgress Came show_old show_new (input_of asked) r =
       λ is. subst (λ (n : Option (List ℕ)). ShowsProgress Came show_old show_new n r) (sym input_is)
-      (record { size = size; coming = before.source.supply; left = run.after.source.supply; unread = begun.given; found = found; shown = run.shown is }) in
+      (record {
+        size = size;
+        coming = before.source.supply;
+        left = run.after.source.supply;
+        failing = run.after.source.failing;
+        unread = begun.given;
+        found = found;
+        over = run.over;
+        shown = run.shown is;
+      }) in
       record {
         done = on_ok_weaker r (λ ended. of (λ n q. HasEngineEnded IsPorts Came n q durability old new) ended)
             (engine_ended IsPorts Came engine p durability before run.after before_is run.after_is begun read fresh (run.named ∙ named) old mid new grows late run.settled

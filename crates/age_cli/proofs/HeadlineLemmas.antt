@@ -1,23 +1,22 @@
 -- The headline for OUT, from what the commands did.
 use Rattle.std.proofs.Common.{◌≡◌, ◌≤◌, ◌*◌, ◌∙◌, ◌⊎◌, ◌++◌, ℕ, inl, inr, ap, sym, subst, refl, true, true≢false, List, [], ◌∷◌, length, take, Option, Some}
 use Rattle.std.proofs.Common.{None, append-nil, append_assoc, arith, rules, ⊎_elim, Bool, false, Result, Ok, Err}
-use Rattle.std.proofs.lemmas.List.{length-take, take_at}
-use Rattle.std.specs.Prelude.{is_some, ◌==◌, bytes_eq, OnErr, IsErrAnd, if◌then◌else◌}
+use Rattle.std.specs.Prelude.{IfSome, is_some, ◌==◌, bytes_eq, OnErr, IsErrAnd, if◌then◌else◌}
 use Rattle.std.specs.Option.{option_map_or}
 use Rattle.std.specs.Io.KnownBytes.{Consumes, IsAtEnd, prepend_known}
 use Rattle.age_io.specs.Supply.{Supply}
-use Rattle.age_io.specs.{SourceView, SinkView}
+use Rattle.age_io.specs.{SourceView}
 use Rattle.age_io.specs.declared.durability.Durability.{Durability}
-use Rattle.age_io.specs.Taken.{Appends}
-use Rattle.age_io.proofs.{Appends-nil}
 use Rattle.clap.specs.Words.{Row, Text}
 use Rattle.clap.specs.Kinds.{Kinds, IsAmong}
 use Rattle.clap.specs.declared.error.kind.ErrorKind.TheVariants.{DisplayHelp, DisplayVersion}
 use Rattle.age_chunk.specs.{chunk_limit, chunk_count, chunk_length}
 use Rattle.age_stream.specs.{IsPrefixOf}
-use Rattle.age_file.proofs.{writes_all, writes_of}
-use Rattle.age_file.specs.{DecryptStops, BeginsWith, resume_ports, IsFrom, position_text, ResumeStops, Ports, Run, IsFromStart, held, IsRun, IsTexts}
-use Rattle.age_file.specs.{IsAuthenticRun, WritesNone, SecretView, AgeFile}
+use Rattle.age_file.proofs.RunLemmas.{Fits, begins_fits}
+use Rattle.age_file.proofs.GivenLemmas.{call_right}
+use Rattle.age_file.specs.{AnswersRight, Beginning, DecryptAnswers, BeginsWith, Resumption, resumption, from_either, IsFrom, position_text, Ports, Run, IsFromStart, IsRun, IsTexts}
+use Rattle.age_file.specs.declared.decryption.Done.{Done}
+use Rattle.age_file.specs.{SecretView, AgeFile}
 use Rattle.age_file.specs.declared.decryption.Stopped.{Stopped}
 use Rattle.age_file.specs.declared.position.PositionPolicy.{PositionPolicy}
 use Rattle.age_file.specs.declared.position.Position.{Position}
@@ -28,7 +27,7 @@ use Rattle.age_fileset.specs.{or_empty, puts_in}
 use Rattle.age_fileset.specs.declared.mem_entry.MemEntry.{MemEntry}
 use Rattle.age_fileset.proofs.{AreOthers, others_then, same_since, put_since, before_others, found_was, found_any_was, gave_all_was, grows_by, grows_none}
 use Rattle.age_fileset.proofs.{all_as}
-use Rattle.age_cli_args.specs.{Asks, IsForHelp, refusals, IsIdentityOptions, IsRequest, option_text}
+use Rattle.age_cli_args.specs.{Asks, IsDecrypting, IsForHelp, refusals, IsIdentityOptions, IsRequest, option_text}
 use Rattle.age_cli_args.specs.declared.request.IdentityOptions.{IdentityOptions}
 use Rattle.age_cli_args.specs.declared.request.Decrypting.{Decrypting}
 use Rattle.age_cli_args.specs.declared.request.Encrypting.{Encrypting}
@@ -45,7 +44,7 @@ use Rattle.age_command.specs.declared.ending.Ending.TheVariants.{Words, Fault, U
 use Rattle.age_cli.specs.Acts.{Acts}
 use Rattle.age_cli.specs.Commands.{MakesSecret, IsRandomIn}
 use Rattle.age_cli.specs.{CameFirst, Engine, HasEngineStopped, IsNotDue, IsStored, IsSavedAs, OfEngine, OpensOf, Paths, paths_of, Returned, IsUsage, IsEndingOf}
-use Rattle.age_cli.specs.{decrypt_engine, resume_engine, kept_for, status_by, StopsText, old_found, World, Obeys, DoesOther, held_for, OpensBy, IsPositionIn}
+use Rattle.age_cli.specs.{Earlier, WasRead, decrypt_engine, kept_for, status_by, old_found, World, Obeys, DoesOther, held_for, OpensBy, IsPositionIn}
 use Rattle.age_cli.specs.{IsRead, IsWritersInput, KeepsOut, IsWritersOld, BeginsAt, IsWritersResumption, out_of, save_of, paths_to_encrypt, EncryptLeavesOut}
 
 -- ---- What a decryption wrote, and read.
@@ -56,31 +55,12 @@ read_from None b bs t c = absurd (true≢false (sym t))
 read_from (Some x) None bs t c = absurd c
 read_from (Some x) (Some y) bs t c = (y, ap Some c, λ e. e)
 
-same_front : (n : ℕ) (a b x y : List ℕ) → length a ≡ n → length b ≡ n → a ++ x ≡ b ++ y → a ≡ b
-same_front n a b x y p q e = sym (take_at a x n p) ∙ (ap (take n) e ∙ take_at b y n q)
-
 module _ (IsPorts : Ports → Type 0) (Came : Outcome → Type 0) (p : Paths) (ended : Option EndedFile) (run : Returned IsPorts Came p ended)
     (text : List ℕ) where
   -- OUT is the text if this engine ended, and begins it if the engine stopped
   abbrev Leaves : Engine → Type 0
   Leaves engine = (engine.ends run.before run.after → run.out.took ≡ text)
       × ((settled : ℕ) (f : FileFault) (position : Option Position) → engine.stops settled f position run.before run.after → IsPrefixOf run.out.took text)
-
-  -- by each stop of its run
-  by_stops : (keep : PositionPolicy) (Stops : Option Run → Stopped → Type 0)
-      → ((r : Option Run) (stop : Stopped) → Stops r stop → IsPrefixOf run.out.took text)
-      → (settled : ℕ) (f : FileFault) (position : Option Position) → StopsText keep Stops settled f position → IsPrefixOf run.out.took text
-  by_stops keep Stops so settled f position (r, stop, is, stops, placed) = so r stop stops
-
-  took_so : (out : List ℕ) → Appends run.before.sink.taken run.after.sink.taken out → run.out.took ≡ out
-  took_so out wrote = run.took ∙ (wrote.bytes ∙ ap (λ (l : List ℕ). l ++ out) run.new.taken)
-
-  begins_so : (out : List ℕ) → Appends run.before.sink.taken run.after.sink.taken out → IsPrefixOf out text → IsPrefixOf run.out.took text
-  begins_so out wrote begins = subst (λ (t : List ℕ). IsPrefixOf t text) (sym (took_so out wrote)) begins
-
-  none_so : (stopped : Stopped) → WritesNone run.before run.after stopped → IsPrefixOf run.out.took text
-  none_so stopped none =
-      begins_so [] (subst (λ (s : SinkView). Appends run.before.sink.taken s.taken []) (sym none.sink) (Appends-nil _)) (text, refl)
 
   module _ (identity : Identity) (keep : PositionPolicy) (input : Option (List ℕ)) (there : is_some input ≡ true)
       (coming : input ≡ run.before.source.supply.left) where
@@ -98,54 +78,46 @@ module _ (IsPorts : Ports → Type 0) (Came : Outcome → Type 0) (p : Paths) (e
           whole = λ ended. found.2 (is.at_end ended).1;
         }
 
-    module _ (auth : (r : Run) → IsFromStart r → IsRead identity input r → IsAuthenticRun r text) where
-      stops : (policy : PositionPolicy) (r : Option Run) (stop : Stopped) → DecryptStops policy (allows_by identity) (refuses_by identity) run.before run.after r stop
-          → IsPrefixOf run.out.took text
-      stops policy None stop h = none_so stop h.0
-      stops policy (Some r) stop h = begins_so (held r) h.1.is.wrote
-          (writes_of r (omega (arith, h.0.zero)) h.1.is.prefix text (auth r h.0 (is_read stop.written r h.1.is)))
+    abbrev IsTextsOwn : Run → Type 0
+    IsTextsOwn r = (chunk_count chunk_length text ≤ chunk_limit) × IsTexts text r
 
-      decrypts : Leaves (decrypt_engine keep identity)
-      decrypts = (
-        λ (done, r, ends). took_so (held r) ends.1.is.wrote ∙ writes_all r (omega (arith, ends.0.zero)) ends.1.whole ends.1.done text
-            (auth r ends.0 (is_read done.written r ends.1.is)),
-        by_stops keep _ (stops keep),
-      )
+    abbrev begun : Option Resumption → Beginning
+    begun = from_either (allows_by identity) (refuses_by identity)
 
-    module _ (from : Position) (old_name : Text) (few : chunk_count chunk_length text ≤ chunk_limit)
-        (front : (first : SourceView) (size : Option ℕ) → Came (old_found from old_name first.supply.left size) → BeginsWith from first.supply text)
-        (auth : (r : Run) → BeginsAt from r → IsRead identity input r → IsTexts text r) where
-      authentic_run : (first last : SourceView) (size : Option ℕ) (written : ℕ) (r : Run) → Came (old_found from old_name first.supply.left size)
-          → IsFrom from first last r → IsRun (allows_by identity) run.before run.after written r → IsAuthenticRun r text
-      authentic_run first last size written r old_there begun is =
-          let b = front first size old_there in
-          let found = read_from first.supply.left last.supply.left (r.copied ++ begun.more) (ap is_some b.shown) begun.old_read.left in
-          let whole : (r.copied ++ begun.more) ++ found.0 ≡ b.all =
-          ap (λ (o : Option (List ℕ)). option_map_or (λ t. t) o []) (sym found.1 ∙ b.shown) in
-          let size : length (take (from.index * chunk_length) text) ≡ from.index * chunk_length =
-          omega (arith, length-take (from.index * chunk_length) text, b.within) in
-          let same = same_front (from.index * chunk_length) r.copied (take (from.index * chunk_length) text) (begun.more ++ found.0) b.begins.0
-          begun.old_text.size size (sym (append_assoc r.copied begun.more found.0) ∙ (whole ∙ sym b.begins.1)) in
-          record {
-            few = few;
-            old_text = same ∙ ap (λ (k : ℕ). take (k * chunk_length) text) (sym begun.index);
-            authentic = auth r (record { index = begun.index; own = begun.own; tagged = begun.tagged }) (is_read written r is);
-          }
+    module _ (from : Option Resumption) (fits : IfSome from (Fits text)) (auth : (r : Run) → (begun from).run r → IsRead identity input r → IsTextsOwn r) where
+      abbrev Answered : Option Run → Result Done Stopped → Type 0
+      Answered = DecryptAnswers keep (allows_by identity) (begun from) run.before run.after
 
-      stops_rest : (first last : SourceView) (size : Option ℕ) → Came (old_found from old_name first.supply.left size) → (policy : PositionPolicy) (r : Option Run) (stop : Stopped)
-          → ResumeStops (allows_by identity) from (resume_ports run.before first) (resume_ports run.after last) policy (refuses_by identity) r stop → IsPrefixOf run.out.took text
-      stops_rest first last size found policy None stop (inl h) = none_so stop h.0
-      stops_rest first last size found policy None stop (inr (inl h)) = begins_so h.copied h.writes.wrote (h.writes.of text (front first size found))
-      stops_rest first last size found policy None stop (inr (inr h)) = begins_so h.copied h.writes.wrote (h.writes.of text (front first size found))
-      stops_rest first last size found policy (Some r) stop h = begins_so (held r) h.2.is.wrote (writes_of r
-          (omega (arith, h.0.index, from.within)) h.2.is.prefix text (authentic_run first last size stop.written r found h.0 h.2.is))
+      is_own : (r : Option Run) (result : Result Done Stopped) → Answered r result → IfSome r IsTextsOwn
+      is_own None result h = tt
+      is_own (Some r) (Ok done) h = auth r h.0 (is_read done.written r h.1.is)
+      is_own (Some r) (Err stop) h = auth r h.0 (is_read stop.written r h.1.is)
 
-      resumes : Leaves (resume_engine IsPorts Came keep identity from old_name)
-      resumes = (
-        λ h. let (done, r, ends) = h.5 in took_so (held r) ends.2.is.wrote ∙ writes_all r (omega (arith, ends.0.index, from.within))
-            ends.2.whole ends.2.done text (authentic_run h.0 h.1 h.4.size done.written r h.4.found ends.0 ends.2.is),
-        λ settled f position h. by_stops keep _ (stops_rest h.0 h.1 h.4.size h.4.found keep) settled f position h.5,
-      )
+      right : (r : Option Run) (result : Result Done Stopped) → Answered r result → AnswersRight text run.out.took result
+      right r result h =
+          let did = call_right (allows_by identity) (refuses_by identity) text run.before run.after keep from fits result r h (is_own r result h) in
+          subst (λ (out : List ℕ). AnswersRight text out result)
+          (sym (run.took ∙ (did.1.bytes ∙ ap (λ (l : List ℕ). l ++ did.0) run.new.taken))) did.2
+
+    decrypts : ((r : Run) → IsFromStart r → IsRead identity input r → IsTextsOwn r) → Leaves (decrypt_engine IsPorts Came keep identity None)
+    decrypts auth = (
+      λ (done, r, ends). right None tt auth (Some r) (Ok done) ends,
+      λ settled f position (r, stop, is, stops, placed). (right None tt auth r (Err stop) stops).0,
+    )
+
+    resumes : (e : Earlier)
+        → ((first : SourceView) (size : Option ℕ) → Came (old_found e.position e.name first.supply.left size) → BeginsWith e.position first.supply text)
+        → ((r : Run) → BeginsAt e.position r → IsRead identity input r → IsTextsOwn r) → Leaves (decrypt_engine IsPorts Came keep identity (Some e))
+    resumes e front auth =
+        let own : (first last : SourceView) (r : Run) → IsFrom (resumption e.position first last) r → IsRead identity input r → IsTextsOwn r =
+        λ first last r begun. auth r (record { index = begun.index; own = begun.own }) in
+        let fits : (first last : SourceView) → WasRead Came (old_found e.position e.name) e.name first last → Fits text (resumption e.position first last) =
+        λ first last read. begins_fits text (resumption e.position first last) (front first read.size read.found) in (
+          λ (first, last, first_is, last_is, read, (done, r, ends)). right (Some (resumption e.position first last)) (fits first last read)
+              (own first last) (Some r) (Ok done) ends,
+          λ settled f position (first, last, first_is, last_is, read, (r, stop, is, stops, placed)). (right (Some (resumption e.position first last))
+              (fits first last read) (own first last) r (Err stop) stops).0,
+        )
 
 -- ---- What was put, and the names that have to differ.
 
@@ -403,9 +375,9 @@ module _ (words : List Text) (IsPorts : Ports → Type 0) (before after : World)
         let e = of _ stops in
         stopped_out e.0 _ _ ending (λ twice. usage_no_fault e.1.fault ending e.1.reported (apart twice)) e.2 e.1) acts.stopped)
 
-  decrypted : (text : List ℕ) (e : Decrypting) → IsWritersInput e olds text → (identity : Identity) → OpensOf since e identity
+  decrypted : (text : List ℕ) (e : Decrypting) → IsWritersInput IsFromStart e olds text → (identity : Identity) → OpensOf since e identity
       → Writes text (paths_of e) (option_text e.identity.pass) (option_text e.identity.shared) None None
-      (decrypt_engine (kept_for (option_text e.save)) identity)
+      (decrypt_engine IsPorts since (kept_for (option_text e.save)) identity None)
   decrypted text e auth identity by puts grows others run =
       let input = input_was puts grows e None others run in
       decrypts IsPorts since (paths_of e) after.files.ended run text identity (kept_for (option_text e.save)) (olds e.from.now) input.0 input.1
@@ -414,13 +386,13 @@ module _ (words : List Text) (IsPorts : Ports → Type 0) (before after : World)
   resumed : (text : List ℕ) (s : Resuming) → IsWritersResumption s olds text → (identity : Identity) → OpensOf since s.decrypting identity
       → (p : Position) → HasGivenAll early s.position.now (position_text p) → let d = s.decrypting in
       Writes text (paths_of d) (option_text d.identity.pass) (option_text d.identity.shared) (Some s.position.now) (Some s.old.now)
-      (resume_engine IsPorts since (kept_for (option_text d.save)) identity p s.old.now)
+      (decrypt_engine IsPorts since (kept_for (option_text d.save)) identity (Some (record { position = p; name = s.old.now })))
   resumed text s auth identity by p given puts grows others run =
       let d = s.decrypting in
       let at = first_was s.position.now (position_text p) given in
       let input = input_was puts grows d (Some s.old.now) others run in
       resumes IsPorts since (paths_of d) after.files.ended run text identity (kept_for (option_text d.save)) (olds d.from.now) input.0 input.1
-      p s.old.now auth.few
+      (record { position = p; name = s.old.now })
       (front_was puts grows p s.old.now text (others s.old.now (inr (inr (inr (inl refl))))) (auth.old_text p at))
       (auth.rest p at identity (opened puts grows d (Some s.old.now) others identity by))
 
@@ -431,6 +403,13 @@ module _ (words : List Text) (IsPorts : Ports → Type 0) (before after : World)
 
   same_if : after.files ≡ before.files → (q : Text) → news q ≡ olds q
   same_if unchanged q = same [] (subst (λ (v : FilesView). PutsOnly [] before.files v) (sym unchanged) (grows_none before.files)) q tt
+
+  -- two requests of the same words name one IN
+  same_input : (Begins : Run → Type 0) (rows : List Row) (e d : Decrypting) (text : List ℕ) → IsDecrypting rows e → IsDecrypting rows d
+      → IsWritersInput Begins d olds text → IsWritersInput Begins e olds text
+  same_input Begins rows e d text mine its auth identity opens run from read =
+      auth identity (same_opens rows e.identity d.identity mine.identity its.identity olds identity opens) run from
+      (subst (λ (t : Text). IsRead identity (olds t) run) (same_text e.from.now d.from.now _ mine.from its.from) read)
 
   -- with no request nothing differs, and with status 0 help was asked for
   keeps_of : (text : List ℕ) (r : Result (Unit {0}) Ending) → OnErr r (status ≡ 0 → ⊥) → Obeyed r → (name : Text) (rows : List Row)
@@ -443,14 +422,12 @@ module _ (words : List Text) (IsPorts : Ports → Type 0) (before after : World)
   keeps_of text r failed (inr (inl o)) name rows asks to so = so o.asked o.acts (same_rows words o.asked name rows asks o.made)
 
   pub headline_of : (text : List ℕ) (r : Result (Unit {0}) Ending) → OnErr r (status ≡ 0 → ⊥) → Obeyed r → (d : Decrypting)
-      → Requests words (Decrypt d) → IsWritersInput d olds text → KeepsOut (olds d.to.now) (news d.to.now) status text
+      → Requests words (Decrypt d) → IsWritersInput IsFromStart d olds text → KeepsOut (olds d.to.now) (news d.to.now) status text
   headline_of text r failed obeys d (name, rows, asks, is_asked) auth = keeps_of text r failed obeys name rows asks d.to.now go where
     go : (asked : Request) → DoneFor asked r → IsRequest name rows asked → KeepsOut (olds d.to.now) (news d.to.now) status text
     go (Decrypt e) acts (is_its, mine) =
         let its = is_asked.1 in
-        let auth : IsWritersInput e olds text = λ identity opens run from read.
-        auth identity (same_opens rows e.identity d.identity mine.identity its.identity olds identity opens) run from
-        (subst (λ (t : Text). IsRead identity (olds t) run) (same_text e.from.now d.from.now _ mine.from its.from) read) in
+        let auth = same_input IsFromStart rows e d text mine its auth in
         subst (λ (t : Text). KeepsOut (olds t) (news t) status text) (same_text e.to.now d.to.now _ mine.to its.to)
         (kept text (paths_of e) (option_text e.identity.pass) (option_text e.identity.shared) None None (Decrypt e)
         (λ P of. (_, of.2, decrypted text e auth of.0 of.1)) r failed acts (λ twice. (acts.apart twice).1))
@@ -471,12 +448,9 @@ module _ (words : List Text) (IsPorts : Ports → Type 0) (before after : World)
             let at : (p : Position) → IsPositionIn (olds s.position.now) p → IsPositionIn (olds a.position.now) p = λ p.
             subst (λ (t : Text). IsPositionIn (olds t) p) (same_text s.position.now a.position.now _ made.1.position is_asked.1.position) in
             let mine_all : IsWritersResumption s olds text = record {
-              few = auth.few;
               old_text = λ p is_at. subst (λ (t : Text). IsWritersOld (olds t) p text) (same_text a.old.now s.old.now _ is_asked.1.old made.1.old)
                   (auth.old_text p (at p is_at));
-              rest = λ p is_at identity opens run from read. auth.rest p (at p is_at) identity
-                  (same_opens rows e.identity d.identity mine.identity its.identity olds identity opens) run from
-                  (subst (λ (t : Text). IsRead identity (olds t) run) (same_text e.from.now d.from.now _ mine.from its.from) read);
+              rest = λ p is_at. same_input (BeginsAt p) rows e d text mine its (auth.rest p (at p is_at));
             } in
             subst (λ (t : Text). KeepsOut (olds t) (news t) status text) (same_text e.to.now d.to.now _ mine.to its.to)
             (kept text (paths_of e) (option_text e.identity.pass) (option_text e.identity.shared) (Some s.position.now) (Some s.old.now) (Resume s)

@@ -6,11 +6,11 @@ use Rattle.age_io.specs.{SinkView}
 use Rattle.age_fault.specs.declared.fault.FileFault.{FileFault}
 use Rattle.age_fault.specs.declared.fault.FileFault.TheVariants.{Read, Write, Memory, BadPosition}
 use Rattle.age_fileset.specs.{IsMemoryOr, OpenFails, Event, Outcome, FilesView, CameSince, Does, PutsOnly, InUse, Terminal, Unread, Unwritten, Gave, Opened}
-use Rattle.age_fileset.specs.{puts_in, refused_as, with_event, Entry}
+use Rattle.age_fileset.specs.{puts_in, refused_as, with_event, with_outcomes, Entry}
 use Rattle.age_fileset.specs.declared.files.OpenFault.{OpenFault}
-use Rattle.age_fileset.proofs.{all_as, came_one, came_then, did_ended, did_events, given_as, grows_by, grows_then, then_came, puts_then, unwritten_puts}
+use Rattle.age_fileset.proofs.{all_as, came_one, came_then, did_ended, did_events, given_as, grows_by, grows_then, then_came, puts_then, unwritten_puts, does_only}
 use Rattle.age_fileset.proofs.OutcomeLemmas.{does_so, unread_puts}
-use Rattle.age_command.specs.{EndsEarly, is_usage, HasReason, HoldsOnly, IsUnread}
+use Rattle.age_command.specs.{EndsEarly, is_usage, HasReason, HoldsOnly, IsUnreadable}
 use Rattle.age_command.specs.declared.ending.Ending.{Ending}
 use Rattle.age_command.specs.declared.ending.Ending.TheVariants.{Fault, Usage}
 use Rattle.age_command.specs.declared.ending.Usage.TheVariants.{SameFile}
@@ -49,7 +49,7 @@ pub same_events : {old new : FilesView} → Does [] old new → new.events ≡ o
 same_events {old = old} {new = new} did = did_events [] old new did ∙ append-nil old.events
 
 module _ {Came Later : Outcome → Type 0} (so : (o : Outcome) → Came o → Later o) where
-  pub unread_as : IsUnread Came → IsUnread Later
+  pub unread_as : IsUnreadable Came → IsUnreadable Later
   unread_as (inl (name, came)) = inl (name, so (Unread name) came)
   unread_as (inr (r, gave, failing)) = inr (r, so (Gave r) gave, failing)
 
@@ -113,7 +113,7 @@ module _ {Came : Outcome → Type 0} {Bad : Type 0} {Blame : Ending → Type 0} 
   fault_why kind (refuse.Fault f) (inr memory) same other = rw memory (record { cause = tt })
 
   -- a source can't be read
-  pub read_why : (f : FileFault) → IsMemoryOr Read f → (f ≡ Read → IsUnread Came) → EndsBy Came Bad Blame (Fault f)
+  pub read_why : (f : FileFault) → IsMemoryOr Read f → (f ≡ Read → IsUnreadable Came) → EndsBy Came Bad Blame (Fault f)
   read_why f (inl is) unread = rw is (record { cause = unread is })
   read_why f (inr memory) unread = rw memory (record { cause = tt })
 
@@ -187,6 +187,12 @@ module _ (name : Text) {old new : FilesView} (f : OpenFault) where
   pub made_fails : (e : Event) → new ≡ with_event e (refused_as name f) old → OpenFails Write f → FailsEarly (e ∷ []) ⊥ (IsUnopened None) old new (ending_of f)
   made_fails e noted fails =
       fails_all (does_so old new e (refused_as name f) noted (unwritten_puts name f fails)) (λ no. absurd no)
+      (fault_why Write f fails (λ same. inl (refl, (name, refused_came (InUse name) refuse.SameFile refl (ap (λ v. v.outcomes) noted) same)))
+      (λ is. record { cause = (name, refused_came (Unwritten name) (refuse.Fault Write) refl (ap (λ v. v.outcomes) noted) is) }))
+
+  pub absent_fails : new ≡ with_outcomes (refused_as name f) old → OpenFails Write f → FailsEarly [] ⊥ (IsUnopened None) old new (ending_of f)
+  absent_fails noted fails =
+      fails_all (does_only old new (refused_as name f) noted (unwritten_puts name f fails)) (λ no. absurd no)
       (fault_why Write f fails (λ same. inl (refl, (name, refused_came (InUse name) refuse.SameFile refl (ap (λ v. v.outcomes) noted) same)))
       (λ is. record { cause = (name, refused_came (Unwritten name) (refuse.Fault Write) refl (ap (λ v. v.outcomes) noted) is) }))
 

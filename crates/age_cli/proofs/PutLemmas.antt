@@ -45,10 +45,10 @@ unfolding puts_in
 grows_put name bytes old new is = record { more = Put name bytes ∷ []; is = is; puts_are = refl }
 
 -- an output was closed, which took bytes
-pub left_puts : (sink : SinkView) (r : Result (Unit {0}) FileFault) (old new : FilesView) → new.outcomes ≡ old.outcomes ++ written_as sink.label sink.taken.bytes r
+pub left_puts : (sink : SinkView) (r : Result (Unit {0}) FileFault) (old new : FilesView) → new.outcomes ≡ old.outcomes ++ written_as sink.taken.label sink.taken.bytes r
     → IsOkUnless r Write → (sink.taken.bytes ≡ [] → ⊥) → (puts : List Entry) × PutsOnly puts old new × IsPut sink puts
-left_puts sink (Ok done) old new is fails some = (entry sink.label sink.taken.bytes ∷ [], grows_put sink.label sink.taken.bytes old new is, inr (refl, some))
-left_puts sink (Err fault) old new is fails some = ([], grows_lost sink.label fault old new is (inl fails), inl refl)
+left_puts sink (Ok done) old new is fails some = (entry sink.taken.label sink.taken.bytes ∷ [], grows_put sink.taken.label sink.taken.bytes old new is, inr (refl, some))
+left_puts sink (Err fault) old new is fails some = ([], grows_lost sink.taken.label fault old new is (inl fails), inl refl)
 
 -- how its file was left
 pub left_empty : {durability : Durability} {file : Option OutFile} (sink : SinkView) (out : EndedFile) → sink.taken.bytes ≡ [] → Discards file sink out → IsLeft durability sink out
@@ -162,7 +162,7 @@ module _ (save : Option Text) (durability : Durability) (sink : SinkView) (settl
   pub concludes_from : (engine : Result (Unit {0}) Interruption) (r : Result (Unit {0}) Ending) → Concludes save durability sink settled engine mid new r
       → Concludes save durability sink settled engine old new r
   concludes_from (Ok x) (Ok y) c = closes_from _ _ c
-  concludes_from (Ok x) (Err (Fault f)) c = (closes_from [] (Err f) c.0, c.1, did_came did (Unwritten sink.label) c.2)
+  concludes_from (Ok x) (Err (Fault f)) c = (closes_from [] (Err f) c.0, c.1, did_came did (Unwritten sink.taken.label) c.2)
   concludes_from (Err s) (Err e) c = saves_from did c
   concludes_from (Ok x) (Err e) c = absurd c
   concludes_from (Err s) (Ok y) c = absurd c

@@ -15,7 +15,7 @@ use Rattle.age_command.specs.declared.identity.Identity.TheVariants.{ByPassphras
 use Rattle.age_command.specs.declared.ending.Ending.{Ending}
 use Rattle.std.proofs.lemmas.List.{length-append}
 use Rattle.std.specs.Borrow.{Bor}
-use Rattle.age_keys.specs.{IsAllowed}
+use Rattle.age_keys.specs.{IsAllowed, PassphraseIdentity}
 use Rattle.age_cli.specs.{IsUnusable, WasRead, HoldsNoPassphrase, HoldsNoRandom, HoldsNoPosition, OpensOf}
 use Rattle.age_cli.specs.inner.{EndsBy, IsBlamedBy, IsUnplaced, age_file_in}
 use Rattle.age_cli.specs.declared.output.Writing.{Writing}
@@ -43,9 +43,9 @@ module _ (How : Option (List ℕ) → Option ℕ → Outcome) (name : Text) (e :
 
 -- the property of a passphrase's file
 module _ (name : Bor Text) (log : ℕ) where
-  no_words : (held : Option (List ℕ)) → ((pass : List ℕ) → IsPassphraseIn held pass → IsAllowed pass log → ⊥) → (i : Identity)
-      → Makes (PassphraseFile name log) held i → ⊥
-  no_words held none (ByPassphrase words) makes = none words.pass makes.0 (rw makes.1 at makes.2)
+  no_words : (held : Option (List ℕ)) → ((w : PassphraseIdentity) → IsPassphraseIn held w.pass → w.max_log ≡ log → IsAllowed w.pass w.max_log → ⊥)
+      → (i : Identity) → Makes (PassphraseFile name log) held i → ⊥
+  no_words held none (ByPassphrase words) makes = none words makes.0 makes.1 makes.2
   no_words held none (ByFileKey key) makes = makes
   no_words held none (ByShared s) makes = makes
 
@@ -53,7 +53,7 @@ module _ (name : Bor Text) (log : ℕ) where
   so_words bytes none pass held allowed = none (ByPassphrase (record { pass = pass; max_log = log })) (held, refl, allowed)
 
   pub pass_only : (Came : Outcome → Type 0) (held : Option (List ℕ)) → IsEnough Came (PassphraseFile name log) held
-      → ((pass : List ℕ) → IsPassphraseIn held pass → IsAllowed pass log → ⊥) → HoldsOnly Came name.now (HoldsNoPassphrase log)
+      → ((w : PassphraseIdentity) → IsPassphraseIn held w.pass → w.max_log ≡ log → IsAllowed w.pass w.max_log → ⊥) → HoldsOnly Came name.now (HoldsNoPassphrase log)
   pass_only Came held enough none = holds_as (λ o came. came) so_words (enough (no_words held none))
 
 -- a file with random bytes has 48 of them

@@ -5,12 +5,12 @@ use Rattle.std.proofs.Common.{◌≡◌, ◌∙◌, ◌++◌, [], List, ℕ, ap,
 use Rattle.std.specs.Prelude.{IsSomeAnd, OnOk, IfErr, IsErrAnd}
 use Rattle.age_fault.specs.declared.fault.FileFault.{FileFault}
 use Rattle.age_fault.specs.declared.fault.FileFault.TheVariants.{Head, Key, NonceCut, OtherFile, PositionForged}
-use Rattle.age_file.proofs.GivenLemmas.{done_gave_file, done_gave_rest}
-use Rattle.age_file.specs.{SecretView, DecryptStops, resume_ports, InOldFails, InSkippedFails, ResumeStops, Ports, Run, PayloadFails}
+use Rattle.age_file.proofs.GivenLemmas.{gave_text}
+use Rattle.age_file.specs.{SecretView, DecryptStops, InOldFails, InSkippedFails, Ports, Run, PayloadFails, Resumption, from_either, resumption}
 use Rattle.age_file.specs.declared.decryption.Stopped.{Stopped}
 use Rattle.age_file.specs.declared.position.Position.{Position}
 use Rattle.age_file.specs.declared.position.PositionPolicy.{PositionPolicy}
-use Rattle.age_io.specs.{SourceView, SinkView}
+use Rattle.age_io.specs.{SinkView}
 use Rattle.age_io.specs.declared.durability.Durability.{Durability}
 use Rattle.age_io.specs.Taken.{Appends}
 use Rattle.age_fileset.specs.{Event, FilesView, Outcome, CameSince}
@@ -22,8 +22,8 @@ use Rattle.age_command.specs.{allows_by, refuses_by, order_asked, is_usage}
 use Rattle.age_command.specs.declared.ending.Ending.{Ending}
 use Rattle.age_command.specs.declared.ending.Ending.TheVariants.{Fault, Unsaved}
 use Rattle.age_command.specs.declared.identity.Identity.{Identity}
-use Rattle.age_cli.specs.{CameFirst, Engine, decrypt_engine, resume_engine, durability_of, HasEngineEnded, HasEngineStopped, HasNotBegun, OfEngine, IsEndingOf}
-use Rattle.age_cli.specs.{Paths, Returned, SparesOut, StopsText, IsUsage, FailsFile, FailsInput, FailsReport, World, Obeys, DoesOther, FailsWriting, IsRefusal}
+use Rattle.age_cli.specs.{CameFirst, Earlier, Engine, decrypt_engine, durability_of, HasEngineEnded, HasEngineStopped, HasNotBegun, OfEngine, IsEndingOf}
+use Rattle.age_cli.specs.{Paths, Returned, SparesOut, IsUsage, FailsFile, FailsInput, FailsReport, World, Obeys, DoesOther, FailsWriting, IsRefusal}
 use Rattle.age_cli.specs.Acts.{Acts}
 use Rattle.age_cli.specs.{encrypt_engine, GivesText, GivesFile, GivesRest, IsBeforeText, IsForText, LeavesOf, LeavesText, kept_for, paths_of, paths_to_encrypt}
 use Rattle.age_cli_args.specs.{IsForHelp, option_text}
@@ -75,21 +75,21 @@ module _ (IsPorts : Ports → Type 0) (Came : Outcome → Type 0) (p : Paths) (d
 
 module _ (IsPorts : Ports → Type 0) (Came : Outcome → Type 0) (p : Paths) (identity : Identity) (keep : PositionPolicy) (durability : Durability)
     (before after : FilesView) where
-  pub leaves_text : HasEngineEnded IsPorts Came (decrypt_engine keep identity) p durability before after
+  pub leaves_text : HasEngineEnded IsPorts Came (decrypt_engine IsPorts Came keep identity None) p durability before after
       → LeavesText IsPorts Came (GivesFile identity) p durability after.ended
   leaves_text e =
-      let gave = done_gave_file (allows_by identity) e.run.before e.run.after (Ok e.promise.0) (Some e.promise.1) e.promise.2 in
-      leaves IsPorts Came p durability before after (GivesFile identity) (decrypt_engine keep identity) e gave.0 gave.1 gave.2.0
-
-  pub leaves_resumed : (from : Position) (old_name : Text) → HasEngineEnded IsPorts Came
-      (resume_engine IsPorts Came keep identity from old_name) p durability before after
-      → LeavesText IsPorts Came (GivesRest IsPorts Came old_name identity from) p durability after.ended
-  leaves_resumed from old_name e =
       let h = e.promise in
-      let gave = done_gave_rest (allows_by identity) from (resume_ports e.run.before h.0) (resume_ports e.run.after h.1) (Ok h.5.0)
-      (Some h.5.1) h.5.2 in
-      leaves IsPorts Came p durability before after (GivesRest IsPorts Came old_name identity from) (resume_engine IsPorts Came keep identity from old_name) e gave.0
-      (h.0, h.1, h.2, h.4, gave.1, gave.2) gave.3.0
+      let gave = gave_text keep (allows_by identity) (refuses_by identity) e.run.before e.run.after None h.0 h.1 h.2 in
+      leaves IsPorts Came p durability before after (GivesFile identity) (decrypt_engine IsPorts Came keep identity None) e gave.0 gave.1 gave.2.0
+
+  pub leaves_resumed : (go : Earlier) → HasEngineEnded IsPorts Came (decrypt_engine IsPorts Came keep identity (Some go)) p durability before after
+      → LeavesText IsPorts Came (GivesRest IsPorts Came go.name identity go.position) p durability after.ended
+  leaves_resumed go e =
+      let h = e.promise in
+      let gave = gave_text keep (allows_by identity) (refuses_by identity) e.run.before e.run.after (Some (resumption go.position h.0 h.1))
+      h.5.0 h.5.1 h.5.2 in
+      leaves IsPorts Came p durability before after (GivesRest IsPorts Came go.name identity go.position)
+      (decrypt_engine IsPorts Came keep identity (Some go)) e gave.0 (h.0, h.1, h.2, h.4, gave.1.0, gave.1.1) gave.2.0
 
 -- ---- One that stopped before it wrote.
 
@@ -105,27 +105,28 @@ module _ (IsPorts : Ports → Type 0) (Came : Outcome → Type 0) (p : Paths) (o
       (run.within, none, subst (λ (n : ℕ). IsUntouched n run.out) unfailed (so none)))
 
   -- by what its run promises of a stop
-  spares_stop : (keep : PositionPolicy) (position : Option Position) (settled : ℕ) (fault : FileFault) (Stops : Option Run → Stopped → Type 0)
-      → ((run : Option Run) (stop : Stopped) → IsBeforeText stop.fault → Stops run stop → SparesOut old ended)
-      → IsBeforeText fault → StopsText keep Stops settled fault position → SparesOut old ended
-  spares_stop keep position settled fault Stops so early (r, stop, is, stops, placed) = so r stop (subst IsBeforeText (sym is) early) stops
-
-  spares_decryption : (identity : Identity) → Untouched → (policy : PositionPolicy) (r : Option Run) (stop : Stopped) → IsBeforeText stop.fault
-      → DecryptStops policy (allows_by identity) (refuses_by identity) run.before run.after r stop → SparesOut old ended
-  spares_decryption identity so policy None stop early stops = untouched stops.0.sink so
-  spares_decryption identity so policy (Some r) stop early stops = absurd (in_payload _ run.before run.after r stop.fault early stops.1.why)
-
-  spares_resumption : (identity : Identity) (from : Position) (first last : SourceView) → Untouched → (policy : PositionPolicy) (r : Option Run) (stop : Stopped)
-      → IsBeforeText stop.fault → ResumeStops (allows_by identity) from (resume_ports run.before first) (resume_ports run.after last) policy (refuses_by identity) r stop
-      → SparesOut old ended
-  spares_resumption identity from first last so policy None stop early (inl none) = untouched none.0.sink so
-  spares_resumption identity from first last so policy None stop early (inr (inl copying)) =
-      absurd (not_later (InOldFails (allows_by identity) from (resume_ports run.before first) (resume_ports run.after last) copying.writes.pulled
-      copying.copied) (λ no. no.1) (λ no. no.1) (λ no. no.1) (λ h no. no.1) (λ k no. no.1) stop.fault early copying.why)
-  spares_resumption identity from first last so policy None stop early (inr (inr skipping)) =
-      absurd (not_later (InSkippedFails (allows_by identity) from (resume_ports run.before first) (resume_ports run.after last) skipping.skipped)
+  spares_early : (identity : Identity) (from : Option Resumption) (stop : Stopped) → Untouched → IsBeforeText stop.fault
+      → (from_either (allows_by identity) (refuses_by identity) from).early run.before run.after stop → SparesOut old ended
+  spares_early identity None stop so early stops = untouched stops.0.sink so
+  spares_early identity (Some e) stop so early (inl none) = untouched none.0.sink so
+  spares_early identity (Some e) stop so early (inr (inl copying)) =
+      absurd (not_later (InOldFails (allows_by identity) e run.before run.after copying.writes.pulled copying.copied)
+      (λ no. no.1) (λ no. no.1) (λ no. no.1) (λ h no. no.1) (λ k no. no.1) stop.fault early copying.why)
+  spares_early identity (Some e) stop so early (inr (inr skipping)) =
+      absurd (not_later (InSkippedFails (allows_by identity) e run.before run.after skipping.skipped)
       (λ no. no) (λ no. no) (λ no. no) (λ h no. no) (λ k no. no) stop.fault early skipping.why)
-  spares_resumption identity from first last so policy (Some r) stop early stops = absurd (in_payload _ run.before run.after r stop.fault early stops.2.why)
+
+  spares_run : (identity : Identity) (from : Option Resumption) (policy : PositionPolicy) (r : Option Run) (stop : Stopped) → Untouched → IsBeforeText stop.fault
+      → DecryptStops policy (allows_by identity) (from_either (allows_by identity) (refuses_by identity) from) run.before run.after r stop → SparesOut old ended
+  spares_run identity from policy None stop so early stops = spares_early identity from stop so early stops
+  spares_run identity from policy (Some r) stop so early stops = absurd (in_payload _ run.before run.after r stop.fault early stops.1.why)
+
+  spares_engine : (identity : Identity) (keep : PositionPolicy) (earlier : Option Earlier) (settled : ℕ) (fault : FileFault) (position : Option Position)
+      → Untouched → IsBeforeText fault → (decrypt_engine IsPorts Came keep identity earlier).stops settled fault position run.before run.after → SparesOut old ended
+  spares_engine identity keep None settled fault position so early (r, stop, is, stops, placed) =
+      spares_run identity None keep r stop so (subst IsBeforeText (sym is) early) stops
+  spares_engine identity keep (Some e) settled fault position so early (first, last, first_is, last_is, read, (r, stop, is, stops, placed)) =
+      spares_run identity (Some (resumption e.position first last)) keep r stop so (subst IsBeforeText (sym is) early) stops
 
 -- of what was asked
 module _ (IsPorts : Ports → Type 0) (before after : FilesView) (ending : Ending) (fault : FileFault) (is : IsEndingOf fault ending)
@@ -133,25 +134,22 @@ module _ (IsPorts : Ports → Type 0) (before after : FilesView) (ending : Endin
   abbrev since : Outcome → Type 0
   since = CameSince before after
 
-  -- by what an engine promises of a stop
-  spares_before : (p : Paths) (engine : Engine) (durability : Durability) (done : List Event) (s : HasEngineStopped IsPorts since engine p durability done ending before after)
-      → ((settled : ℕ) (position : Option Position) → IsBeforeText s.fault → engine.stops settled s.fault position s.run.before s.run.after
-      → Untouched IsPorts since p before.ended after.ended s.run → SparesOut before.ended after.ended) → SparesOut before.ended after.ended
-  spares_before p engine durability done s so =
+  spares_stop : (p : Paths) (identity : Identity) (keep : PositionPolicy) (earlier : Option Earlier) (durability : Durability) (done : List Event)
+      → HasEngineStopped IsPorts since (decrypt_engine IsPorts since keep identity earlier) p durability done ending before after
+      → SparesOut before.ended after.ended
+  spares_stop p identity keep earlier durability done s =
       let mine : IsBeforeText s.fault = subst IsBeforeText (same_fault fault s.fault ending is s.reported) early in
-      ⊎_elim (λ stop. so s.settled s.position mine stop.promise stop.untouched) (λ unended. absurd (subst IsBeforeText unended.is.0 mine)) s.cause
+      ⊎_elim (λ stop. spares_engine IsPorts since p before.ended after.ended s.run identity keep earlier s.settled s.fault s.position
+      stop.untouched mine stop.promise) (λ unended. absurd (subst IsBeforeText unended.is.0 mine)) s.cause
 
   pub spares_of_request : (asked : Request) → IsForText asked
       → HasNotBegun asked ending before after ⊎ OfEngine IsPorts since (CameFirst before after) asked
       (λ engine paths. HasEngineStopped IsPorts since engine paths (durability_of asked) (order_asked asked).done ending before after)
       → SparesOut before.ended after.ended
   spares_of_request asked text (inl unbegun) = unbegun.spared
-  spares_of_request (Decrypt d) text (inr stop) = spares_before _ _ _ _ stop.2
-      (λ settled position first stops so. spares_stop IsPorts since _ before.ended after.ended stop.2.run _ _ _ _ _
-      (spares_decryption IsPorts since _ before.ended after.ended stop.2.run stop.0 so _) first stops)
-  spares_of_request (Resume r) text (inr stop) = spares_before _ _ _ _ stop.4
-      (λ settled position first stops so. spares_stop IsPorts since _ before.ended after.ended stop.4.run _ _ _ _ _
-      (spares_resumption IsPorts since _ before.ended after.ended stop.4.run stop.0 stop.2 stops.0 stops.1 so _) first stops.5)
+  spares_of_request (Decrypt d) text (inr stop) = spares_stop (paths_of d) stop.0 (kept_for (option_text d.save)) None _ _ stop.2
+  spares_of_request (Resume r) text (inr stop) = spares_stop (paths_of r.decrypting) stop.0 (kept_for (option_text r.decrypting.save))
+      (Some (record { position = stop.2; name = r.old.now })) _ _ stop.4
   spares_of_request asked text (inr stop) = absurd text
 
 -- ---- What is refused writes nothing.
@@ -198,7 +196,7 @@ module _ (words : List Text) (IsPorts : Ports → Type 0) (before after : World)
 -- ---- What status 0 says.
 
 leaves_asked : (IsPorts : Ports → Type 0) (before after : FilesView) (Unshown : Type 0) (Progress : Option Text → Result (Unit {0}) Ending → Type 0)
-    (asked : Request) → Acts IsPorts asked before after Unshown Progress (Ok tt) → LeavesOf IsPorts before after asked
+    (asked : Request) → Acts IsPorts asked before after Unshown Progress (Ok tt) → LeavesOf IsPorts (CameSince before after) after.ended asked
 leaves_asked IsPorts before after Unshown Progress (Encrypt e) did =
     let done = did.done in (
       done.0,
@@ -218,14 +216,13 @@ leaves_asked IsPorts before after Unshown Progress (Resume r) did =
       done.1,
       done.2,
       all_as (CameFirst before after) (CameSince before after) (λ o first. first.came) _ _ done.3,
-      leaves_resumed
-          IsPorts (CameSince before after) (paths_of d) done.0 (kept_for (option_text d.save)) d.durability before after done.2 r.old.now done.4,
+      leaves_resumed IsPorts (CameSince before after) (paths_of d) done.0 (kept_for (option_text d.save)) d.durability before after _ done.4,
     )
 leaves_asked IsPorts before after Unshown Progress other did = tt
 
 pub zero_leaves : (words : List Text) (IsPorts : Ports → Type 0) (before after : World) (Unread Unprinted Unshown : Type 0)
     (Progress : Option Text → Result (Unit {0}) Ending → Type 0) → Obeys words IsPorts before after Unread Unprinted Unshown Progress (Ok tt)
-    → (words ≡ []) ⊎ (IsForHelp words ⊎ ((asked : Request) × Requests words asked × LeavesOf IsPorts before.files after.files asked))
+    → (words ≡ []) ⊎ (IsForHelp words ⊎ ((asked : Request) × Requests words asked × LeavesOf IsPorts (CameSince before.files after.files) after.files.ended asked))
 zero_leaves words IsPorts before after Unread Unprinted Unshown Progress (inl o) = inl o.none
 zero_leaves words IsPorts before after Unread Unprinted Unshown Progress (inr (inl o)) =
     inr (inr (o.asked, o.made, leaves_asked IsPorts before.files after.files Unshown Progress o.asked o.acts))

@@ -1,7 +1,7 @@
 -- What a command does with files, done or stopped.
 use Rattle.std.specs.Prelude.{◌≡◌, ℕ, true, Result, Ok, Err, if◌then◌else◌, List, [], ◌∷◌, Option, Some, None}
 use Rattle.std.specs.Prelude.{is_some, ◌++◌, OnOk, IfErr, IsErrAnd, ◌≢◌, ◌⊎◌, length, IfSome, IsSomeAnd, ◌<◌}
-use Rattle.std.specs.Prelude.{◌≤◌, ◌*◌}
+use Rattle.std.specs.Prelude.{◌≤◌, ◌*◌, Bool}
 use Rattle.clap.specs.Words.{Text}
 use Rattle.age_io.specs.{SourceView, SinkView, Shown as ShownOne, ShowsReading, IsAtEnd}
 use Rattle.age_io.specs.declared.durability.Durability.{Durability}
@@ -10,8 +10,8 @@ use Rattle.age_io.specs.Supply.{Supply}
 use Rattle.age_fault.specs.declared.fault.FileFault.{FileFault}
 use Rattle.age_fault.specs.declared.fault.FileFault.TheVariants.{Write, Memory, BadPosition}
 use Rattle.age_chunk.specs.{chunk_length}
-use Rattle.age_file.specs.{IsPositionWithin, Ports, ports, Run, SecretView, EncryptFails}
-use Rattle.age_file.specs.{DecryptEnds, DecryptStops, ResumePorts, resume_ports, ResumeEnds, ResumeStops}
+use Rattle.age_file.specs.{IsPositionWithin, Ports, ports, Run, SecretView, EncryptsFront}
+use Rattle.age_file.specs.{DecryptEnds, DecryptStops, Resumption, resumption, from_either}
 use Rattle.age_file.specs.{position_text}
 use Rattle.age_file.specs.declared.decryption.Done.{Done}
 use Rattle.age_file.specs.declared.encryption.Written.{Written}
@@ -22,8 +22,9 @@ use Rattle.age_file.specs.declared.decryption.Stopped.{Stopped}
 use Rattle.age_file.specs.Encrypts.{Encrypts}
 use Rattle.age_machine.specs.{EndedFile, TouchesItself, IsThere, IsOnDisk, IsUntouched, SavedFile}
 use Rattle.age_machine.specs.Saved.{Saves}
-use Rattle.age_fileset.specs.{Event, FilesView, Outcome, Found, Absent, Unwritten, Settled, Alike, OneStream}
-use Rattle.age_fileset.specs.{InUse, Terminal, CameSince, HasGivenAll, Entry, entry, PutsOnly, puts_in}
+use Rattle.age_fileset.specs.{Event, FilesView, Outcome, Found, Gave, Absent, Unwritten, Settled, Alike}
+use Rattle.age_fileset.specs.{OneStream, InUse, Terminal, CameSince, HasGivenAll, Entry, entry}
+use Rattle.age_fileset.specs.{PutsOnly, puts_in}
 use Rattle.age_cli_args.specs.{option_text}
 use Rattle.age_cli_args.specs.declared.request.ClobberOption.{ClobberOption}
 use Rattle.age_cli_args.specs.declared.request.ClobberOption.TheVariants.{Refused}
@@ -78,31 +79,21 @@ abbrev pub encrypt_engine : SecretView → Engine
 encrypt_engine secret = record {
   ends = λ before after. (written : Written) × Encrypts secret before after written;
   stops = λ settled fault position before after.
-      EncryptFails secret before after fault × (position ≡ None);
+      EncryptsFront secret before after fault × (position ≡ None);
 }
 
 -- The position to save of a stop: one of its run within what is certain, if it came to its payload
 -- and positions are kept. Else the stop's own, if it has one.
 abbrev pub IsPlaced : Option Run → PositionPolicy → (settled : ℕ) → (own position : Option Position)
     → Type 0
-IsPlaced None keep settled own position = position ≡ own
-IsPlaced (Some r) Dropped settled own position = position ≡ own
 IsPlaced (Some r) Kept settled own position = IsSomeAnd position (IsPositionWithin r settled)
+IsPlaced run keep settled own position = position ≡ own
 
 -- a run stopped with this fault, and this is the position to save
 abbrev pub StopsText : PositionPolicy → (Stops : Option Run → Stopped → Type 0) → (settled : ℕ) → FileFault
     → Option Position → Type 0
 StopsText keep Stops settled fault position = (run : Option Run) × (stop : Stopped)
     × (stop.fault ≡ fault) × Stops run stop × IsPlaced run keep settled stop.position position
-
--- that of `decrypt`
-abbrev pub decrypt_engine : PositionPolicy → Identity → Engine
-decrypt_engine keep i = record {
-  ends = λ before after. (done : Done) × (run : Run)
-      × DecryptEnds (allows_by i) before after done run;
-  stops = λ settled fault position before after.
-      StopsText keep (DecryptStops keep (allows_by i) (refuses_by i) before after) settled fault position;
-}
 
 -- the ports of a source and a sink of one set of files: what they show, and how often they failed
 pub record PortsOf {In Out : Type 0} (read : In → SourceView) (wrote : Out → SinkView) (p : Ports)
@@ -117,22 +108,28 @@ pub record AreNew (p : Ports) : Type 0 where
   pub taken : p.sink.taken.bytes ≡ []
   pub failed : p.sink.failed ≡ 0
 
-module _ (IsPorts : Ports → Type 0) (Came : Outcome → Type 0) where
-  -- a second source of the set, that of the earlier output, which is found for this position
-  abbrev pub Beside : Text → Position → (ResumePorts → ResumePorts → Type 0) → Ports → Ports → Type 0
-  Beside old_name from Promise before after =
-      (first : SourceView) × (last : SourceView) × IsPorts (ports first before.sink)
-      × IsPorts (ports last after.sink) × WasRead Came (old_found from old_name) old_name first last
-      × Promise (resume_ports before first) (resume_ports after last)
+-- where a decryption goes on: at a position, after the earlier output of this name
+pub record Earlier : Type 0 where
+  pub position : Position
+  pub name : Text
 
-  -- the engine of `resume`, from a position and the earlier output of this name
-  abbrev pub resume_engine : PositionPolicy → Identity → Position → Text → Engine
-  resume_engine keep i from old_name = record {
-    ends = Beside old_name from (λ before after. (done : Done) × (run : Run)
-        × ResumeEnds (allows_by i) from before after done run);
-    stops = λ settled fault position. Beside old_name from (λ before after.
-        StopsText keep (ResumeStops (allows_by i) from before after keep (refuses_by i))
-        settled fault position);
+module _ (IsPorts : Ports → Type 0) (Came : Outcome → Type 0) where
+  -- if it goes on, a second source of the set is that of the earlier output, which is found for the
+  -- position
+  abbrev pub GoesOn : Option Earlier → (Option Resumption → Ports → Ports → Type 0) → Ports → Ports → Type 0
+  GoesOn None Promise before after = Promise None before after
+  GoesOn (Some e) Promise before after =
+      (first : SourceView) × (last : SourceView) × IsPorts (ports first before.sink)
+      × IsPorts (ports last after.sink) × WasRead Came (old_found e.position e.name) e.name first last
+      × Promise (Some (resumption e.position first last)) before after
+
+  -- that of `decrypt` and of `resume`
+  abbrev pub decrypt_engine : PositionPolicy → Identity → Option Earlier → Engine
+  decrypt_engine keep i earlier = let begun = from_either (allows_by i) (refuses_by i) in record {
+    ends = GoesOn earlier (λ from before after. (done : Done) × (run : Run)
+        × DecryptEnds keep (allows_by i) (begun from) before after done run);
+    stops = λ settled fault position. GoesOn earlier (λ from before after. StopsText keep
+        (DecryptStops keep (allows_by i) (begun from) before after) settled fault position);
   }
 
 -- ---- What becomes of OUT and of the file of `--save`, by the engine that a command runs.
@@ -242,14 +239,21 @@ abbrev pub ShowsReadings : Option ℕ → (coming left : Supply) → (old new : 
 ShowsReadings size coming left old new ended =
     ShowsRun size coming left old new × OnOk ended (IsAtEnd left)
 
--- the reading of the file of this name, which is found so, and is so long as the set of files said
+-- a reading of the file of this name, which is found so, as long as the set of files said, and is over then
 pub record ShowsProgress (Came : Outcome → Type 0) (old new : Option (List ShownOne)) (name : Option Text)
     (ended : Result (Unit {0}) Ending) : Type 0 where
   pub size : Option ℕ
   pub coming : Supply
   pub left : Supply
+  pub failing : Bool
   pub unread : coming.given ≡ []
   pub found : IsSomeAnd name (λ from. Came (Found from coming.left size))
+  pub over : IsSomeAnd name (λ from. Came (Gave (record {
+    name = from;
+    given = left.given;
+    is_at_end = left.is_at_end;
+    failing = failing;
+  })))
   pub shown : ShowsReadings size coming left old new ended
 
 -- The position was put to its file, at once if that was a new one beside it, and the ending says
@@ -327,13 +331,13 @@ module _ (IsPorts : Ports → Type 0) (Came : Outcome → Type 0) where
         clobber = e.clobber;
       })
   OfEngine First (Decrypt d) P = (identity : Identity) × OpensOf Came d identity
-      × P (decrypt_engine (kept_for (option_text d.save)) identity) (paths_of d)
+      × P (decrypt_engine IsPorts Came (kept_for (option_text d.save)) identity None) (paths_of d)
   OfEngine First (Resume r) P =
       let d = r.decrypting in
       (identity : Identity) × OpensOf Came d identity
       × (position : Position) × HasGivenAll First r.position.now (position_text position)
-      × P (resume_engine IsPorts Came (kept_for (option_text d.save)) identity position r.old.now)
-      (paths_of d)
+      × P (decrypt_engine IsPorts Came (kept_for (option_text d.save)) identity
+      (Some (record { position = position; name = r.old.now }))) (paths_of d)
   OfEngine First other P = Unit {0}
 
   -- An engine returned, over a source and a sink of the files that were new. The source was IN's, whose

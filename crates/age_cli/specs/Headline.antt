@@ -9,7 +9,7 @@ use Rattle.age_io.specs.declared.durability.Durability.{Durability}
 use Rattle.age_io.specs.declared.durability.Durability.TheVariants.{Synced}
 use Rattle.age_stream.specs.{IsPrefixOf}
 use Rattle.age_keys.specs.{Opens}
-use Rattle.age_file.specs.{Ports, ports, Run, IsFromStart, IsTexts, IsAuthenticRun, HasId, HasTag}
+use Rattle.age_file.specs.{Ports, ports, Run, IsFromStart, IsTexts, BelongsTo}
 use Rattle.age_file.specs.declared.position.Position.{Position}
 use Rattle.age_file.specs.{GaveFile, GaveOld, GaveRest, position_text, SecretView, AgeFile}
 use Rattle.age_cli_args.specs.Requests.{Requests}
@@ -48,7 +48,7 @@ OpensBy old u = MakesBy (held_for old (identity_file u)) u
 abbrev pub IsPositionIn : Option (List ℕ) → Position → Type 0
 IsPositionIn held position = held ≡ Some (position_text position)
 
--- ---- A decryption from the start.
+-- ---- Whose text IN holds.
 
 -- a beginning of the input, as a run may have read it: a header that opens, the payload nonce, the
 -- blocks before the run's first chunk, and bytes after them; and all of the input if it was read to
@@ -63,11 +63,12 @@ pub record IsRead (identity : Identity) (input : Option (List ℕ)) (r : Run) : 
       ≡ Some (((r.file.header_bytes ++ r.file.nonce) ++ (r.skipped ++ r.bytes)) ++ rest)
   pub whole : r.ended ≡ true → rest ≡ []
 
--- no block of IN opens except as the writer of this text sealed it, however much of IN is read
-abbrev pub IsWritersInput : Decrypting → Files → List ℕ → Type 0
-IsWritersInput d old text =
-    (identity : Identity) → OpensBy old d.identity identity → (r : Run)
-    → IsFromStart r → IsRead identity (old d.from.now) r → IsAuthenticRun r text
+-- no block of IN opens except as the writer of this text sealed it, however much of IN is read by a run
+-- that begins so; and the text isn't too long
+abbrev pub IsWritersInput : (Begins : Run → Type 0) → Decrypting → Files → List ℕ → Type 0
+IsWritersInput Begins d old text =
+    (identity : Identity) → OpensBy old d.identity identity → (r : Run) → Begins r
+    → IsRead identity (old d.from.now) r → (chunk_count chunk_length text ≤ chunk_limit) × IsTexts text r
 
 -- whatever the status, OUT is as it was or holds a beginning of the text; with status 0, all of it
 pub record KeepsOut (old new : Option (List ℕ)) (status : ℕ) (text : List ℕ) : Type 0 where
@@ -79,15 +80,7 @@ pub record KeepsOut (old new : Option (List ℕ)) (status : ℕ) (text : List �
 -- a run begins at the position, which is its file's
 pub record BeginsAt (p : Position) (r : Run) : Type 0 where
   pub index : r.first ≡ p.index
-  pub own : HasId p r.file
-  pub tagged : HasTag p r.file
-
--- no block of IN after the position opens except as the writer of this text sealed it, however much
--- of IN is read
-abbrev pub IsWritersRest : Decrypting → Files → Position → List ℕ → Type 0
-IsWritersRest d old p text =
-    (identity : Identity) → OpensBy old d.identity identity → (r : Run)
-    → BeginsAt p r → IsRead identity (old d.from.now) r → IsTexts text r
+  pub own : BelongsTo p r.file
 
 -- the old text begins with the chunks of this text before the position. A chunk has 65,536 bytes.
 abbrev pub IsWritersOld : Option (List ℕ) → Position → List ℕ → Type 0
@@ -96,11 +89,10 @@ IsWritersOld held p text = (all : List ℕ) → held ≡ Some all
 
 -- both hold for the position in the file of `--position`
 pub record IsWritersResumption (asked : Resuming) (old : Files) (text : List ℕ) : Type 0 where
-  pub few : chunk_count chunk_length text ≤ chunk_limit
   pub old_text : (p : Position) → IsPositionIn (old asked.position.now) p
       → IsWritersOld (old asked.old.now) p text
   pub rest : (p : Position) → IsPositionIn (old asked.position.now) p
-      → IsWritersRest asked.decrypting old p text
+      → IsWritersInput (BeginsAt p) asked.decrypting old text
 
 -- ---- A run.
 
@@ -108,7 +100,7 @@ pub record IsWritersResumption (asked : Resuming) (old : Files) (text : List ℕ
 -- opens except as its writer sealed it; and 0 means all of the plaintext.
 abbrev pub DecryptKeepsOut : List Text → (old new : Files) → ℕ → Type 0
 DecryptKeepsOut words old new status =
-    (d : Decrypting) (text : List ℕ) → Requests words (Decrypt d) → IsWritersInput d old text
+    (d : Decrypting) (text : List ℕ) → Requests words (Decrypt d) → IsWritersInput IsFromStart d old text
     → KeepsOut (old d.to.now) (new d.to.now) status text
 
 -- Whatever the status, `resume` leaves OUT as it was or with a beginning of the plaintext, while no
@@ -231,27 +223,23 @@ pub record LeavesText (IsPorts : Ports → Type 0) (Came : Outcome → Type 0)
 -- if it was resumed, the earlier output gave that text's chunks before the position, and IN the rest of
 -- its payload; and OUT is just that text. Of an encryption: OUT is the age file of the text that IN gave
 -- to its end, for the passphrase and the random bytes that the named files gave.
-abbrev pub LeavesOf : (Ports → Type 0) → (before after : FilesView) → Request → Type 0
-LeavesOf IsPorts before after (Encrypt e) =
-    let Came = CameSince before after in
-    (secret : SecretView) × HasSecret Came e secret
-    × LeavesText IsPorts Came (GivesText secret) (paths_to_encrypt e) e.durability after.ended
-LeavesOf IsPorts before after (Decrypt d) =
-    let Came = CameSince before after in
-    (identity : Identity) × OpensOf Came d identity
-    × LeavesText IsPorts Came (GivesFile identity) (paths_of d) d.durability after.ended
-LeavesOf IsPorts before after (Resume r) =
-    let Came = CameSince before after in
-    (identity : Identity) × OpensOf Came r.decrypting identity
+abbrev pub LeavesOf : (Ports → Type 0) → (Came : Outcome → Type 0) → (ended : Option EndedFile) → Request
+    → Type 0
+LeavesOf IsPorts Came ended (Encrypt e) = (secret : SecretView) × HasSecret Came e secret
+    × LeavesText IsPorts Came (GivesText secret) (paths_to_encrypt e) e.durability ended
+LeavesOf IsPorts Came ended (Decrypt d) = (identity : Identity) × OpensOf Came d identity
+    × LeavesText IsPorts Came (GivesFile identity) (paths_of d) d.durability ended
+LeavesOf IsPorts Came ended (Resume r) = (identity : Identity) × OpensOf Came r.decrypting identity
     × (from : Position) × HasGivenAll Came r.position.now (position_text from)
     × LeavesText IsPorts Came (GivesRest IsPorts Came r.old.now identity from) (paths_of r.decrypting)
-    r.decrypting.durability after.ended
-LeavesOf IsPorts before after other = Unit {0}
+    r.decrypting.durability ended
+LeavesOf IsPorts Came ended other = Unit {0}
 
 -- Status 0: there were no words, or help was asked for; or what the words ask for was done.
 abbrev pub ZeroLeaves : List Text → (Ports → Type 0) → (before after : FilesView) → (status : ℕ) → Type 0
 ZeroLeaves words IsPorts before after status = status ≡ 0 → (words ≡ []) ⊎ (IsForHelp words
-    ⊎ ((asked : Request) × Requests words asked × LeavesOf IsPorts before after asked))
+    ⊎ ((asked : Request) × Requests words asked
+    × LeavesOf IsPorts (CameSince before after) after.ended asked))
 
 -- a fault that comes before OUT is written, also of a wrong passphrase: all but these
 abbrev pub IsBeforeText : FileFault → Type 0

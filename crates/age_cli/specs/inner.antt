@@ -5,7 +5,7 @@ use Rattle.std.specs.Prelude.{if◌then◌else◌, IfOk}
 use Rattle.clap.specs.Words.{Text}
 use Rattle.clap.specs.declared.error.kind.ErrorKind.{ErrorKind}
 use Rattle.clap.specs.declared.error.kind.ErrorKind.TheVariants.{DisplayHelp, DisplayVersion}
-use Rattle.age_io.specs.{SinkView}
+use Rattle.age_io.specs.{SinkView, SourceView, Origin, Named}
 use Rattle.age_io.specs.declared.durability.Durability.{Durability}
 use Rattle.age_fault.specs.declared.fault.FileFault.{FileFault}
 use Rattle.age_fault.specs.declared.fault.FileFault.TheVariants.{Write, Read, Memory, BadPosition}
@@ -14,19 +14,22 @@ use Rattle.age_file.specs.declared.decryption.Stopped.{Stopped}
 use Rattle.age_file.specs.declared.encryption.Written.{Written}
 use Rattle.age_fileset.specs.{Closed, Unwritten, Entry, entry, FilesView, PutsOnly, CameSince, Outcome, Found}
 use Rattle.age_fileset.specs.{Gave, Settled, reading_of, Event, HasGiven, HasGivenAll, Does, FoundOrEmpty}
-use Rattle.age_command.specs.{Follows, replacing, is_usage, Order, HoldsOnly, IsUnread}
+use Rattle.age_fileset.specs.{Absent}
+use Rattle.age_command.specs.{Follows, replacing, is_usage, Order, HoldsOnly, IsUnreadable, without_line_feed}
+use Rattle.age_keys.specs.{IsAllowed, PassphraseIdentity}
 use Rattle.age_command.specs.declared.ending.Ending.{Ending}
 use Rattle.age_command.specs.declared.ending.Ending.TheVariants.{Fault, Usage}
 use Rattle.age_machine.specs.{Closes, EndedFile, OutFile, TouchesItself, IsUntouched}
 use Rattle.age_cli.specs.Acts.{IsEndingOf, IsNotDue, IsStored, Engine, Paths}
-use Rattle.age_cli.specs.Acts.{SparesOut, AreSame, IsUnusable, NamesOne, IsThereUnlessFailed}
+use Rattle.age_cli.specs.Acts.{AreNew, SparesOut, AreSame, IsUnusable, NamesOne, IsThereUnlessFailed}
 use Rattle.age_cli.specs.declared.interruption.Interruption.{Interruption}
 use Rattle.age_io.specs.Supply.{Supply}
-use Rattle.age_file.specs.{IsMarked, IsReport, MarksView, Ports}
+use Rattle.age_file.specs.{IsMarked, IsReport, MarksView, Ports, ports, SecretView}
 use Rattle.age_file.specs.declared.report.Report.{Report}
-use Rattle.age_cli.specs.Commands.{ReportsAs, HoldsNoPassphrase, HoldsNoRandom, HoldsNoPosition}
+use Rattle.age_cli.specs.Commands.{ReportsAs, HoldsNoPassphrase, HoldsNoRandom, HoldsNoPosition, MakesSecret}
 use Rattle.age_file.specs.declared.position.Position.{Position}
 use Rattle.age_cli_args.specs.{option_text}
+use Rattle.age_cli_args.specs.declared.request.ClobberOption.TheVariants.{Refused}
 use Rattle.age_cli_args.specs.declared.request.Decrypting.{Decrypting}
 use Rattle.age_cli_args.specs.declared.request.ProgressOption.{ProgressOption}
 use Rattle.age_cli_args.specs.declared.request.ProgressOption.TheVariants.{Silent, Shown}
@@ -53,7 +56,7 @@ sealing_end (Err fault) = Err (record { fault = fault; position = None })
 -- what was put of an output, whose sink is this: nothing, or all that it took
 abbrev pub IsPut : SinkView → List Entry → Type 0
 IsPut sink puts = (puts ≡ [])
-    ⊎ ((puts ≡ entry sink.label sink.taken.bytes ∷ []) × (sink.taken.bytes ≢ []))
+    ⊎ ((puts ≡ entry sink.taken.label sink.taken.bytes ∷ []) × (sink.taken.bytes ≢ []))
 
 -- how the file of OUT was left after a stop, whose sink is this: untouched, if nothing was taken, and closed
 -- otherwise
@@ -99,10 +102,10 @@ pub record SavesStop (save : Option Text) (durability : Durability) (sink : Sink
 -- it was closed whole, or it couldn't be, as the set of files said
 abbrev pub ClosesAll : Durability → SinkView → (old new : FilesView) → Result (Unit {0}) Ending → Type 0
 ClosesAll durability sink old new (Ok done) =
-    ClosesOut durability sink (entry sink.label sink.taken.bytes ∷ []) old new (Ok tt)
+    ClosesOut durability sink (entry sink.taken.label sink.taken.bytes ∷ []) old new (Ok tt)
 ClosesAll durability sink old new (Err (Fault fault)) =
     ClosesOut durability sink [] old new (Err fault) × (fault ≡ Write)
-    × CameSince old new (Unwritten sink.label)
+    × CameSince old new (Unwritten sink.taken.label)
 ClosesAll durability sink old new other = ⊥
 
 -- OUT was ended once its engine returned
@@ -156,14 +159,12 @@ pub record RunsEngine (IsPorts : Ports → Type 0) (Came : Outcome → Type 0) (
   pub settled : ℕ
   pub ends : OnOk end (engine.ends before after × (after.sink.failed ≡ before.sink.failed))
   pub stops : IfErr end (λ s. engine.stops settled s.fault s.position before after)
-  pub named : after.sink.label ≡ before.sink.label
+  pub named : after.sink.taken.label ≡ before.sink.taken.label
   pub certain : IsErr end → is_some p.save ≡ true
       → Came (Settled durability after.sink.taken.bytes settled)
   pub concludes : Concludes p.save durability after.sink settled end old new result
   pub silent : progress ≡ Silent → Unshown
   pub shown : progress ≡ Shown → IsShown before.source.supply after.source.supply result
-
--- ---- The names of a command, how files are opened, and the random bytes of an encryption.
 
 -- ---- The names of a command.
 
@@ -184,7 +185,7 @@ pub record Compares (old new : FilesView) (answer : Bool) (IsPair : Text → Tex
 -- why: a file couldn't be read or written, memory was refused, a position is bad, or the command line
 -- is to blame
 abbrev pub IsCause : (Came : Outcome → Type 0) → (Bad : Type 0) → (Blame : Ending → Type 0) → Ending → Type 0
-IsCause Came Bad Blame (Fault Read) = IsUnread Came
+IsCause Came Bad Blame (Fault Read) = IsUnreadable Came
 IsCause Came Bad Blame (Fault Write) = (name : Text) × Came (Unwritten name)
 IsCause Came Bad Blame (Fault Memory) = Unit {0}
 IsCause Came Bad Blame (Fault BadPosition) = Bad
@@ -220,6 +221,14 @@ pub record OpensFiles {A : Type 0} (order whole : List Event) (IsTwice : Type 0)
   pub done : IfOk result (λ x. IsNew x × Does order old new × (IsTwice → ⊥))
   pub fails : IfErr result (FailsEarly whole IsTwice Why old new)
 
+-- IN and OUT are new, and were found and made as is asked
+abbrev pub IsNewBy : {In Out : Type 0} → (In → SourceView) → (Out → SinkView) → (In → Origin → Type 0)
+    → (In → Option ℕ) → (Came : Outcome → Type 0) → Writing → In → Out → Type 0
+IsNewBy read wrote began size Came w source out = AreNew (ports (read source) (wrote out))
+    × began source (Named w.from.now) × ((wrote out).taken.label ≡ w.to.now)
+    × Came (Found w.from.now (read source).supply.left (size source))
+    × (w.clobber ≡ Refused → Came (Absent w.to.now))
+
 -- a file is found, or one that isn't there counts as empty
 abbrev pub found_by : Bool → Text → Option (List ℕ) → Option ℕ → Outcome
 found_by or_empty name left size = if or_empty then FoundOrEmpty name left size else Found name left size
@@ -245,13 +254,30 @@ pub record IsRandom (bytes : List ℕ) (r : FileRandom) : Type 0 where
   pub salt_length : length r.salt ≡ 16
   pub nonce_length : length r.payload_nonce ≡ 16
 
--- all that the file of the passphrase gave, and what that of the random bytes gave
+-- what the file of the passphrase gave holds this one
+abbrev pub GivesPassphrase : (Came : Outcome → Type 0) → Encrypting → PassphraseIdentity → Type 0
+GivesPassphrase Came asked words = (bytes : List ℕ) × HasGivenAll Came asked.pass.now bytes
+    × (words.pass ≡ without_line_feed bytes) × (words.max_log ≡ asked.log)
+    × IsAllowed words.pass words.max_log
+
+-- the secret of a passphrase and of random parts
+abbrev pub secret_of : Material → SecretView
+secret_of m = record {
+  pass = m.pass.pass;
+  log = m.pass.max_log;
+  salt = m.random.salt;
+  key = m.random.file_key;
+  nonce = m.random.payload_nonce;
+}
+
+-- all that the file of the passphrase gave, and what that of the random bytes gave, make it
 pub record IsMaterialGiven (Came : Outcome → Type 0) (asked : Encrypting) (random_name : Text)
     (m : Material) : Type 0 where
-  pub pass : HasGivenAll Came asked.pass.now m.pass.items
-  pub bytes : List ℕ
-  pub random : HasGiven Came random_name bytes
-  pub random_is : IsRandom bytes m.random
+  pub pass : List ℕ
+  pub random : List ℕ
+  pub pass_given : HasGivenAll Came asked.pass.now pass
+  pub random_given : HasGiven Came random_name random
+  pub makes : MakesSecret asked (Some pass) (Some random) (secret_of m)
 
 -- one of these files doesn't hold what it has to
 abbrev pub LacksMaterial : (Came : Outcome → Type 0) → Encrypting → (random_name : Text) → Ending → Type 0

@@ -9,7 +9,7 @@ ghost use Rattle.age_cli.specs.{kept_for};
 ghost use Rattle.age_cli.specs.inner.{ConcludesDecryption, IsPlacedBy, PlacesEnd};
 
 use crate::interruption::Interruption;
-use crate::output::{conclude_settled, settle_end};
+use crate::output::{end_output, settle_end};
 use age_cli_args::Decrypting;
 use age_command::{Announcement, Ending};
 use age_file::{Done, Marks, Position, PositionPolicy, Stopped};
@@ -69,7 +69,7 @@ fn placed_end(
 
 /// Ends the input and the output of a decryption, and saves the position of a stop, at no more than
 /// what the output holds for certain.
-pub(crate) fn conclude_decryption<F: FileSet, E: Sink>(
+pub(crate) fn end_decryption<F: FileSet, E: Sink>(
     alloc: Global,
     files: &mut F,
     mut out: F::Out,
@@ -91,7 +91,7 @@ pub(crate) fn conclude_decryption<F: FileSet, E: Sink>(
     files.finish(source);
     let settled = settle_end(files, &mut out, asked.save, asked.durability, end.is_err());
     let engine = placed_end(end, &marks, settled);
-    conclude_settled(
+    end_output(
         alloc,
         files,
         out,

@@ -1,7 +1,7 @@
 //! The command that decrypts a file.
 
-ghost use Rattle.std.specs.Prelude.{◌≡◌, ℕ, List};
-ghost use Rattle.age_file.specs.{DecryptsMarked, ports};
+ghost use Rattle.std.specs.Prelude.{◌≡◌, ℕ, List, None};
+ghost use Rattle.age_file.specs.{DecryptsMarked, from_start, ports};
 ghost use Rattle.age_cli_args.specs.{option_text};
 ghost use Rattle.age_cli_args.specs.declared.request.ProgressOption.TheVariants.{Silent, Shown};
 ghost use Rattle.age_cli_args.specs.declared.request.Request.TheVariants.{Decrypt};
@@ -13,7 +13,7 @@ ghost use Rattle.age_cli.specs.{PortsOf, ShowsProgress, ShowsReadings, ShowsRun,
 ghost use Rattle.age_cli.specs.{OpensNone, OpensOf, paths_of};
 ghost use Rattle.age_cli.specs.inner.{EndsBy, IsBlamedBy, OpensFiles, RunsEngine, order_in};
 
-use crate::conclusion::{Decrypted, conclude_decryption, positions_for};
+use crate::conclusion::{Decrypted, end_decryption, positions_for};
 use crate::output::{Content, Writing, begin_meter, check_names, end_meter, open_both};
 use age_cli_args::{Decrypting, ProgressOption};
 use age_command::{Announcement, Choice, Ending, Identity};
@@ -56,7 +56,8 @@ fn open_text<F: FileSet, P: Meter>(
     out: &mut F::Out,
     progress: &mut P,
 ) -> Decrypted<F::In>
-    ensures opened { DecryptsMarked positions (allows_by identity) (refuses_by identity)
+    ensures opened { DecryptsMarked positions (allows_by identity)
+        (from_start (allows_by identity) (refuses_by identity))
         (ports (F.In.view source) (F.Out.view out.old))
         (ports (F.In.view result.source) (F.Out.view out.new)) result.end result.marks }
     ensures began { (name : List ℕ) → F.In.began source (Named name)
@@ -106,7 +107,8 @@ fn decrypt_opened<F: FileSet, E: Sink, P: Meter>(
         → ((o : Outcome) → CameSince (F.view files.old) (F.view files.new) o
         → CameSince first (F.view files.new) o)
         → RunsEngine (PortsOf F.In.view F.Out.view) (CameSince first (F.view files.new))
-        (decrypt_engine (kept_for (option_text asked.now.save)) identity)
+        (decrypt_engine (PortsOf F.In.view F.Out.view) (CameSince first (F.view files.new))
+        (kept_for (option_text asked.now.save)) identity None)
         (paths_of asked.now) asked.now.durability asked.now.progress
         (ports (F.In.view source) (F.Out.view out)) (F.view files.old) (F.view files.new)
         (progress.new ≡ progress.old) (λ coming left ended. ShowsReadings (F.size source) coming left
@@ -122,7 +124,7 @@ fn decrypt_opened<F: FileSet, E: Sink, P: Meter>(
         &mut out,
         progress,
     );
-    conclude_decryption(alloc, files, out, asked, opened, faults, announced)
+    end_decryption(alloc, files, out, asked, opened, faults, announced)
 }
 
 /// Decrypts a file as asked. If it stops, the line of its fault is put to `faults`, and then its

@@ -1,34 +1,35 @@
 //! The command that encrypts a file.
 
-ghost use Rattle.std.specs.Prelude.{◌≡◌, ◌⊎◌, ◌<◌, [], ◌∷◌, ℕ, List, length, Some, None, IfOk, IfErr};
-ghost use Rattle.std.specs.Prelude.{IfSome, IfNone};
+ghost use Rattle.std.specs.Prelude.{◌≡◌, ◌⊎◌, ◌<◌, [], ◌∷◌, ℕ, List, length, IfOk, IfErr};
+ghost use Rattle.std.specs.Prelude.{IfSome, IfNone, Some, None};
 ghost use Rattle.age_io.specs.{Named};
-ghost use Rattle.age_fileset.specs.{Opened, CameSince, HasGiven, HasGivenAll};
+ghost use Rattle.age_fault.specs.declared.fault.FileFault.TheVariants.{Memory};
+ghost use Rattle.age_fileset.specs.{Opened, CameSince, HasGiven};
 ghost use Rattle.age_cli_args.specs.{option_text};
 ghost use Rattle.age_cli_args.specs.declared.request.Request.TheVariants.{Encrypt};
 ghost use Rattle.age_cli_args.specs.declared.request.ProgressOption.TheVariants.{Silent, Shown};
-ghost use Rattle.age_command.specs.{Tells, HoldsOnly, IsPassphraseIn, file_bytes, without_line_feed};
-ghost use Rattle.age_command.specs.{NamesTwice, random_name};
+ghost use Rattle.age_command.specs.{Tells, HoldsOnly, NamesTwice, creating, making, random_name};
 ghost use Rattle.age_command.specs.declared.ending.Usage.TheVariants.{BadPassphraseFile, BadRandomFile};
 ghost use Rattle.age_file.specs.Encrypts.{Encrypts};
-ghost use Rattle.age_file.specs.{EncryptFails, ports};
-ghost use Rattle.age_keys.specs.{IsAllowed};
+ghost use Rattle.age_file.specs.{EncryptsFront, IsFrontOf, SecretView, ports};
 ghost use Rattle.age_command.specs.declared.ending.Ending.TheVariants.{Usage as UsageEnding};
 ghost use Rattle.age_cli.specs.Acts.{Acts, IsUnusable, PortsOf, ShowsProgress, ShowsRun};
-ghost use Rattle.age_cli.specs.Commands.{HoldsNoPassphrase, HoldsNoRandom, MakesSecret};
-ghost use Rattle.age_cli.specs.inner.{EndsBy, IsBlamedBy, IsMaterialGiven, IsRandom};
-ghost use Rattle.age_cli.specs.inner.{LacksMaterial, OpensFiles, order_in};
+ghost use Rattle.age_cli.specs.Commands.{HoldsNoPassphrase, HoldsNoRandom};
+ghost use Rattle.age_cli.specs.inner.{EndsBy, GivesPassphrase, IsBlamedBy, IsMaterialGiven, IsNewBy};
+ghost use Rattle.age_cli.specs.inner.{IsRandom, IsUnopened, LacksMaterial, OpensFiles, age_file_in};
+ghost use Rattle.age_cli.specs.inner.{order_in, secret_of};
 
 use crate::interruption::sealing_end;
 use crate::output::{
-    Content, Writing, begin_meter, check_names, conclude, end_meter, open_both, open_in,
+    Content, Writing, begin_meter, check_names, check_new, create_out, end_meter, end_output,
+    open_in,
 };
 use age_cli_args::{Encrypting, ProgressOption};
-use age_command::{Announcement, Choice, Ending, Usage, read_first, trimmed};
-use age_file::{FileFault, Secret, Source, Written, encrypt};
+use age_command::{Announcement, Choice, Ending, OwnPassphrase, Usage, passphrase_in, read_first};
+use age_file::{FileFault, Front, Secret, Source, Written, encrypt_after};
 use age_fileset::FileSet;
 use age_io::{Meter, Metered, Sink};
-use age_keys::{FileRandom, Passphrase, RANDOM_LEN};
+use age_keys::{FileRandom, RANDOM_LEN};
 use std::alloc::Global;
 
 /// Where random bytes come from if no file is named.
@@ -61,36 +62,17 @@ fn read_random<F: FileSet>(alloc: Global, files: &mut F, name: &str) -> Result<F
     }
 }
 
-/// The bytes of a file, if they hold a passphrase for this work factor.
-fn passphrase_in(held: Option<Vec<u8>>, log: u32) -> Option<Vec<u8>>
-    ensures some { IfSome result (λ v. (file_bytes held ≡ Some v.items)
-        × IsAllowed (without_line_feed v.items) log) }
-    ensures none { IfNone result ((pass : List ℕ)
-        → IsPassphraseIn (file_bytes held) pass → IsAllowed pass log → ⊥) }
-{
-    match held {
-        Some(bytes) => {
-            if Passphrase::new(trimmed(bytes.as_slice()), log).is_none() {
-                return None;
-            }
-            Some(bytes)
-        }
-        None => None,
-    }
-}
-
-/// The bytes of the file of the passphrase. Refuses those that hold none.
+/// The passphrase in its file. Refuses a file that holds none for this work factor.
 fn read_pass<F: FileSet>(
     alloc: Global,
     files: &mut F,
     asked: &Encrypting<'_>,
-) -> Result<Vec<u8>, Ending>
+) -> Result<OwnPassphrase, Ending>
     ensures { OpensFiles (Opened asked.now.pass.now ∷ []) (Opened asked.now.pass.now ∷ []) ⊥
         (λ Came. EndsBy Came ⊥ (λ e. ((e ≡ UsageEnding BadPassphraseFile)
         × HoldsOnly Came asked.now.pass.now (HoldsNoPassphrase asked.now.log))
         ⊎ IsUnusable Came None e)) (F.view files.old) (F.view files.new)
-        (λ v. HasGivenAll (CameSince (F.view files.old) (F.view files.new)) asked.now.pass.now
-        v.items) result }
+        (GivesPassphrase (CameSince (F.view files.old) (F.view files.new)) asked.now) result }
 {
     let choice = Choice::PassphraseFile(asked.pass, asked.log);
     let held = choice.read(alloc, files)?;
@@ -100,10 +82,10 @@ fn read_pass<F: FileSet>(
     }
 }
 
-/// What a secret is made of: the bytes of the file of the passphrase, and the random parts.
+/// What a secret is made of: the passphrase with the work factor, and the random parts.
 #[derive(Drop)]
 struct Material {
-    pass: Vec<u8>,
+    pass: OwnPassphrase,
     random: FileRandom,
 }
 
@@ -140,23 +122,48 @@ fn read_material<F: FileSet>(
     Ok(Material { pass, random })
 }
 
-/// The secret of a work factor and of what it is made of.
-fn secret_of<'a>(asked: &Encrypting<'_>, material: &'a Material) -> Result<Secret<'a>, Usage>
-    ensures makes { IfOk result (λ secret. (random : List ℕ) → IsRandom random material.now.random
-        → MakesSecret asked.now (Some material.now.pass.items) (Some random) secret) }
-    ensures none { IfErr result (λ usage. (usage ≡ BadPassphraseFile)
-        × HoldsNoPassphrase asked.now.log material.now.pass.items) }
+/// What the age file begins with. The passphrase, which is never too long, is overwritten then.
+fn front_of(alloc: Global, material: Material) -> Result<Front, FileFault>
+    ensures front { IfOk result (IsFrontOf (secret_of material)) }
+    ensures memory { IfErr result (λ fault. fault ≡ Memory) }
 {
+    let (pass, log) = material.pass.parts();
+    let random = &material.random;
     match Secret::new(
-        trimmed(material.pass.as_slice()),
-        asked.log,
-        &material.random.salt,
-        &material.random.file_key,
-        &material.random.payload_nonce,
+        pass,
+        log,
+        &random.salt,
+        &random.file_key,
+        &random.payload_nonce,
     ) {
-        Some(secret) => Ok(secret),
-        None => Err(Usage::BadPassphraseFile),
+        Some(secret) => Front::of(alloc, &secret),
+        None => unreachable!(),
     }
+}
+
+/// Opens the input, derives the key, and opens the output only then: a run that is killed meanwhile
+/// leaves no empty file, and one for which memory is refused has made none. An output that has to
+/// be new is refused before that.
+fn open_sealing<F: FileSet>(
+    alloc: Global,
+    files: &mut F,
+    writing: &Writing<'_>,
+    material: Material,
+) -> Result<(F::In, F::Out, Front), Ending>
+    ensures { OpensFiles (Opened writing.now.from.now
+        ∷ creating writing.now.clobber writing.now.to.now ∷ [])
+        (Opened writing.now.from.now
+        ∷ making writing.now.clobber (Some writing.now.to.now) writing.now.durability) ⊥
+        (IsUnopened (age_file_in writing.now.content writing.now.to.now))
+        (F.view files.old) (F.view files.new)
+        (λ r. IsFrontOf (secret_of material) r.2 × IsNewBy F.In.view F.Out.view F.In.began F.size
+        (CameSince (F.view files.old) (F.view files.new)) writing.now r.0 r.1) result }
+{
+    let source = open_in(alloc, files, writing.from, false)?;
+    check_new(files, writing)?;
+    let front = front_of(alloc, material)?;
+    let out = create_out(alloc, files, writing)?;
+    Ok((source, out, front))
 }
 
 /// How an encryption ended, with the input.
@@ -168,21 +175,19 @@ struct Sealed<S: Source> {
 
 /// Encrypts the input into the output.
 fn seal_text<F: FileSet, P: Meter>(
-    alloc: Global,
     files: &F,
     asked: &Encrypting<'_>,
-    secret: &Secret<'_>,
+    front: Front,
     mut source: F::In,
     out: &mut F::Out,
     progress: &mut P,
 ) -> Sealed<F::In>
-    ensures done { IfOk result.end (Encrypts secret.now
-        (ports (F.In.view source) (F.Out.view out.old))
+    ensures done { (secret : SecretView) → IsFrontOf secret front
+        → IfOk result.end (Encrypts secret (ports (F.In.view source) (F.Out.view out.old))
         (ports (F.In.view result.source) (F.Out.view out.new))) }
-    ensures fails { IfErr result.end (EncryptFails secret.now
-        (ports (F.In.view source) (F.Out.view out.old))
+    ensures fails { (secret : SecretView) → IsFrontOf secret front
+        → IfErr result.end (EncryptsFront secret (ports (F.In.view source) (F.Out.view out.old))
         (ports (F.In.view result.source) (F.Out.view out.new))) }
-    ensures named { (F.Out.view out.new).label ≡ (F.Out.view out.old).label }
     ensures began { (name : List ℕ) → F.In.began source (Named name)
         → F.In.began result.source (Named name) }
     ensures silent { asked.now.progress ≡ Silent → progress.new ≡ progress.old }
@@ -191,7 +196,7 @@ fn seal_text<F: FileSet, P: Meter>(
 {
     match asked.progress {
         ProgressOption::Silent => {
-            let end = encrypt(alloc, secret, &mut source, out);
+            let end = encrypt_after(front, &mut source, out);
             Sealed { end, source }
         }
         ProgressOption::Shown => {
@@ -200,7 +205,7 @@ fn seal_text<F: FileSet, P: Meter>(
                 source,
                 meter: &mut *progress,
             };
-            let end = encrypt(alloc, secret, &mut metered, out);
+            let end = encrypt_after(front, &mut metered, out);
             let Metered {
                 source,
                 meter: _meter,
@@ -243,13 +248,10 @@ pub fn encrypt_file<F: FileSet, E: Sink, P: Meter>(
         content: Content::AgeFile,
     };
     let material = read_material(alloc, files, asked, random_name, &writing)?;
-    let secret = secret_of(asked, &material)?;
-    let (source, mut out) = open_both(alloc, files, &writing)?;
-    let Sealed { end, source } = seal_text(
-        alloc, files, asked, &secret, source, &mut out, progress,
-    );
+    let (source, mut out, front) = open_sealing(alloc, files, &writing, material)?;
+    let Sealed { end, source } = seal_text(files, asked, front, source, &mut out, progress);
     files.finish(source);
-    conclude(
+    end_output(
         alloc,
         files,
         out,
@@ -258,5 +260,6 @@ pub fn encrypt_file<F: FileSet, E: Sink, P: Meter>(
         faults,
         announced,
         sealing_end(end),
+        0,
     )
 }

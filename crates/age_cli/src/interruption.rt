@@ -87,7 +87,7 @@ pub(crate) fn save<F: FileSet>(
 
 /// How a command ends that stopped, once its position is saved. The line of its fault is put before
 /// that, since what the position goes to may block.
-pub(crate) fn end_of<F: FileSet, E: Sink>(
+pub(crate) fn report_and_save<F: FileSet, E: Sink>(
     alloc: Global,
     files: &mut F,
     name: Option<&str>,

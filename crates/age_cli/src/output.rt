@@ -1,22 +1,20 @@
 //! How the input and the output of a command are opened, and how the output is ended.
 
-ghost use Rattle.std.specs.Prelude.{◌≡◌, [], ◌∷◌, ◌++◌, map, Some, None, true, is_some, ℕ, length, OnErr};
-ghost use Rattle.std.specs.Prelude.{IfSome};
+ghost use Rattle.std.specs.Prelude.{◌≡◌, [], ◌∷◌, ◌++◌, map, Some, None, true, is_some, length, IfSome};
 ghost use Rattle.age_io.specs.{Adds, Begins, Ends, Named};
-ghost use Rattle.age_fileset.specs.{Opened, Found, Absent, Settled, Terminal, Does, CameSince};
+ghost use Rattle.age_fileset.specs.{Opened, Absent, Settled, Terminal, Does, CameSince};
 ghost use Rattle.age_cli_args.specs.{option_text};
 ghost use Rattle.age_cli_args.specs.declared.request.ClobberOption.TheVariants.{Refused};
 ghost use Rattle.age_command.specs.{Tells, AreApart, NamesTwice, apart_from, creating, preparing, making};
 ghost use Rattle.age_command.specs.declared.ending.Usage.TheVariants.{SameFile};
 ghost use Rattle.age_command.specs.declared.ending.Ending.TheVariants.{Usage as UsageEnding};
-ghost use Rattle.age_file.specs.{ports};
-ghost use Rattle.age_cli.specs.Acts.{AreNew, IsUnusable, NamesOne};
+ghost use Rattle.age_cli.specs.Acts.{IsUnusable, NamesOne};
 ghost use Rattle.age_cli.specs.inner.{ClosesAll, Concludes, LeavesOut};
-ghost use Rattle.age_cli.specs.inner.{Compares, EndsBy, IsUnopened, OpensFiles, age_file_in};
+ghost use Rattle.age_cli.specs.inner.{Compares, EndsBy, IsNewBy, IsUnopened, OpensFiles, age_file_in};
 ghost use Rattle.age_cli.specs.inner.{found_by, order_in};
 ghost use Rattle.age_cli.specs.declared.output.Content.TheVariants.{AgeFile};
 
-use crate::interruption::{Interruption, end_of};
+use crate::interruption::{Interruption, report_and_save};
 use age_cli_args::ClobberOption;
 use age_command::{Announcement, Ending, Usage, announce};
 use age_fileset::FileSet;
@@ -114,7 +112,7 @@ pub(crate) fn names_twice<F: FileSet>(files: &mut F, asked: &Writing<'_>) -> boo
 fn is_unshown<F: FileSet>(files: &mut F, out: &F::Out, content: Content) -> bool
     ensures does { Does [] (F.view files.old) (F.view files.new) }
     ensures terminal { result ≡ true → (content ≡ AgeFile)
-        × CameSince (F.view files.old) (F.view files.new) (Terminal (F.Out.view out.now).label) }
+        × CameSince (F.view files.old) (F.view files.new) (Terminal (F.Out.view out.now).taken.label) }
 {
     match content {
         Content::AgeFile => files.is_terminal(out),
@@ -127,7 +125,7 @@ fn is_unshown<F: FileSet>(files: &mut F, out: &F::Out, content: Content) -> bool
 fn refusal_of<F: FileSet>(files: &mut F, out: &F::Out, content: Content) -> Option<Usage>
     ensures does { Does [] (F.view files.old) (F.view files.new) }
     ensures taken { IfSome result (λ u. IsUnusable (CameSince (F.view files.old) (F.view files.new))
-        (age_file_in content (F.Out.view out.now).label) (UsageEnding u)) }
+        (age_file_in content (F.Out.view out.now).taken.label) (UsageEnding u)) }
 {
     if is_unshown(files, out, content) {
         return Some(Usage::OutIsTerminal);
@@ -186,7 +184,7 @@ fn make_out<F: FileSet>(alloc: Global, files: &mut F, asked: &Writing<'_>) -> Re
     ensures { OpensFiles (creating asked.now.clobber asked.now.to.now ∷ [])
         (creating asked.now.clobber asked.now.to.now ∷ []) ⊥ (IsUnopened None)
         (F.view files.old) (F.view files.new) (λ o. ((F.Out.view o).taken.bytes ≡ [])
-        × ((F.Out.view o).failed ≡ 0) × ((F.Out.view o).label ≡ asked.now.to.now)
+        × ((F.Out.view o).failed ≡ 0) × ((F.Out.view o).taken.label ≡ asked.now.to.now)
         × (asked.now.clobber ≡ Refused
         → CameSince (F.view files.old) (F.view files.new) (Absent asked.now.to.now))) result }
 {
@@ -196,9 +194,20 @@ fn make_out<F: FileSet>(alloc: Global, files: &mut F, asked: &Writing<'_>) -> Re
     }
 }
 
+/// Refuses an output that is there, if it has to be new.
+pub(crate) fn check_new<F: FileSet>(files: &mut F, asked: &Writing<'_>) -> Result<(), Ending>
+    ensures { OpensFiles [] [] ⊥ (IsUnopened None) (F.view files.old) (F.view files.new)
+        (λ _. Unit {0}) result }
+{
+    match asked.clobber {
+        ClobberOption::Allowed => Ok(()),
+        ClobberOption::Refused => Ok(files.check_absent(asked.to)?),
+    }
+}
+
 /// Opens the output, unless it turns out to be a file that is read or the file of `save`, or can't
 /// be the output for another reason.
-fn create_out<F: FileSet>(
+pub(crate) fn create_out<F: FileSet>(
     alloc: Global,
     files: &mut F,
     asked: &Writing<'_>,
@@ -207,7 +216,7 @@ fn create_out<F: FileSet>(
         (making asked.now.clobber (Some asked.now.to.now) asked.now.durability) ⊥
         (IsUnopened (age_file_in asked.now.content asked.now.to.now))
         (F.view files.old) (F.view files.new) (λ o. ((F.Out.view o).taken.bytes ≡ [])
-        × ((F.Out.view o).failed ≡ 0) × ((F.Out.view o).label ≡ asked.now.to.now)
+        × ((F.Out.view o).failed ≡ 0) × ((F.Out.view o).taken.label ≡ asked.now.to.now)
         × (asked.now.clobber ≡ Refused
         → CameSince (F.view files.old) (F.view files.new) (Absent asked.now.to.now))) result }
 {
@@ -249,14 +258,8 @@ pub(crate) fn open_both<F: FileSet>(
         ++ making asked.now.clobber (Some asked.now.to.now) asked.now.durability)) ⊥
         (IsUnopened (age_file_in asked.now.content asked.now.to.now))
         (F.view files.old) (F.view files.new)
-        (λ both. AreNew (ports (F.In.view both.0) (F.Out.view both.1))
-        × F.In.began both.0 (Named asked.now.from.now)
-        × ((F.Out.view both.1).label ≡ asked.now.to.now)
-        × CameSince (F.view files.old) (F.view files.new)
-        (Found asked.now.from.now (F.In.view both.0).supply.left (F.size both.0))
-        × (asked.now.clobber ≡ Refused
-        → CameSince (F.view files.old) (F.view files.new) (Absent asked.now.to.now)))
-        result }
+        (λ both. IsNewBy F.In.view F.Out.view F.In.began F.size
+        (CameSince (F.view files.old) (F.view files.new)) asked.now both.0 both.1) result }
 {
     let source = open_in(alloc, files, asked.from, false)?;
     prepare_save(alloc, files, asked)?;
@@ -336,7 +339,7 @@ pub(crate) fn settle_end<F: FileSet>(
 
 /// Ends the output once the engine returned: whole, or as its stop leaves it. Announces the fault,
 /// and saves the position of a stop, unless it is beyond these bytes.
-pub(crate) fn conclude_settled<F: FileSet, E: Sink>(
+pub(crate) fn end_output<F: FileSet, E: Sink>(
     alloc: Global,
     files: &mut F,
     out: F::Out,
@@ -356,35 +359,9 @@ pub(crate) fn conclude_settled<F: FileSet, E: Sink>(
         Ok(()) => close_out(files, out, durability, faults, announced),
         Err(stop) => {
             leave(files, out, durability);
-            Err(end_of(
+            Err(report_and_save(
                 alloc, files, save, stop, settled, durability, faults, announced,
             ))
         }
     }
-}
-
-/// Ends the output once the engine returned, and saves the position of a stop, unless it is beyond
-/// what the output holds for certain.
-pub(crate) fn conclude<F: FileSet, E: Sink>(
-    alloc: Global,
-    files: &mut F,
-    mut out: F::Out,
-    save: Option<&str>,
-    durability: Durability,
-    faults: &mut E,
-    announced: &mut Announcement,
-    engine: Result<(), Interruption>,
-) -> Result<(), Ending>
-    ensures announced { Tells announced.new result (E.view faults.old) (E.view faults.new)
-        (faults.new ≡ faults.old) }
-    ensures concludes { (settled : ℕ) × Concludes (option_text save.entry) durability
-        (F.Out.view out) settled engine (F.view files.old) (F.view files.new) result
-        × (is_some (option_text save.entry) ≡ true → OnErr engine
-        (CameSince (F.view files.old) (F.view files.new)
-        (Settled durability (F.Out.view out).taken.bytes settled))) }
-{
-    let settled = settle_end(files, &mut out, save, durability, engine.is_err());
-    conclude_settled(
-        alloc, files, out, save, durability, faults, announced, engine, settled,
-    )
 }

@@ -126,6 +126,8 @@ fn hint_of(word: &str) -> Option<&'static str> {
         }
         "-a" | "--armor" => Some("age_tool writes no armor: leave it out"),
         "-f" | "--force" | "--yes" => Some("without --no-clobber an existing OUT is overwritten"),
+        "-v" => Some("the version is shown by age_tool --version"),
+        _ if !word.starts_with('-') => Some("a command takes one file at a time"),
         _ => None,
     }
 }

@@ -1,19 +1,19 @@
 //! The command that continues a decryption.
 
-ghost use Rattle.std.specs.Prelude.{◌≡◌, [], ◌∷◌, ℕ, List};
+ghost use Rattle.std.specs.Prelude.{◌≡◌, [], ◌∷◌, ℕ, List, Some};
 ghost use Rattle.age_io.specs.{Named, Origin};
-ghost use Rattle.age_fileset.specs.{Opened, Outcome, CameSince, HasGivenAll, FilesView, Entry, PutsOnly};
+ghost use Rattle.age_fileset.specs.{Opened, Outcome, CameSince, HasGivenAll, FilesView};
 ghost use Rattle.age_cli_args.specs.{option_text};
 ghost use Rattle.age_cli_args.specs.declared.request.ProgressOption.TheVariants.{Silent, Shown};
 ghost use Rattle.age_cli_args.specs.declared.request.Request.TheVariants.{Resume};
-ghost use Rattle.age_file.specs.{resume_ports, position_text, ResumesMarked, ports};
+ghost use Rattle.age_file.specs.{DecryptsMarked, from_position, position_text, ports, resumption};
 ghost use Rattle.age_command.specs.{allows_by, refuses_by, Tells};
 ghost use Rattle.age_cli.specs.Acts.{Acts};
-ghost use Rattle.age_cli.specs.{PortsOf, ShowsProgress, ShowsReadings, ShowsRun, resume_engine, kept_for};
+ghost use Rattle.age_cli.specs.{PortsOf, ShowsProgress, ShowsReadings, ShowsRun, decrypt_engine, kept_for};
 ghost use Rattle.age_cli.specs.{paths_of, old_found};
 ghost use Rattle.age_cli.specs.inner.{IsUnplaced, OpensFiles, RunsEngine};
 
-use crate::conclusion::{Decrypted, conclude_decryption, positions_for};
+use crate::conclusion::{Decrypted, end_decryption, positions_for};
 use crate::decrypt_command::identify;
 use crate::output::{Content, Writing, begin_meter, end_meter, open_both, open_in};
 use age_cli_args::{Decrypting, ProgressOption, Resuming};
@@ -74,11 +74,11 @@ fn resume_text<F: FileSet, P: Meter>(
     out: &mut F::Out,
     progress: &mut P,
 ) -> Decrypted<F::In>
-    ensures resumed { ResumesMarked positions (allows_by identity) (refuses_by identity)
-        position.now
-        (resume_ports (ports (F.In.view source) (F.Out.view out.old)) (F.In.view old.old))
-        (resume_ports (ports (F.In.view result.source) (F.Out.view out.new)) (F.In.view old.new))
-        result.end result.marks }
+    ensures resumed { DecryptsMarked positions (allows_by identity)
+        (from_position (allows_by identity) (refuses_by identity)
+        (resumption position.now (F.In.view old.old) (F.In.view old.new)))
+        (ports (F.In.view source) (F.Out.view out.old))
+        (ports (F.In.view result.source) (F.Out.view out.new)) result.end result.marks }
     ensures began { (name : List ℕ) → F.In.began source (Named name)
         → F.In.began result.source (Named name) }
     ensures old_began { (from : Origin) → F.In.began old.old from → F.In.began old.new from }
@@ -143,16 +143,15 @@ fn resume_opened<F: FileSet, E: Sink, P: Meter>(
     requires old { F.In.began old (Named asked.now.old.now) }
     ensures announced { Tells announced.new result (E.view faults.old) (E.view faults.new)
         (faults.new ≡ faults.old) }
-    ensures grows { (puts : List Entry) × PutsOnly puts (F.view files.old) (F.view files.new) }
     ensures opened { (first : FilesView)
         → ((o : Outcome) → CameSince (F.view files.old) (F.view files.new) o
         → CameSince first (F.view files.new) o)
-        → (F.In.view old).supply.given ≡ [] → CameSince first (F.view files.new)
+        → (F.In.view old).supply.given ≡ [] → CameSince first (F.view files.old)
         (old_found position.now asked.now.old.now (F.In.view old).supply.left (F.size old))
         → RunsEngine (PortsOf F.In.view F.Out.view) (CameSince first (F.view files.new))
-        (resume_engine (PortsOf F.In.view F.Out.view) (CameSince first (F.view files.new))
+        (decrypt_engine (PortsOf F.In.view F.Out.view) (CameSince first (F.view files.new))
         (kept_for (option_text asked.now.decrypting.save)) identity
-        position.now asked.now.old.now)
+        (Some (record { position = position.now; name = asked.now.old.now })))
         (paths_of asked.now.decrypting) asked.now.decrypting.durability asked.now.decrypting.progress
         (ports (F.In.view source) (F.Out.view out)) (F.view files.old) (F.view files.new)
         (progress.new ≡ progress.old) (λ coming left ended. ShowsReadings (F.size source) coming left
@@ -172,7 +171,7 @@ fn resume_opened<F: FileSet, E: Sink, P: Meter>(
         progress,
     );
     files.finish(old);
-    conclude_decryption(alloc, files, out, wanted, resumed, faults, announced)
+    end_decryption(alloc, files, out, wanted, resumed, faults, announced)
 }
 
 /// Continues a decryption as asked. If it stops, the line of its fault is put to `faults`, and then

@@ -17,11 +17,11 @@ Exit status: 0 on success; 1 on a fault, reported in one line such as
 and then no file has changed.
 
 Faults: 1-8: not an age file, or a damaged or truncated header; 9-15: not
-decrypted with this key; 16-22: a payload that is damaged, truncated, or followed
-by something; 23-25, 30, 31: position, file and old output don't match; 26: a
-file can't be read; 27: one can't be written; 28: out of memory; 29: an input
-never ends. `age_tool help 13` says more of 13. So do `man age_tool-faults` and
-share/doc/age_tool/FAULTS.md of a release.
+decrypted with this key; 16-22: a damaged or truncated payload, or one that
+something follows; 23-25, 30, 31: position, file and old output don't match;
+26: a file can't be read; 27: one can't be written; 28: out of memory; 29: an
+input never ends. `age_tool help 13` explains 13. So do `man age_tool-faults`
+and share/doc/age_tool/FAULTS.md of a release.
 
 A name is a path: `-` is a file of that name; /dev/stdin and /dev/stdout are the
 standard streams. OUT must not be a file that is read, under any name.
@@ -123,8 +123,8 @@ pub(crate) const MAX_LOG: &str = "With --pass, refuse work factors above N, 1 to
 pub(crate) const SAVE: &str = "If decryption stops at a fault, save its position here,
 for `resume`. A run that is killed, as by Ctrl-C, saves
 none. Must not be a file that this command reads or
-writes; it may be the file of --position. Slower from a
-pipe. Best on a disk that OUT can't fill";
+writes, except resume's --position. Slower from a pipe.
+Best on a disk that OUT can't fill";
 
 pub(crate) const NO_SYNC: &str = "Don't wait until OUT, a regular file or a block device,
 has reached the disk. Errors that come only then (NFS,

@@ -27,13 +27,13 @@ without_line_feed xs =
 -- ---- Why a command ends before its output is written.
 
 -- a file couldn't be opened, or the last pull of its reading failed
-abbrev pub IsUnread : (Outcome → Type 0) → Type 0
-IsUnread Came = ((name : Text) × Came (Unread name))
+abbrev pub IsUnreadable : (Outcome → Type 0) → Type 0
+IsUnreadable Came = ((name : Text) × Came (Unread name))
     ⊎ ((reading : Reading) × Came (Gave reading) × (reading.failing ≡ true))
 
 -- 26 and 27 have a reason
 abbrev pub HasReason : (Outcome → Type 0) → Ending → Type 0
-HasReason Came (Fault Read) = IsUnread Came
+HasReason Came (Fault Read) = IsUnreadable Came
 HasReason Came (Fault Write) = (name : Text) × Came (Unwritten name)
 HasReason Came other = Unit {0}
 

@@ -5,7 +5,7 @@ pub mod Orders
 pub mod inner
 pub use Endings.{Announces, EndsEarly, RefusesAtOnce, ReportsEnding, ReportsRest, TakesLine, Tells}
 pub use Endings.{fault_line, is_usage, place_text}
-pub use Files.{AreFirst, HasReason, HoldsOnly, IsUnread, without_line_feed}
+pub use Files.{AreFirst, HasReason, HoldsOnly, IsUnreadable, without_line_feed}
 pub use Identities.{Chooses, IsEnough, IsIdentity, IsPassphraseIn, IsSecretGiven, IsSharedIn, Makes, MakesBy}
 pub use Identities.{MakesNone, allows_by, blame_by, either_name, file_bytes, file_of, identity_file}
 pub use Identities.{refuses_by}

@@ -8,7 +8,7 @@ ghost use Rattle.age_fileset.specs.declared.files.OpenFault.TheVariants.{SameFil
 ghost use Rattle.age_command.specs.Orders.{opening_event};
 ghost use Rattle.age_command.specs.Identities.{IsPassphraseIn, IsSharedIn, MakesBy, file_of, blame_by};
 ghost use Rattle.age_command.specs.Identities.{blame_in, file_bytes, Makes, Chooses, IsEnough, IsSecretGiven};
-ghost use Rattle.age_command.specs.Files.{IsUnread};
+ghost use Rattle.age_command.specs.Files.{IsUnreadable};
 ghost use Rattle.age_command.specs.declared.identity.Identity.{Identity};
 
 use crate::Usage;
@@ -60,7 +60,7 @@ impl<'a> Choice<'a> {
         ensures does { Does (opening_event (file_of self.now)) (F.view files.old) (F.view files.new) }
         ensures faults { IfErr result (OpenFails Read) }
         ensures reason { IfErr result (λ f. f ≡ Fault Read
-            → IsUnread (CameSince (F.view files.old) (F.view files.new))) }
+            → IsUnreadable (CameSince (F.view files.old) (F.view files.new))) }
         ensures in_use { IfErr result (λ f. f ≡ SameFile → IsSomeAnd (file_of self.now)
             (λ name. CameSince (F.view files.old) (F.view files.new) (InUse name))) }
         ensures given { IfOk result (λ o. IsSecretGiven
@@ -98,7 +98,7 @@ impl<'a> Choice<'a> {
 }
 
 /// The passphrase in the bytes of its file.
-fn passphrase_in(secret: Option<Vec<u8>>, max_log: u32) -> Option<OwnPassphrase>
+pub fn passphrase_in(secret: Option<Vec<u8>>, max_log: u32) -> Option<OwnPassphrase>
     ensures some { IfSome result (λ words. IsPassphraseIn (file_bytes secret) words.pass
         × (words.max_log ≡ max_log) × IsAllowed words.pass words.max_log) }
     ensures none { IfNone result ((words : PassphraseIdentity)

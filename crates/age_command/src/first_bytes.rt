@@ -7,7 +7,7 @@ ghost use Rattle.age_fileset.specs.{HasGivenAll};
 ghost use Rattle.age_fileset.specs.declared.files.OpenFault.TheVariants.{SameFile, Fault};
 ghost use Rattle.age_fault.specs.declared.fault.FileFault.TheVariants.{Read};
 ghost use Rattle.age_io.specs.{Origin, Consumes, IsAtEnd};
-ghost use Rattle.age_command.specs.{AreFirst, IsUnread};
+ghost use Rattle.age_command.specs.{AreFirst, IsUnreadable};
 ghost use Rattle.age_command.specs.inner.{IsPiece};
 
 use crate::identity::PASSPHRASE_FILE_MAX;
@@ -124,7 +124,7 @@ pub fn read_file<F: FileSet>(
         × (most < length bytes))) }
     ensures faults { IfErr result (OpenFails Read) }
     ensures reason { IfErr result (λ f. f ≡ Fault Read
-        → IsUnread (CameSince (F.view files.old) (F.view files.new))) }
+        → IsUnreadable (CameSince (F.view files.old) (F.view files.new))) }
     ensures in_use { IfErr result (λ f. f ≡ SameFile
         → CameSince (F.view files.old) (F.view files.new) (InUse name.now)) }
 {

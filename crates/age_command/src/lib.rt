@@ -18,7 +18,7 @@ mod reporting;
 mod script;
 mod secret;
 
-pub use choice::Choice;
+pub use choice::{Choice, passphrase_in};
 pub use drill::drill_file;
 pub use ending::{Announcement, Ending, Usage};
 pub use first_bytes::{fill_first, read_file, read_first, read_up_to};

@@ -14,7 +14,7 @@ pub fn put_bytes<O: Sink>(sink: &mut O, bytes: &[u8]) -> Result<(), FileFault>
     ensures same { OnOk result ((O.view sink.new).failed ≡ (O.view sink.old).failed) }
     ensures err { OnErr result (HasRisen (O.view sink.old).failed (O.view sink.new).failed) }
     ensures fault { IfErr result (λ fault. fault ≡ Write) }
-    ensures named { (O.view sink.new).label ≡ (O.view sink.old).label }
+    ensures named { (O.view sink.new).taken.label ≡ (O.view sink.old).taken.label }
 {
     let mut written = 0;
     write_all(sink, bytes, &mut written)

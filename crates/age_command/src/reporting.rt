@@ -39,7 +39,6 @@ impl Sink for FaultLine {
       taken = holds line.bytes.items;
       failed = line.failures.count;
       failing = line.failures.last;
-      label = [];
       settled = true;
     } };
 

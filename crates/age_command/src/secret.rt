@@ -39,8 +39,9 @@ impl Erased {
     }
 }
 
-/// A passphrase that owns the bytes of its file, and the greatest work factor that is accepted with
-/// it. When it is dropped, these bytes are overwritten. A contract sees both.
+/// A passphrase that owns the bytes of its file, and a work factor: the greatest that is accepted
+/// with it, or the one that is written. When it is dropped, these bytes are overwritten. A contract
+/// sees both.
 #[derive(Drop)]
 pub struct OwnPassphrase {
     held: Erased,
@@ -73,8 +74,19 @@ impl Unlock for OwnPassphrase {
     ) -> Result<FileKey, KeyFault> {
         match Passphrase::new(trimmed(self.held.bytes()), self.max_log) {
             Some(pass) => pass.unlock(alloc, header, steps),
-            None => Err(KeyFault::NoMatch),
+            // (its invariant says so)
+            None => unreachable!(),
         }
+    }
+}
+
+impl OwnPassphrase {
+    /// The bytes of the passphrase, and the work factor.
+    pub fn parts(&self) -> (&[u8], u32)
+        ensures parts { (result.0.now ≡ self.now.pass) × (result.1 ≡ self.now.max_log) }
+        ensures allowed { IsAllowed self.now.pass self.now.max_log }
+    {
+        (trimmed(self.held.bytes()), self.max_log)
     }
 }
 

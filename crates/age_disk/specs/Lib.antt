@@ -1,6 +1,7 @@
 pub mod Inputs
 pub mod Laws
 pub mod Outputs
+pub mod Saving
 pub mod Targets
 pub mod inner
 pub use Inputs.{InputView, IsUnread, as_source}

@@ -8,6 +8,8 @@ use Rattle.age_disk.specs.declared.names.FileId.{FileId}
 use Rattle.age_disk.specs.declared.names.FileId.TheVariants.{File}
 
 pub record OutputView : Type 0 where
+  -- the name under which it was opened or made
+  pub name : List ℕ
   -- how many puts have failed, and whether the last call did
   pub failed : ℕ
   pub failing : Bool
@@ -38,16 +40,17 @@ HasAll opened later = (one : FileId) → Contains opened one → Contains later 
 -- a sink that took these bytes; it doesn't show what it holds
 abbrev pub sink_of : (failed : ℕ) (failing : Bool) (took : List ℕ) → SinkView
 sink_of failed failing took = record {
-  taken = record { bytes = took; contents = None };
+  taken = record { bytes = took; contents = None; label = [] };
   failed = failed;
   failing = failing;
-  label = [];
   settled = true;
 }
 
 -- the file as a sink
 abbrev pub as_sink : OutputView → SinkView
-as_sink out = sink_of out.failed out.failing out.took
+as_sink out = record (sink_of out.failed out.failing out.took) {
+  taken = record { bytes = out.took; contents = None; label = out.name };
+}
 
 -- nothing was put into it yet
 pub record IsNew (out : OutputView) : Type 0 where

@@ -2,8 +2,8 @@
 use Rattle.std.specs.Prelude.{◌≡◌, ◌≤◌, ℕ, List, [], length, Option, Some, None, false}
 use Rattle.age_machine.specs.{OutView, text_of}
 use Rattle.age_disk.specs.declared.output.Pace.{Pace}
-use Rattle.age_disk.specs.declared.output.Target.{Target}
-use Rattle.age_disk.specs.declared.output.Target.TheVariants as target
+use Rattle.age_disk.specs.declared.target.Target.{Target}
+use Rattle.age_disk.specs.declared.target.Target.TheVariants as target
 
 -- the regular file among targets
 abbrev pub regular_of : Target → Option OutView

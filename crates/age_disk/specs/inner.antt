@@ -4,8 +4,8 @@ use Rattle.std.specs.Prelude.{◌≡◌, ℕ, List, [], ◌++◌, take, Bool, tr
 use Rattle.std.specs.Prelude.{Err}
 use Rattle.age_io.specs.Supply.{Supply}
 use Rattle.age_machine.specs.{FileCall, OutView, text_of}
-use Rattle.age_disk.specs.declared.output.Target.{Target}
-use Rattle.age_disk.specs.declared.output.Target.TheVariants as target
+use Rattle.age_disk.specs.declared.target.Target.{Target}
+use Rattle.age_disk.specs.declared.target.Target.TheVariants as target
 
 -- the calls that opened what is no regular file
 abbrev pub opening_calls : Target → List FileCall

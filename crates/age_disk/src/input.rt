@@ -6,7 +6,7 @@ ghost use Rattle.age_io.specs.{IsNamed, ReadConsumes};
 ghost use Rattle.age_disk.specs.{IsUnread, as_source};
 ghost use Rattle.age_disk.specs.inner.{supply_of};
 
-use crate::names::{FileId, Resolved, Stream, is_on_disk, is_random, resolve};
+use crate::names::{FileId, Led, Resolved, Stream, is_on_disk, is_random};
 use age_io::{Failed, Failures, Source, Tape};
 use age_machine::{TRIES, above_streams, is_to_retry, too_many_tries};
 use std::alloc::Global;
@@ -163,9 +163,10 @@ impl HostIn {
     pub fn open(alloc: Global, rt: &HostRuntime, name: &str) -> io::Result<HostIn>
         ensures { IfOk result (IsUnread name.now) }
     {
-        match resolve(alloc, rt, name)? {
-            Resolved::Stream(stream) => HostIn::open_stream(rt, name, stream),
-            Resolved::Path(_) => HostIn::open_path(rt, name),
+        let Led { name, to } = Led::of(alloc, rt, name)?;
+        match to {
+            Resolved::Stream(stream) => HostIn::open_stream(rt, name.as_str(), stream),
+            Resolved::Path(_) => HostIn::open_path(rt, name.as_str()),
         }
     }
 

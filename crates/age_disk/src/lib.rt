@@ -12,6 +12,7 @@ mod paths;
 mod prepare;
 mod saving;
 mod sync;
+mod target;
 
 pub use age_machine::{Node, found_at};
 pub use input::HostIn;
@@ -19,4 +20,4 @@ pub use laws::no_input_is_changed;
 pub use names::{FileId, Resolved, Stream, StreamId};
 pub use output::{Ended, HostOut};
 pub use prepare::Prepared;
-pub use saving::{Saved, replace};
+pub use saving::{Placed, Saved, replace};

@@ -1,6 +1,6 @@
 //! What the machine's names stand for: an inherited stream, or a file, whatever links lead to it.
 
-ghost use Rattle.std.specs.Prelude.{◌≡◌, ◌<◌, ◌^◌};
+ghost use Rattle.std.specs.Prelude.{◌≡◌, ◌<◌, ◌^◌, IfOk, string_bytes};
 ghost use Rattle.age_disk.specs.declared.names.FileId.TheVariants.{File};
 
 use age_machine::Node;
@@ -77,6 +77,25 @@ pub enum Resolved {
     Stream(Stream),
     /// A path that is no link; whether there is a file is another matter.
     Path(PathBuf),
+}
+
+/// A name, and what it stands for.
+#[derive(Drop)]
+pub(crate) struct Led {
+    pub(crate) name: String,
+    pub(crate) to: Resolved,
+}
+
+impl Led {
+    /// What a name stands for, noted with it: where that is, no proof sees.
+    pub(crate) fn of(alloc: Global, rt: &HostRuntime, name: &str) -> io::Result<Led>
+        ensures { IfOk result (λ l. string_bytes l.name ≡ name.now) }
+    {
+        Ok(Led {
+            name: String::from_str(alloc, name)?,
+            to: resolve(alloc, rt, name)?,
+        })
+    }
 }
 
 /// How many links are followed, as the system does.

@@ -1,8 +1,8 @@
 //! A file of the machine that is written.
 
 ghost use Rattle.std.specs.Prelude.{◌≡◌, ◌↔◌, ◌≤◌, ◌<◌, [], ◌∷◌, ◌++◌, None, Some, true, false, length};
-ghost use Rattle.std.specs.Prelude.{is_ok, IfOk, IfSome, OnOk, OnErr, MatchResult, string_bytes, is_err, ℕ, List};
-ghost use Rattle.std.specs.Prelude.{option_map};
+ghost use Rattle.std.specs.Prelude.{is_ok, is_err, IfOk, IfSome, OnOk, OnErr, MatchResult, string_bytes};
+ghost use Rattle.std.specs.Prelude.{option_map, ℕ, List};
 ghost use Rattle.std.specs.Io.{WritesAtMost};
 ghost use Rattle.age_io.specs.{one_more};
 ghost use Rattle.age_io.specs.declared.durability.Durability.TheVariants as wait;
@@ -13,143 +13,17 @@ ghost use Rattle.age_disk.specs.Targets.{regular_of, IsTaking, IsPaced};
 ghost use Rattle.age_disk.specs.inner.{opening_calls, part_of, TargetPuts};
 
 use crate::device::Device;
-use crate::names::{FileId, Resolved, Stream, is_handed_on, resolve};
-use crate::sync::{Witness, close_stream, sync_file};
+use crate::names::{FileId, Led, Resolved, Stream};
+use crate::sync::{Witness, close_stream};
+use crate::target::Target;
 use age_io::{Durability, Failed, Failures, Sink, Tape};
 use age_machine::calls::close;
-use age_machine::{
-    HostFile, HostMachine, Kind, Machine, Node, Opening, Out, TRIES, is_to_retry, too_many_tries,
-};
+use age_machine::{HostFile, HostMachine, Kind, Machine, Node, Opening, Out};
 use std::alloc::Global;
-use std::fs::{self, File};
-use std::io::{self, IsTerminal, Write};
+use std::fs::File;
+use std::io::{self, IsTerminal};
 use std::marker::Model;
-use std::os::fd::AsFd;
-use std::rt::{HostRuntime, Stderr, Stdout};
-
-/// Where its bytes go.
-#[derive(Drop)]
-enum Target {
-    /// A regular file that was opened.
-    File(Out<HostMachine>),
-    /// A pipe or a device that was opened.
-    Device(Device),
-    /// Standard output, from where it stands, and what its disk is waited for by.
-    Output(Stdout, Witness),
-    /// Standard error, from where it stands.
-    Faults(Stderr, Witness),
-}
-
-/// Writes to what is no regular file, and notes what it took: what no proof sees.
-fn write_once<W: Write>(to: &mut W, from: &[u8], handed: &mut Tape) -> io::Result<usize>
-    ensures bound { WritesAtMost result from.now }
-    ensures notes { handed.new ≡ handed.old ++ part_of result from.now }
-    ensures err { OnErr result (handed.new ≡ handed.old) }
-{
-    let n = to.write(from)?;
-    handed.note(&from[..n]);
-    Ok(n)
-}
-
-/// Writes, and tries again if the machine says to.
-fn write_to<W: Write>(
-    rt: &HostRuntime,
-    to: &mut W,
-    from: &[u8],
-    handed: &mut Tape,
-) -> io::Result<usize>
-    ensures bound { WritesAtMost result from.now }
-    ensures notes { handed.new ≡ handed.old ++ part_of result from.now }
-{
-    for _ in 0..TRIES {
-        match write_once(to, from, handed) {
-            Err(error) if is_to_retry(rt, &error) => {}
-            written => return written,
-        }
-    }
-    Err(too_many_tries())
-}
-
-impl Target {
-    fn write(&mut self, rt: &HostRuntime, from: &[u8], handed: &mut Tape) -> io::Result<usize>
-        ensures bound { WritesAtMost result from.now }
-        ensures goes { TargetPuts (regular_of self.old) (regular_of self.new) (is_ok result)
-            (part_of result from.now) }
-        ensures handed { regular_of self.old ≡ None
-            → handed.new ≡ handed.old ++ part_of result from.now }
-    {
-        match self {
-            Target::File(_) if from.is_empty() => Ok(0),
-            Target::File(out) => out.put(from),
-            Target::Device(device) => write_to(rt, &mut device.file.file(), from, handed),
-            Target::Output(output, _) => write_to(rt, output, from, handed),
-            Target::Faults(faults, _) => write_to(rt, faults, from, handed),
-        }
-    }
-
-    /// Waits until what was written has reached the disk.
-    fn reach_disk(&mut self) -> io::Result<()>
-        ensures { TargetPuts (regular_of self.old) (regular_of self.new) true [] }
-    {
-        match self {
-            Target::File(out) => out.reach(),
-            Target::Device(device) => sync_file(device.file.file()),
-            Target::Output(_, witness) => witness.sync(),
-            Target::Faults(_, witness) => witness.sync(),
-        }
-    }
-
-    /// Closes a second descriptor of it, if one can be had: some file systems store a file only as
-    /// one is closed, and say only then that they can't.
-    fn close_copy(&self, rt: &HostRuntime) -> io::Result<()> {
-        let copy = match self {
-            Target::File(out) => out.file().file().as_fd().try_clone_to_owned(),
-            Target::Device(_) => return Ok(()),
-            Target::Output(..) => Stream::Output.copy(rt),
-            Target::Faults(..) => Stream::Faults.copy(rt),
-        };
-        match copy {
-            Ok(copy) => close(rt, copy),
-            Err(_) => Ok(()),
-        }
-    }
-
-    /// How long the file is to which its name leads; 0 if there is none.
-    fn length_by_name(&self, rt: &HostRuntime) -> u64 {
-        let path = match self {
-            Target::File(out) => out.path(),
-            Target::Device(_) => return u64::MAX,
-            Target::Output(..) => Stream::Output.path(),
-            Target::Faults(..) => Stream::Faults.path(),
-        };
-        match fs::metadata(rt, path) {
-            Ok(metadata) => metadata.len(),
-            Err(_) => 0,
-        }
-    }
-
-    /// How many of the last bytes may be on their way to whoever reads it.
-    fn on_the_way(&self, rt: &HostRuntime) -> u64 {
-        let found = match self {
-            Target::File(_) => return 0,
-            Target::Device(device) => device.file.file().metadata(),
-            Target::Output(..) => fs::metadata(rt, Stream::Output.path()),
-            Target::Faults(..) => fs::metadata(rt, Stream::Faults.path()),
-        };
-        match found {
-            Ok(metadata) if is_handed_on(&metadata) => ON_THE_WAY,
-            _ => 0,
-        }
-    }
-
-    /// Whether the disk can be waited for. If it can't, that is said at the end, once all is written.
-    fn can_reach_disk(&self) -> bool {
-        match self {
-            Target::File(_) | Target::Device(_) => true,
-            Target::Output(_, witness) | Target::Faults(_, witness) => !witness.is_missing(),
-        }
-    }
-}
+use std::rt::HostRuntime;
 
 /// How much a file took, and when the disk is waited for.
 #[derive(Clone, Copy)]
@@ -365,6 +239,7 @@ impl Ended {
 #[derive(Drop)]
 pub struct HostOut {
     rt: HostRuntime,
+    name: String,
     target: Target,
     // Which file it is, if that is known.
     id: Option<FileId>,
@@ -379,13 +254,14 @@ pub struct HostOut {
 
 impl Model for HostOut {
     ghost use Rattle.age_disk.specs.Outputs.{OutputView, HasNode};
-    ghost use Rattle.std.specs.Prelude.{◌≡◌, None, option_map, IfSome};
+    ghost use Rattle.std.specs.Prelude.{◌≡◌, None, option_map, IfSome, string_bytes};
     ghost use Rattle.age_machine.specs.{OutView};
     ghost use Rattle.age_disk.specs.Targets.{regular_of, IsTaking, IsPaced};
 
     ghost Value = { OutputView };
 
     ghost view = { λ s. record {
+      name = string_bytes s.name;
       failed = s.failures.count;
       failing = s.failures.last;
       took = s.took;
@@ -404,10 +280,6 @@ impl Model for HostOut {
 const WAIT_FIRST: u64 = 1 << 24;
 
 const WAIT_MOST: u64 = 1 << 30;
-
-/// How many bytes of what a pipe took aren't counted as certain, since the pipe and its reader may hold
-/// them: a network connection holds megabytes.
-const ON_THE_WAY: u64 = 4 << 20;
 
 /// Whether the disk is to be waited for before more is written.
 fn is_wait_due(taken: u64, settled: u64) -> bool {
@@ -519,14 +391,16 @@ fn end_stream(
 }
 
 impl HostOut {
-    fn new(rt: &HostRuntime, target: Target, id: Option<FileId>) -> HostOut
+    fn new(rt: &HostRuntime, name: String, target: Target, id: Option<FileId>) -> HostOut
         requires taking { IsTaking (regular_of target) 0 [] }
         requires node { IfSome (regular_of target) (λ o. HasNode id o.file) }
         ensures fresh { IsNew result }
+        ensures named { result.name ≡ string_bytes name }
         ensures file { result.file ≡ option_map (λ (o : OutView). o.file) (regular_of target) }
     {
         HostOut {
             rt: *rt,
+            name,
             target,
             id,
             failures: Failures::none(),
@@ -546,7 +420,8 @@ impl HostOut {
     pub fn faults(rt: &HostRuntime) -> HostOut
         ensures { IsNew result }
     {
-        HostOut::new(rt, Target::Faults(rt.stderr(), Witness::none()), None)
+        let target = Target::Faults(rt.stderr(), Witness::none());
+        HostOut::new(rt, String::new(rt.alloc()), target, None)
     }
 
     /// Opens what a name stands for without emptying it, or makes a file if there is none. Nothing
@@ -558,11 +433,13 @@ impl HostOut {
         name: &str,
         durability: Durability,
     ) -> io::Result<HostOut>
-        ensures { IfOk result IsNew }
+        ensures fresh { IfOk result IsNew }
+        ensures named { IfOk result (λ o. o.name ≡ name.now) }
     {
-        let mut out = match resolve(alloc, rt, name)? {
+        let Led { name, to } = Led::of(alloc, rt, name)?;
+        let mut out = match to {
             Resolved::Path(path) => HostOut::open_at(alloc, rt, name, path.as_str())?,
-            Resolved::Stream(stream) => HostOut::of_stream(rt, stream)?,
+            Resolved::Stream(stream) => HostOut::of_stream(rt, name, stream)?,
         };
         if out.target.can_reach_disk() {
             out.pace.durability = durability;
@@ -578,22 +455,25 @@ impl HostOut {
         durability: Durability,
     ) -> io::Result<HostOut>
         ensures fresh { IfOk result IsNew }
+        ensures named { IfOk result (λ o. o.name ≡ name.now) }
         ensures made { IfOk result (IsMadeAt name.now) }
     {
-        let mut out = HostOut::make_by(alloc, HostMachine::new(rt), rt, name)?;
+        let own = String::from_str(alloc, name)?;
+        let mut out = HostOut::make_by(alloc, HostMachine::new(rt), rt, own, name)?;
         out.pace.durability = durability;
         Ok(out)
     }
 
     /// Opens the file at the end of a name's links, or makes it if there is none.
-    fn open_at(alloc: Global, rt: &HostRuntime, name: &str, path: &str) -> io::Result<HostOut>
-        ensures { IfOk result IsNew }
+    fn open_at(alloc: Global, rt: &HostRuntime, name: String, path: &str) -> io::Result<HostOut>
+        ensures fresh { IfOk result IsNew }
+        ensures named { IfOk result (λ o. o.name ≡ string_bytes name) }
     {
         let own = String::from_str(alloc, path)?;
         let mut machine = HostMachine::new(rt);
-        match machine.open(name, own.as_str())? {
-            Some(opened) => HostOut::of_opened(rt, machine, opened, own),
-            None => HostOut::make_by(alloc, machine, rt, path),
+        match machine.open(name.as_str(), own.as_str())? {
+            Some(opened) => HostOut::of_opened(rt, machine, opened, name, own),
+            None => HostOut::make_by(alloc, machine, rt, name, path),
         }
     }
 
@@ -602,17 +482,19 @@ impl HostOut {
         alloc: Global,
         mut machine: HostMachine,
         rt: &HostRuntime,
+        name: String,
         path: &str,
     ) -> io::Result<HostOut>
         requires { (machine.calls ≡ []) × (machine.failed ≡ 0) }
         ensures fresh { IfOk result IsNew }
+        ensures named { IfOk result (λ o. o.name ≡ string_bytes name) }
         ensures made { IfOk result (IsMadeAt path.now) }
     {
         let own = String::from_str(alloc, path)?;
         let file = machine.make_output(own.as_str())?;
         let id = Some(FileId::of_node(file.node()));
         let out = Out::new(machine, file, own, Opening::New);
-        Ok(HostOut::new(rt, Target::File(out), id))
+        Ok(HostOut::new(rt, name, Target::File(out), id))
     }
 
     /// What was opened to be written; what is written to a regular file replaces what it holds.
@@ -620,17 +502,20 @@ impl HostOut {
         rt: &HostRuntime,
         machine: HostMachine,
         opened: (HostFile, Kind),
+        name: String,
         path: String,
     ) -> io::Result<HostOut>
         requires unfailed { machine.failed ≡ 0 }
         requires opened { machine.calls
             ≡ Opened (string_bytes path) (number_of opened.0.node) opened.1 ∷ [] }
-        ensures { IfOk result IsNew }
+        ensures fresh { IfOk result IsNew }
+        ensures named { IfOk result (λ o. o.name ≡ string_bytes name) }
     {
         let (file, kind) = opened;
         let Kind::Regular(is_waited) = kind else {
             let id = FileId::of(&file.file().metadata()?);
-            return Ok(HostOut::new(rt, Target::Device(Device { file, machine }), id));
+            let device = Target::Device(Device { file, machine });
+            return Ok(HostOut::new(rt, name, device, id));
         };
         let opening = Opening::Found {
             is_named: file.is_named(),
@@ -638,21 +523,27 @@ impl HostOut {
         };
         let id = Some(FileId::of_node(file.node()));
         let out = Out::new(machine, file, path, opening);
-        Ok(HostOut::new(rt, Target::File(out), id))
+        Ok(HostOut::new(rt, name, Target::File(out), id))
     }
 
     /// A file that is open to be written, to which a path leads, unless it is a device. Its name
     /// isn't waited for.
-    pub fn over(alloc: Global, rt: &HostRuntime, file: File, path: &str) -> io::Result<HostOut> {
-        let own = String::from_str(alloc, path)?;
+    pub fn over(alloc: Global, rt: &HostRuntime, file: File, path: &str) -> io::Result<HostOut>
+        ensures { IfOk result IsNew }
+    {
+        let (name, own) = (
+            String::from_str(alloc, path)?,
+            String::from_str(alloc, path)?,
+        );
         let mut machine = HostMachine::new(rt);
         let opened = machine.adopt(file, own.as_str())?;
-        HostOut::of_opened(rt, machine, opened, own)
+        HostOut::of_opened(rt, machine, opened, name, own)
     }
 
-    /// A stream that can be written, from where it stands.
-    pub fn of_stream(rt: &HostRuntime, stream: Stream) -> io::Result<HostOut>
-        ensures { IfOk result IsNew }
+    /// A stream of this name that can be written, from where it stands.
+    pub fn of_stream(rt: &HostRuntime, name: String, stream: Stream) -> io::Result<HostOut>
+        ensures fresh { IfOk result IsNew }
+        ensures named { IfOk result (λ o. o.name ≡ string_bytes name) }
     {
         stream.check(rt)?;
         let target = match stream {
@@ -661,17 +552,24 @@ impl HostOut {
             Stream::Faults => Target::Faults(rt.stderr(), Witness::of(rt, stream)),
         };
         let id = FileId::of_open_stream(rt, stream)?;
-        Ok(HostOut::new(rt, target, id))
+        Ok(HostOut::new(rt, name, target, id))
     }
 
     /// Takes a regular file for this run alone, so that no two runs write to one. Fails if another
     /// run has it, or if its name leads to it no longer, as when another run that had made it has
     /// removed it.
-    pub fn claim(self, rt: &HostRuntime, name: &str) -> io::Result<HostOut>
+    pub fn claim(self, rt: &HostRuntime) -> io::Result<HostOut>
         ensures { IfOk result (λ o. o ≡ self) }
     {
-        let target = claimed(rt, self.target, self.id, name)?;
+        let target = claimed(rt, self.target, self.id, self.name.as_str())?;
         Ok(HostOut { target, ..self })
+    }
+
+    /// The name under which it was opened or made.
+    pub fn name(&self) -> &str
+        ensures { result.now ≡ self.now.name }
+    {
+        self.name.as_str()
     }
 
     /// The bytes that it took, for contracts alone.

@@ -1,10 +1,12 @@
 //! Replaces a file of the machine as a whole.
 
-ghost use Rattle.std.specs.Prelude.{◌≡◌, None, Some};
+ghost use Rattle.std.specs.Prelude.{◌≡◌, None, Some, IsSomeAnd, OnOk, is_some, true};
 ghost use Rattle.age_machine.specs.Saved.{Saves};
+ghost use Rattle.age_disk.specs.Outputs.{IsNew};
+ghost use Rattle.age_disk.specs.Saving.{SavesBytes, WritesDirectly};
 
 use crate::names::{Resolved, is_on_disk};
-use crate::output::HostOut;
+use crate::output::{Ended, HostOut};
 use crate::paths::{make_file, open_at_once, remove_own};
 use crate::prepare::Prepared;
 use crate::sync::sync_folder;
@@ -23,15 +25,14 @@ use std::os::unix::fs::FileTypeExt;
 use std::path::PathBuf;
 use std::rt::HostRuntime;
 
-/// What was done for a file that was replaced, for contracts alone.
+/// Where a new file was put, if one was made beside, and by which calls, for contracts alone.
 #[derive(Drop)]
-pub struct Saved {
-    // Where a new file was put, if one was made beside.
+pub struct Placed {
     path: Option<Tape>,
     machine: HostMachine,
 }
 
-impl Model for Saved {
+impl Model for Placed {
     ghost use Rattle.age_machine.specs.{SavedFile};
 
     ghost Value = { SavedFile };
@@ -42,27 +43,40 @@ impl Model for Saved {
     } };
 }
 
+/// What was done for a file that was replaced, for contracts alone.
+#[derive(Drop)]
+pub struct Saved {
+    pub file: Placed,
+    /// What was written directly, and ended, if something was.
+    pub direct: Option<Ended>,
+}
+
 impl Saved {
     /// Nothing so far, or a file that is written directly.
     pub fn directly(rt: &HostRuntime) -> Saved
-        ensures { result.path ≡ None }
+        ensures { result.file.path ≡ None }
     {
+        let machine = HostMachine::new(rt);
         Saved {
-            path: None,
-            machine: HostMachine::new(rt),
+            file: Placed {
+                path: None,
+                machine,
+            },
+            direct: None,
         }
     }
 
     /// A new file that was put to a path.
     fn beside(path: &str, machine: HostMachine) -> Saved
-        ensures path { result.path ≡ Some path.now }
-        ensures calls { result.calls ≡ machine.calls }
+        ensures path { result.file.path ≡ Some path.now }
+        ensures calls { result.file.calls ≡ machine.calls }
     {
         let mut own = Tape::new();
         own.note(path.as_bytes());
+        let path = Some(own);
         Saved {
-            path: Some(own),
-            machine,
+            file: Placed { path, machine },
+            direct: None,
         }
     }
 }
@@ -103,7 +117,8 @@ impl<'a> Order<'a> {
     /// Puts a new file to a path. It is the one that was made beside when this was prepared, unless
     /// that is gone, or can't be written over.
     fn replace_beside(&self, path: &PathBuf, to: Spot, saved: &mut Saved) -> Result<(), Unplaced>
-        ensures { Saves self.now.bytes.now self.now.durability result saved.new }
+        ensures saves { Saves self.now.bytes.now self.now.durability result saved.new.file }
+        ensures beside { is_some saved.new.file.path ≡ true }
     {
         let (alloc, bytes, durability) = (self.alloc, self.bytes, self.durability);
         let folder = self.prepared.folder();
@@ -135,22 +150,30 @@ impl<'a> Order<'a> {
     }
 
     /// Writes the bytes to what is open; they replace what it holds.
-    fn fill_directly(&self, mut out: HostOut) -> io::Result<()> {
+    fn fill_directly(&self, mut out: HostOut, saved: &mut Saved) -> io::Result<()>
+        requires { IsNew out }
+        ensures same { saved.new.file ≡ saved.old.file }
+        ensures direct { OnOk result (IsSomeAnd saved.new.direct (WritesDirectly self.now.bytes.now)) }
+    {
         let mut written = 0;
         let put = write_all(&mut out, self.bytes, &mut written);
         let error = out.error();
-        let (_, ended) = out.close(self.rt, self.durability);
-        ended?;
+        let (ended, end) = out.close(self.rt, self.durability);
+        saved.direct = Some(ended);
+        end?;
         put.or(Err(error))
     }
 
     /// Makes a file at a path where there is none.
-    fn make_directly(&self, path: &PathBuf) -> io::Result<()> {
+    fn make_directly(&self, path: &PathBuf, saved: &mut Saved) -> io::Result<()>
+        ensures same { saved.new.file ≡ saved.old.file }
+        ensures direct { OnOk result (IsSomeAnd saved.new.direct (WritesDirectly self.now.bytes.now)) }
+    {
         let (rt, name) = (self.rt, path.as_str());
         let file = make_file(rt, name)?;
         lock(&file)?;
         let out = HostOut::over(self.alloc, rt, file.try_clone()?, name)?;
-        if let Err(error) = self.fill_directly(out) {
+        if let Err(error) = self.fill_directly(out, saved) {
             remove_own(rt, &file, name);
             return Err(error);
         }
@@ -162,13 +185,13 @@ impl<'a> Order<'a> {
 
     /// Makes a file at a path where there is none, or a link, which it replaces.
     fn make_at(&self, path: &PathBuf, to: Spot, saved: &mut Saved) -> io::Result<()>
-        ensures { Saves self.now.bytes.now self.now.durability result saved.new }
+        ensures { SavesBytes self.now.bytes.now self.now.durability result saved.new }
     {
         match self.replace_beside(path, to, saved) {
             Ok(()) => Ok(()),
             Err(Unplaced::NotBeside) => {
                 *saved = Saved::directly(self.rt);
-                self.make_directly(path)
+                self.make_directly(path, saved)
             }
             Err(Unplaced::Failed(error)) => Err(error),
             Err(Unplaced::Memory) => Err(io::Error::from(io::ErrorKind::OutOfMemory)),
@@ -191,8 +214,8 @@ impl<'a> Order<'a> {
     /// Replaces the file that was found at a path. One that no other can replace is written
     /// directly.
     fn replace_found(&self, path: &PathBuf, found: &Metadata, saved: &mut Saved) -> io::Result<()>
-        requires { saved.old.path ≡ None }
-        ensures { Saves self.now.bytes.now self.now.durability result saved.new }
+        requires { saved.old.file.path ≡ None }
+        ensures { SavesBytes self.now.bytes.now self.now.durability result saved.new }
     {
         let file = self.open_found(path, Node::of(found))?;
         if found.is_file() {
@@ -203,15 +226,16 @@ impl<'a> Order<'a> {
                 Err(Unplaced::Memory) => return Err(io::Error::from(io::ErrorKind::OutOfMemory)),
             }
         }
-        self.fill_directly(HostOut::over(self.alloc, self.rt, file, path.as_str())?)
+        let out = HostOut::over(self.alloc, self.rt, file, path.as_str())?;
+        self.fill_directly(out, saved)
     }
 
     /// Puts a file where a path led, without following a link that has come there. What is no file
     /// is refused, since a pipe that has come there might have to be waited for forever. So is a
     /// file that has come to where none was.
     fn replace_at(&self, path: &PathBuf, saved: &mut Saved) -> io::Result<()>
-        requires { saved.old.path ≡ None }
-        ensures { Saves self.now.bytes.now self.now.durability result saved.new }
+        requires { saved.old.file.path ≡ None }
+        ensures { SavesBytes self.now.bytes.now self.now.durability result saved.new }
     {
         let to = match found_at(self.rt, path.as_str())? {
             Some(found) if is_on_disk(&found) && self.prepared.was_nothing() => {
@@ -229,15 +253,19 @@ impl<'a> Order<'a> {
 
     /// Puts a file where the name led.
     fn replace_named(&self, saved: &mut Saved) -> io::Result<()>
-        requires { saved.old.path ≡ None }
-        ensures { Saves self.now.bytes.now self.now.durability result saved.new }
+        requires { saved.old.file.path ≡ None }
+        ensures { SavesBytes self.now.bytes.now self.now.durability result saved.new }
     {
         if let Some((name, device)) = self.prepared.device() {
             let file = open_device(self.rt, name, device)?;
-            return self.fill_directly(HostOut::over(self.alloc, self.rt, file, name)?);
+            let out = HostOut::over(self.alloc, self.rt, file, name)?;
+            return self.fill_directly(out, saved);
         }
         match self.prepared.resolved() {
-            Resolved::Stream(stream) => self.fill_directly(HostOut::of_stream(self.rt, *stream)?),
+            Resolved::Stream(stream) => {
+                let name = String::from_str(self.alloc, self.prepared.name())?;
+                self.fill_directly(HostOut::of_stream(self.rt, name, *stream)?, saved)
+            }
             Resolved::Path(path) => self.replace_at(path, saved),
         }
     }
@@ -252,7 +280,7 @@ pub fn replace(
     bytes: &[u8],
     durability: Durability,
 ) -> (Saved, io::Result<()>)
-    ensures { Saves bytes.now durability result.1 result.0 }
+    ensures { SavesBytes bytes.now durability result.1 result.0 }
 {
     let mut saved = Saved::directly(rt);
     let order = Order {

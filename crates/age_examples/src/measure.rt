@@ -26,10 +26,9 @@ impl Measure {
 
 impl Sink for Measure {
     ghost view = { λ m. record {
-      taken = record { bytes = m.took; contents = None };
+      taken = record { bytes = m.took; contents = None; label = [] };
       failed = 0;
       failing = false;
-      label = [];
       settled = true;
     } };
 

@@ -16,7 +16,6 @@ pub fn write_all<O: Sink>(sink: &mut O, bytes: &[u8], written: &mut u128) -> Res
     ensures writes { Writes (O.view sink.old) (O.view sink.new) written.old written.new bytes.now
         result }
     ensures fault { IfErr result (λ fault. fault ≡ Write) }
-    ensures named { (O.view sink.new).label ≡ (O.view sink.old).label }
 {
     let mut at = 0;
     while at < bytes.len() {
@@ -35,7 +34,6 @@ pub fn write_all<O: Sink>(sink: &mut O, bytes: &[u8], written: &mut u128) -> Res
 pub fn flush_all<O: Sink>(sink: &mut O) -> Result<(), FileFault>
     ensures settled { OnOk result ((O.view sink.new).settled ≡ true) }
     ensures bytes { Keeps (O.view sink.old).taken (O.view sink.new).taken }
-    ensures named { (O.view sink.new).label ≡ (O.view sink.old).label }
     ensures fault { IfErr result (λ fault. fault ≡ Write) }
     ensures counted { MatchResult result (λ _. (O.view sink.new).failed ≡ (O.view sink.old).failed)
         (λ _. HasFailed (O.view sink.old).failed (O.view sink.new).failed

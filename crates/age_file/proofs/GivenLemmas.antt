@@ -16,13 +16,13 @@ use Rattle.age_stream.specs.declared.step.Status.TheVariants.{Done as AllDone}
 use Rattle.age_chunk.specs.{chunk_count, chunk_length, chunk_limit, nonce_bytes, last_index, last_chunk, pair, block_bytes, payload, block_length, IsChunkBox}
 use Rattle.age_chunk.specs.{tag_length}
 use Rattle.age_keys.specs.declared.fault.KeyFault.{KeyFault}
-use Rattle.age_file.specs.{run_outcome, Ports, Run, held, IsTexts, IsAuthenticRun, IsPositionOf, CarriesText, GivesPosition, WritesNone, StopsInPayload}
-use Rattle.age_file.specs.{OpenedFile, Reads, IsRun, IsDone, IsFromStart, DecryptStops, DecryptEnds, WritesText, ResumePorts, WritesOld, IsFrom, IsSame}
-use Rattle.age_file.specs.{ResumeEnds, AnswersRight, FirstCall, NextCall, DecryptAnswers, ResumeAnswers, last_took, AreInARow, AreTexts, AllAnswerRight}
-use Rattle.age_file.specs.{GaveFile, GaveOld, GaveRest, GaveFront, Done, Stopped, Position, PositionPolicy, Kept, Dropped, chain}
+use Rattle.age_file.specs.{run_outcome, Ports, Run, held, IsTexts, IsAuthenticRun, IsPositionOf, CarriesText, GivesPosition, WritesNone}
+use Rattle.age_file.specs.{OpenedFile, Reads, IsRun, IsDone, IsFromStart, DecryptAnswers, DecryptEnds, WritesText, Resumption}
+use Rattle.age_file.specs.{AnswersRight, DecryptCall, from_start, from_either, last_took, AreInARow, AreTexts, AllAnswerRight}
+use Rattle.age_file.specs.{GaveFile, GaveText, GaveRest, GaveFront, Done, Stopped, Position, PositionPolicy, Kept, Dropped, chain}
 use Rattle.age_file.specs.inner.{segment}
 use Rattle.age_file.proofs.ReadLemmas.{prefix_trans, left_of, none_left, same_front}
-use Rattle.age_file.proofs.RunLemmas.{from_start, position_carries, writes_of, writes_all, authentic_of, same_carries}
+use Rattle.age_file.proofs.RunLemmas.{authentic_start, position_carries, writes_of, writes_all, old_carries, Fits, given_fits}
 use Rattle.std.specs.List.{flat_map, enumerate_from}
 use Rattle.std.specs.Simd.{first_chunks}
 use Rattle.std.proofs.lemmas.Bool.{cases_lt, ltb-true, ltb-false}
@@ -60,39 +60,60 @@ pub given_carries : (keep : PositionPolicy) (P Q : Position → Type 0) (o : Opt
 given_carries Kept P Q o h f = some_carries P Q o h f
 given_carries Dropped P Q o h f = none_carries Q o h
 
-abbrev Right : List ℕ → List ℕ → Option Position → Type 0
-Right text took position = IsPrefixOf took text × IfSome position (CarriesText text)
+-- ---- what a call wrote
 
--- nothing was written
-none_right : (text : List ℕ) {old new : Ports} {stopped : Stopped} (out : List ℕ) → Appends old.sink.taken new.sink.taken out
-    → WritesNone old new stopped → Right text out stopped.position
-none_right text {old} {new} {stopped} out wrote w =
-    let none : out ≡ [] = one_taken old.sink.taken new.sink.taken out [] wrote
-    (subst (λ (s : SinkView). Appends old.sink.taken s.taken []) (sym w.sink) (Appends-nil old.sink.taken)) in
-    ((text, ap (λ (t : List ℕ). t ++ text) none), none_carries (CarriesText text) stopped.position w.position)
+module _ (Allows : Header → List ℕ → Type 0) (Refused : Header → KeyFault → Type 0) (text : List ℕ) (old new : Ports) where
+  -- what its sink took is as it has to be
+  abbrev TakesRight : Result Done Stopped → Type 0
+  TakesRight result = (out : List ℕ) × Appends old.sink.taken new.sink.taken out × AnswersRight text out result
 
--- of an authentic run, its output begins the text
-run_right : (text : List ℕ) {keep : PositionPolicy} {A : Header → List ℕ → Type 0} {never : Type 0} {old new : Ports} {stopped : Stopped} {r : Run}
-    (out : List ℕ) → r.first < chunk_limit → Appends old.sink.taken new.sink.taken out → StopsInPayload keep A never old new stopped r
-    → IsAuthenticRun r text → Right text out stopped.position
-run_right text {keep} {A} {never} {old} {new} {stopped} {r} out limit wrote s auth = (
-  subst (λ (t : List ℕ). IsPrefixOf t text) (one_taken old.sink.taken new.sink.taken (held r) out s.is.wrote wrote)
-      (writes_of r limit s.is.prefix text auth),
-  given_carries keep (IsPositionOf r) (CarriesText text) stopped.position s.here (λ p h. position_carries r p limit s.is.prefix h text auth),
-)
+  none_right : (s : Stopped) → WritesNone old new s → TakesRight (Err s)
+  none_right s none = (
+    [],
+    subst (λ (v : SinkView). Appends old.sink.taken v.taken []) (sym none.sink) (Appends-nil old.sink.taken),
+    ((text, refl), none_carries (CarriesText text) s.position none.position),
+  )
 
--- of a resumed one, if the old text begins the text
-module _ (text : List ℕ) (p : Position) (old new : ResumePorts) (out : List ℕ) (wrote : Appends old.main.sink.taken new.main.sink.taken out)
-    (before : (given : List ℕ) → Consumes old.old.supply new.old.supply given → IsPrefixOf given text) where
-  copied_begins : {written : ℕ} {copied : List ℕ} → WritesOld p old new written copied → IsPrefixOf copied text
-  copied_begins {written} {copied} w = prefix_trans copied w.pulled text w.front (before w.pulled w.read)
+  early_right : (from : Option Resumption) → IfSome from (Fits text) → (s : Stopped) → (from_either Allows Refused from).early old new s → TakesRight (Err s)
+  early_right None fits s f = none_right s f.0
+  early_right (Some e) fits s (inl f) = none_right s f.0
+  early_right (Some e) fits s (inr (inl f)) = (
+    f.copied,
+    f.writes.wrote,
+    (fits.copied old new s.written f.copied f.writes, none_carries (CarriesText text) s.position f.nowhere),
+  )
+  early_right (Some e) fits s (inr (inr f)) =
+      let begins = fits.copied old new s.written f.copied f.writes in
+      let carries = old_carries e.position f.copied text f.old_text begins in
+      (f.copied, f.writes.wrote, (begins, subst (λ (o : Option Position). IfSome o (CarriesText text)) (sym f.here) carries))
 
-  old_right : {written : ℕ} {copied : List ℕ} → WritesOld p old new written copied → IsPrefixOf out text
-  old_right {written} {copied} w =
-      subst (λ (t : List ℕ). IsPrefixOf t text) (one_taken old.main.sink.taken new.main.sink.taken copied out w.wrote wrote) (copied_begins w)
+  -- a run of it is authentic, if its blocks are the text's
+  abbrev IsWriters : Run → Type 0
+  IsWriters r = (chunk_count chunk_length text ≤ chunk_limit) × IsTexts text r
 
-  run_authentic : (r : Run) → chunk_count chunk_length text ≤ chunk_limit → IsFrom p old.old new.old r → IsTexts text r → IsAuthenticRun r text
-  run_authentic r few from auth = grind (arith, common_steps, authentic_of, prefix_trans)
+  run_is : (from : Option Resumption) → IfSome from (Fits text) → (r : Run) → (from_either Allows Refused from).run r → IsWriters r
+      → (r.first < chunk_limit) × IsAuthenticRun r text
+  run_is None fits r begun auth = (omega (arith, begun.zero), authentic_start r begun text auth.0 auth.1)
+  run_is (Some e) fits r begun auth =
+      (omega (arith, begun.index, e.position.within), record { few = auth.0; old_text = fits.taken r begun; authentic = auth.1 })
+
+  pub call_right : (keep : PositionPolicy) (from : Option Resumption) → IfSome from (Fits text) → (result : Result Done Stopped) (run : Option Run)
+      → DecryptAnswers keep Allows (from_either Allows Refused from) old new run result → IfSome run IsWriters → TakesRight result
+  call_right keep from fits (Ok done) (Some r) f auth =
+      let at = run_is from fits r f.0 auth in
+      (held r, f.1.is.wrote, writes_all r at.0 f.1.whole f.1.done text at.1)
+  call_right keep from fits (Ok done) None f auth = absurd f
+  call_right keep from fits (Err s) None f auth = early_right from fits s f
+  call_right keep from fits (Err s) (Some r) f auth =
+      let at = run_is from fits r f.0 auth in
+      let prefix = f.1.is.prefix in (
+        held r,
+        f.1.is.wrote,
+        (
+          writes_of r at.0 prefix text at.1,
+          given_carries keep (IsPositionOf r) (CarriesText text) s.position f.1.here (λ p h. position_carries r p at.0 prefix h text at.1),
+        ),
+      )
 
 -- ---- the row
 
@@ -100,53 +121,29 @@ began : (text took : List ℕ) (result : Result Done Stopped) → AnswersRight t
 began text took (Ok done) a = ([], append-nil took ∙ a)
 began text took (Err stopped) a = a.0
 
-module _ (Who : Type 0) (Allows : Who → Header → List ℕ → Type 0) (Refused : Who → Header → KeyFault
-    → Type 0) (text : List ℕ) (few : chunk_count chunk_length text ≤ chunk_limit) where
-  first_right : (keep : PositionPolicy) (who : Who) (old new : Ports) (result : Result Done Stopped)
-      (run : Option Run) (out : List ℕ) → Appends old.sink.taken new.sink.taken out
-      → DecryptAnswers Who Allows Refused keep who old new result run → IfSome run (IsTexts text) → AnswersRight text out result
-  first_right keep who old new (Ok done) (Some r) out wrote f auth =
-      one_taken old.sink.taken new.sink.taken out (held r) wrote f.1.is.wrote
-      ∙ writes_all r (omega (arith, f.0.zero)) f.1.whole f.1.done text (from_start r f.0 text few auth)
-  first_right keep who old new (Ok done) None out wrote f auth = absurd f
-  first_right keep who old new (Err s) None out wrote f auth = none_right text out wrote f.0
-  first_right keep who old new (Err s) (Some r) out wrote f auth =
-      run_right text out (omega (arith, f.0.zero)) wrote f.1 (from_start r f.0 text few auth)
+module _ (Who : Type 0) (Allows : Who → Header → List ℕ → Type 0) (Refused : Who → Header → KeyFault → Type 0) (text : List ℕ)
+    (few : chunk_count chunk_length text ≤ chunk_limit) where
+  last_began : (calls : List (DecryptCall Who Allows Refused)) → AllAnswerRight Who Allows Refused text calls → IsPrefixOf (last_took Who Allows Refused calls) text
+  last_began [] a = (text, refl)
+  last_began (c ∷ earlier) a = began text c.took c.result a.0
 
-  call_right : (keep : PositionPolicy) (who : Who) (p : Position) (old new : ResumePorts)
-      (result : Result Done Stopped) (run : Option Run) (out : List ℕ) → Appends old.main.sink.taken new.main.sink.taken out
-      → ((given : List ℕ) → Consumes old.old.supply new.old.supply given → IsPrefixOf given text)
-      → ResumeAnswers Who Allows Refused keep who p old new result run → IfSome run (IsTexts text) → AnswersRight text out result
-  call_right keep who p old new (Ok done) (Some r) out wrote before f auth =
-      one_taken old.main.sink.taken new.main.sink.taken out (held r) wrote f.2.is.wrote
-      ∙ writes_all r (omega (arith, f.0.index, p.within)) f.2.whole f.2.done text (run_authentic text p old new out wrote before r few f.0 auth)
-  call_right keep who p old new (Ok done) None out wrote before f auth = absurd f
-  call_right keep who p old new (Err s) None out wrote before (inl f) auth = none_right text out wrote f.0
-  call_right keep who p old new (Err s) None out wrote before (inr (inl f)) auth =
-      (old_right text p old new out wrote before f.writes, none_carries (CarriesText text) s.position f.nowhere)
-  call_right keep who p old new (Err s) None out wrote before (inr (inr f)) auth = (
-    old_right text p old new out wrote before f.writes,
-    given_carries Kept (IsSame p) (CarriesText text) s.position f.here
-        (λ q same. same_carries p q f.copied text f.old_text (copied_begins text p old new out wrote before f.writes) same),
-  )
-  call_right keep who p old new (Err s) (Some r) out wrote before f auth =
-      run_right text out (omega (arith, f.0.index, p.within)) wrote f.2 (run_authentic text p old new out wrote before r few f.0 auth)
+  fits_of : (taken : List ℕ) → IsPrefixOf taken text → (from : Option Resumption)
+      → IfSome from (λ e. (given : List ℕ) → Consumes e.first.supply e.last.supply given → IsPrefixOf given taken) → IfSome from (Fits text)
+  fits_of taken front None row = tt
+  fits_of taken front (Some e) row = given_fits text e (λ given read. prefix_trans given taken text (row given read) front)
 
-  last_began : (first : FirstCall Who Allows Refused) (calls : List (NextCall Who Allows Refused))
-      → AllAnswerRight Who Allows Refused text first calls → IsPrefixOf (last_took Who Allows Refused first calls) text
-  last_began first [] a = began text first.took first.result a
-  last_began first (c ∷ earlier) a = began text c.took c.result a.0
+  writers_of : (run : Option Run) → IfSome run (IsTexts text) → IfSome run (λ r. (chunk_count chunk_length text ≤ chunk_limit) × IsTexts text r)
+  writers_of None auth = tt
+  writers_of (Some r) auth = (few, auth)
 
-  pub in_a_row : (first : FirstCall Who Allows Refused) (calls : List (NextCall Who Allows Refused)) → AreInARow Who Allows Refused first calls
-      → AreTexts Who Allows Refused text first calls → AllAnswerRight Who Allows Refused text first calls
-  in_a_row first [] row auth = first_right first.keep first.who first.old first.new first.result first.run first.took first.wrote first.answers auth
-  in_a_row first (c ∷ earlier) row auth =
-      let rest = in_a_row first earlier row.1 auth.1 in
-      let before : (given : List ℕ) → Consumes c.old.old.supply c.new.old.supply given → IsPrefixOf given text =
-      λ given read. prefix_trans given (last_took Who Allows Refused first earlier) text (row.0 given read) (last_began first earlier rest) in (
-        call_right c.keep c.who c.from c.old c.new c.result c.run c.took c.wrote before c.answers auth.0,
-        rest,
-      )
+  pub in_a_row : (calls : List (DecryptCall Who Allows Refused)) → AreInARow Who Allows Refused calls → AreTexts Who Allows Refused text calls
+      → AllAnswerRight Who Allows Refused text calls
+  in_a_row [] row auth = tt
+  in_a_row (c ∷ earlier) row auth =
+      let rest = in_a_row earlier row.1 auth.1 in
+      let fits = fits_of (last_took Who Allows Refused earlier) (last_began earlier rest) c.from row.0 in
+      let right = call_right (Allows c.who) (Refused c.who) text c.old c.new c.keep c.from fits c.result c.run c.answers (writers_of c.run auth.0) in
+      (subst (λ (t : List ℕ). AnswersRight text t c.result) (one_taken c.old.sink.taken c.new.sink.taken right.0 c.took right.1 c.wrote) right.2, rest)
 
 -- ---- The rest of a payload that opens to its end is the rest of the payload of its text, after any chunks before it.
 
@@ -396,10 +393,14 @@ rest_read Allows old new written r d limit =
     rw (d.whole, d.ended) (is_rest_of (box r.file.key r.file.nonce) (unbox r.file.key r.file.nonce) (box_valid (payload_key r.file.key r.file.nonce))
     chunk_length (omega arith) r.first limit r.copied r.bytes d.is.copied_size (rw d.ended at d.done))
 
-module _ (Allows : Header → List ℕ → Type 0) (old new : Ports) where
-  gave_file : (done : Done) (r : Run) → DecryptEnds Allows old new done r → (text : List ℕ) × GaveFile Allows old.source.supply new.source.supply text
+module _ (keep : PositionPolicy) (Allows : Header → List ℕ → Type 0) (Refused : Header → KeyFault → Type 0) (old new : Ports) where
+  abbrev Gives : Option Resumption → Done → Type 0
+  Gives from done = (text : List ℕ) × GaveText Allows from old.source.supply new.source.supply text
       × WritesText old.sink.taken new.sink.taken done.written text
-  gave_file done r d =
+
+  pub gave_text : (from : Option Resumption) (done : Done) (r : Run) → DecryptEnds keep Allows (from_either Allows Refused from) old new done r
+      → Gives from done
+  gave_text None done r d =
       let is = d.1.is in
       let front = r.file.header_bytes ++ r.file.nonce in
       let all = payload (box r.file.key r.file.nonce) chunk_length (held r) in
@@ -424,13 +425,43 @@ module _ (Allows : Header → List ℕ → Type 0) (old new : Ports) where
         },
         (is.wrote, is.count),
       )
+  gave_text (Some e) done r d =
+      let from = d.0 in
+      let is = d.1.is in
+      let p = e.position in
+      let rest = rest_read Allows old new done.written r d.1 (omega (arith, from.index, p.within)) in
+      let size = from.old_text.size in
+      let bytes = rw from.index at rest.1.bytes in (
+        held r,
+        (
+          record {
+            more = from.more;
+            read = rw (take_at r.copied r.out (p.index * chunk_length) size) from.old_read;
+            few = from.few;
+            carries = (
+              omega (arith, size, length-append r.copied r.out),
+              sym from.old_text.same ∙ sym (ap chain (first_chunks-append chunk_length p.index r.copied r.out (omega (arith, size)))),
+            );
+          },
+          record {
+            file = r.file;
+            own = from.own;
+            skipped = r.skipped;
+            size = is.skipped_size ∙ ap (λ (k : ℕ). k * block_length) from.index;
+            few = rest.0;
+            below = subst (λ (k : ℕ). k < chunk_count chunk_length (held r)) from.index rest.1.below;
+            read = rw bytes at is.reads;
+            at_end = is.at_end d.1.ended;
+          },
+        ),
+        (is.wrote, is.count),
+      )
 
-  pub done_gave_file : (result : Result Done Stopped) (run : Option Run) → IfOk result (λ done. IsSomeAnd run (DecryptEnds Allows old new done))
-      → IfOk result (λ done. (text : List ℕ) × GaveFile Allows old.source.supply new.source.supply text
-      × WritesText old.sink.taken new.sink.taken done.written text)
-  done_gave_file (Ok done) (Some r) d = gave_file done r d
-  done_gave_file (Ok done) None d = absurd d
-  done_gave_file (Err stopped) run d = tt
+  pub done_gave : (from : Option Resumption) (result : Result Done Stopped) (run : Option Run)
+      → DecryptAnswers keep Allows (from_either Allows Refused from) old new run result → IfOk result (Gives from)
+  done_gave from (Ok done) (Some r) d = gave_text from done r d
+  done_gave from (Ok done) None d = absurd d
+  done_gave from (Err stopped) run d = tt
 
   -- ---- over memory
 
@@ -440,15 +471,12 @@ module _ (Allows : Header → List ℕ → Type 0) (old new : Ports) where
     after None wrote = absurd wrote
     after (Some all) wrote = ap Some wrote
 
-  pub done_is_file : (result : Result Done Stopped) (run : Option Run) (coming held : List ℕ)
-      → IfOk result (λ done. IsSomeAnd run (DecryptEnds Allows old new done))
-      → old.source.supply.left ≡ Some coming → old.sink.taken.contents ≡ Some held
+  pub is_file : (result : Result Done Stopped) (coming held : List ℕ) → IfOk result (Gives None) → old.source.supply.left ≡ Some coming
+      → old.sink.taken.contents ≡ Some held
       → IfOk result (λ done. (text : List ℕ) × (header : Header) × (key : List ℕ) × (nonce : List ℕ)
       × FileOf header key nonce text coming × (new.sink.taken.contents ≡ Some (held ++ text)))
-  done_is_file (Ok done) None coming held d shown kept = absurd d
-  done_is_file (Err stopped) run coming held d shown kept = tt
-  done_is_file (Ok done) (Some r) coming held d shown kept =
-      let gave = gave_file done r d in
+  is_file (Err stopped) coming held gave shown kept = tt
+  is_file (Ok done) coming held gave shown kept =
       let f = gave.1 in
       let left = left_of old.source.supply new.source.supply coming f.bytes shown f.read in
       let all : coming ≡ f.bytes = left.1 ∙ ap (λ (t : List ℕ). f.bytes ++ t)
@@ -461,54 +489,8 @@ module _ (Allows : Header → List ℕ → Type 0) (old new : Ports) where
         held_after old.sink.taken.contents new.sink.taken.contents held gave.0 kept gave.2.0.contents,
       )
 
--- ---- a resumed decryption
+  -- ---- a decryption that stopped
 
-module _ (Allows : Header → List ℕ → Type 0) (p : Position) (old new : ResumePorts) where
-  abbrev GivesRest : Done → Type 0
-  GivesRest done = (text : List ℕ) × GaveOld p old.old.supply new.old.supply text
-      × GaveRest Allows p old.main.source.supply new.main.source.supply text × WritesText old.main.sink.taken new.main.sink.taken done.written text
-
-  gave_rest : (done : Done) (r : Run) → ResumeEnds Allows p old new done r → GivesRest done
-  gave_rest done r d =
-      let from = d.0 in
-      let is = d.2.is in
-      let sealing = box r.file.key r.file.nonce in
-      let rest = rest_read Allows old.main new.main done.written r d.2 (omega (arith, from.index, p.within)) in
-      let size = from.old_text.size in
-      let bytes = rw from.index at rest.1.bytes in (
-        held r,
-        record {
-          more = from.more;
-          read = rw (take_at r.copied r.out (p.index * chunk_length) size) from.old_read;
-          few = from.few;
-          carries = (
-            omega (arith, size, length-append r.copied r.out),
-            sym from.old_text.same ∙ sym (ap chain (first_chunks-append chunk_length p.index r.copied r.out (omega (arith, size)))),
-          );
-        },
-        record {
-          file = r.file;
-          own = from.own;
-          tagged = from.tagged;
-          skipped = r.skipped;
-          size = is.skipped_size ∙ ap (λ (k : ℕ). k * block_length) from.index;
-          few = rest.0;
-          below = subst (λ (k : ℕ). k < chunk_count chunk_length (held r)) from.index rest.1.below;
-          read = rw bytes at is.reads;
-          at_end = is.at_end d.2.ended;
-        },
-        (is.wrote, is.count),
-      )
-
-  pub done_gave_rest : (result : Result Done Stopped) (run : Option Run) → IfOk result (λ done. IsSomeAnd run (ResumeEnds Allows p old new done))
-      → IfOk result GivesRest
-  done_gave_rest (Ok done) (Some r) d = gave_rest done r d
-  done_gave_rest (Ok done) None d = absurd d
-  done_gave_rest (Err stopped) run d = tt
-
--- ---- a decryption that stopped, and one that was resumed after it
-
-module _ (Allows : Header → List ℕ → Type 0) (Refused : Header → KeyFault → Type 0) (keep : PositionPolicy) (old new : Ports) where
   abbrev GivesFront : Stopped → Position → Type 0
   GivesFront stopped p = (text : List ℕ) × GaveFront Allows p old.source.supply new.source.supply text
       × WritesText old.sink.taken new.sink.taken stopped.written text
@@ -527,7 +509,6 @@ module _ (Allows : Header → List ℕ → Type 0) (Refused : Header → KeyFaul
         record {
           file = f;
           own = at.own;
-          tagged = at.tagged;
           carries = (within, at.chain_is);
           rest = r.bytes;
           read = subst (λ (t : List ℕ). Reads Allows old.source.supply new.source.supply f (t ++ r.bytes)) from.none_skipped is.reads;
@@ -537,11 +518,11 @@ module _ (Allows : Header → List ℕ → Type 0) (Refused : Header → KeyFaul
         (is.wrote, is.count),
       )
 
-  pub given_front : (result : Result Done Stopped) (run : Option Run) → IfErr result (DecryptStops keep Allows Refused old new run)
+  pub stopped_gave : (result : Result Done Stopped) (run : Option Run) → DecryptAnswers keep Allows (from_start Allows Refused) old new run result
       → IfErr result (λ stopped. IfSome stopped.position (GivesFront stopped))
-  given_front (Ok done) run d = tt
-  given_front (Err stopped) None d = none_carries (GivesFront stopped) stopped.position d.0.position
-  given_front (Err stopped) (Some r) d = given_carries keep (IsPositionOf r) (GivesFront stopped) stopped.position d.1.here
+  stopped_gave (Ok done) run d = tt
+  stopped_gave (Err stopped) None d = none_carries (GivesFront stopped) stopped.position d.0.position
+  stopped_gave (Err stopped) (Some r) d = given_carries keep (IsPositionOf r) (GivesFront stopped) stopped.position d.1.here
       (λ p at. gave_front stopped r p d.0 d.1.is at)
 
 -- what was skipped and the rest are the whole payload

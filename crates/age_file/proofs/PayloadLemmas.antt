@@ -19,13 +19,13 @@ use Rattle.age_fault.specs.{HasFailed}
 use Rattle.age_fault.specs.declared.fault.FileFault.{FileFault}
 use Rattle.age_fault.specs.declared.fault.FileFault.TheVariants.{Stream, Write, Read, ReadNeverEnds, Memory}
 use Rattle.age_file.specs.inner.{WriterView, Wrote, ReaderView, PullFails, Pulled, start_at, front_of, IsFeeding, HasSealedFront, CutsPayload, SealFails}
-use Rattle.age_file.specs.inner.{HasRoom, SealingFails, SealsFront, SealsSource, BeginsFile, FrontFails, WroteFront, SealsAll, ReadsWrites, Unread, chain_if}
+use Rattle.age_file.specs.inner.{HasRoom, SealingFails, SealsFront, SealsSource, CutFront, WroteFront, SealsAll, ReadsWrites, Unread, chain_if}
 use Rattle.age_file.specs.inner.{reader_view, Stage, stage, Start, ports_at, Refills, HasReleased, FeedsPiece, FeedFails, FeedGoes, EndsFeed, segment}
 use Rattle.age_file.specs.inner.{DecryptsPayload, SegmentFails, SegmentDone, HasCounted}
 use Rattle.age_io.proofs.{Appends-trans, Consumes-nil}
 use Rattle.std.specs.Simd.{first_chunks}
 use Rattle.age_io.specs.{SourceView, SinkView, IsAtEnd}
-use Rattle.age_file.specs.{Ports, NoneFailed, ports, AgeFile, EncryptsFront, EncryptFails, WhyStopped, without_last, SecretView, Written, ReadFailed}
+use Rattle.age_file.specs.{Ports, NoneFailed, ports, AgeFile, BeginsFile, EncryptsFront, EncryptFails, WhyStopped, without_last, SecretView, Written, ReadFailed}
 use Rattle.age_file.specs.{WriteFailed, pull_room, PositionPolicy}
 use Rattle.age_file.proofs.ReadLemmas.{prefix_trans, wrote_then}
 use Rattle.age_keys.specs.{header_mac, IsMacOf, box, scrypt_head}
@@ -180,8 +180,8 @@ source_fails sealing n old x z sink text fault h0 h1 h2 = grind (arith, common_s
 
 -- a source wasn't sealed to its end
 pub sealing_failed : {sealing : List ℕ → List ℕ → List ℕ} {n : ℕ} {old new : Ports} {was now : ℕ} {fault : FileFault}
-    → SealsFront sealing n old new was now fault → new.sink.label ≡ old.sink.label → SealsSource sealing n old new was now (Err fault)
-sealing_failed front named = record { done = tt; counted = tt; fails = front; settled = tt; named = named }
+    → SealsFront sealing n old new was now fault → SealsSource sealing n old new was now (Err fault)
+sealing_failed front = record { done = tt; counted = tt; fails = front; settled = tt }
 
 -- it stopped where its payload was cut
 pub cut_source : {B : Type 0} {sealing : B → List ℕ → List ℕ → List ℕ} {n : ℕ} {key : B} {a source : SourceView} {pulls : ℕ} {first now : WriterView}
@@ -189,8 +189,7 @@ pub cut_source : {B : Type 0} {sealing : B → List ℕ → List ℕ → List �
     → CutsPayload sealing n key first now text fault
     → SealsSource (sealing key) n (ports a first.sink) (ports source now.sink) first.tally.written now.tally.written (Err fault)
 cut_source {B} {sealing} {n} {key} {a} {source} {pulls} {first} {now} {text} {fault} same pulled cut =
-    sealing_failed (record { text = text; out = cut.out; moved = moved pulled cut.wrote; prefix = cut.prefix; fails = fails fault cut.why })
-    cut.wrote.named where
+    sealing_failed (record { text = text; out = cut.out; moved = moved pulled cut.wrote; prefix = cut.prefix; fails = fails fault cut.why }) where
       fails : (fault : FileFault) → SealFails n first now text fault
           → SealingFails (sealing key) n (ports a first.sink) (ports source now.sink) text cut.out fault
       fails (Stream f) why = (why.0, why.1, (same, why.2))
@@ -213,26 +212,33 @@ file_of {s} {front} begins text = record {
 }
 
 -- what stands before the payload was not written
-pub front_fails : (s : SecretView) (source : SourceView) (was now : WriterView) (fault : FileFault) → FrontFails s was now fault
-    → EncryptFails s (ports source was.sink) (ports source now.sink) fault
+pub front_fails : (s : SecretView) (front : List ℕ) → BeginsFile s front → (source : SourceView) (was now : WriterView) → CutFront front was now
+    → EncryptsFront s (ports source was.sink) (ports source now.sink) Write
 unfolding file_of
-front_fails s source was now Memory f = ap (λ w. ports source w.sink) f
-front_fails s source was now Write f =
+front_fails s front begins source was now f =
     let none = payload (box s.key s.nonce) chunk_length [] in
     record {
       text = [];
-      file = f.front ++ none;
+      file = front ++ none;
       out = f.out;
-      is = file_of f.begins [];
+      is = file_of begins [];
       read = Consumes-nil source.supply;
       wrote = f.wrote;
       prefix = (f.unwritten ++ none, sym (append_assoc f.out f.unwritten none) ∙ ap (λ (t : List ℕ). t ++ none) (sym f.parts));
       why = (f.failed, refl);
     }
-front_fails s source was now other f = absurd f
+
+-- what is written after its front stops as all of it does: it lacks no memory
+front_only : (s : SecretView) (old new : Ports) (fault : FileFault) → EncryptsFront s old new fault → EncryptFails s old new fault
+front_only s old new Memory e = absurd e.why
+front_only s old new fault e = e
+
+pub after_fails : (s : SecretView) (old new : Ports) (r : Result Written FileFault) → IfErr r (EncryptsFront s old new) → IfErr r (EncryptFails s old new)
+after_fails s old new (Ok w) e = tt
+after_fails s old new (Err fault) e = front_only s old new fault e
 
 -- it was, and the payload followed
-module _ {s : SecretView} {was mid : WriterView} (front : WroteFront s was mid) (source : SourceView) (new : Ports) (total : ℕ) where
+module _ {s : SecretView} {bytes : List ℕ} (begins : BeginsFile s bytes) {was mid : WriterView} (front : WroteFront bytes was mid) (source : SourceView) (new : Ports) (total : ℕ) where
   abbrev before : Ports
   before = ports source was.sink
 
@@ -248,24 +254,24 @@ module _ {s : SecretView} {was mid : WriterView} (front : WroteFront s was mid) 
       let sealed = payload seal chunk_length a.text in
       record {
         text = a.text;
-        file = front.front ++ sealed;
+        file = bytes ++ sealed;
         few = a.few;
-        is = file_of front.begins a.text;
+        is = file_of begins a.text;
         read = a.moved.read;
         at_end = a.at_end;
-        wrote = Appends-trans was.sink.taken mid.sink.taken new.sink.taken front.front sealed front.wrote a.moved.wrote;
+        wrote = Appends-trans was.sink.taken mid.sink.taken new.sink.taken bytes sealed front.wrote a.moved.wrote;
         plain_is = a.plain_is;
-        file_is = omega (arith, all, a.moved.count, front.count, length-append front.front sealed);
+        file_is = omega (arith, all, a.moved.count, front.count, length-append bytes sealed);
         none_failed = (a.none_failed.0, a.none_failed.1 ∙ front.failed);
       }
   file_done (Err fault) all a = tt
 
   -- the blocks before the last, after what stands before them
-  last_missing : (text out : List ℕ) → out ≡ front_of seal chunk_length text → front.front ++ out ≡ without_last s front.begins.front text
-  last_missing text out e = ap (λ (t : List ℕ). front.front ++ t) e ∙ ap (λ (t : List ℕ). t ++ front_of seal chunk_length text) front.begins.parts
+  last_missing : (text out : List ℕ) → out ≡ front_of seal chunk_length text → bytes ++ out ≡ without_last s begins.front text
+  last_missing text out e = ap (λ (t : List ℕ). bytes ++ t) e ∙ ap (λ (t : List ℕ). t ++ front_of seal chunk_length text) begins.parts
 
   why_stopped : (text out : List ℕ) (fault : FileFault) → SealingFails seal chunk_length between new text out fault
-      → WhyStopped s before new front.begins.front text (front.front ++ out) fault
+      → WhyStopped s before new begins.front text (bytes ++ out) fault
   why_stopped text out fault h0 = grind (arith, common_steps, last_missing)
 
   stopped : (fault : FileFault) → SealsFront seal chunk_length between new mid.tally.written total fault → EncryptsFront s before new fault
@@ -273,17 +279,17 @@ module _ {s : SecretView} {was mid : WriterView} (front : WroteFront s was mid) 
   stopped fault a =
       record {
         text = a.text;
-        file = front.front ++ payload seal chunk_length a.text;
-        out = front.front ++ a.out;
-        is = file_of front.begins a.text;
+        file = bytes ++ payload seal chunk_length a.text;
+        out = bytes ++ a.out;
+        is = file_of begins a.text;
         read = a.moved.read;
-        wrote = Appends-trans was.sink.taken mid.sink.taken new.sink.taken front.front a.out front.wrote a.moved.wrote;
-        prefix = (a.prefix.0, append_assoc front.front a.out a.prefix.0 ∙ ap (λ (t : List ℕ). front.front ++ t) a.prefix.1);
+        wrote = Appends-trans was.sink.taken mid.sink.taken new.sink.taken bytes a.out front.wrote a.moved.wrote;
+        prefix = (a.prefix.0, append_assoc bytes a.out a.prefix.0 ∙ ap (λ (t : List ℕ). bytes ++ t) a.prefix.1);
         why = why_stopped a.text a.out fault a.fails;
       }
 
   pub file_stopped : (result : Result Written FileFault)
-      → IfErr result (SealsFront seal chunk_length between new mid.tally.written total) → IfErr result (EncryptFails s before new)
+      → IfErr result (SealsFront seal chunk_length between new mid.tally.written total) → IfErr result (EncryptsFront s before new)
   file_stopped result h0 = grind (arith, common_steps, stopped)
 
 -- ---- What flows from a source through an opener to a sink, one turn after another. A chunk has n

@@ -193,13 +193,12 @@ ports_last {S} {O} source sink P s s' o o' e f x =
 -- ---- What was written, one step after another.
 
 pub wrote_none : (a : WriterView) → Wrote a a []
-wrote_none a = record { bytes = Appends-nil a.sink.taken; count = omega arith; named = refl }
+wrote_none a = record { bytes = Appends-nil a.sink.taken; count = omega arith }
 
 pub wrote_then : {a b c : WriterView} {p q : List ℕ} → Wrote a b p → Wrote b c q → Wrote a c (p ++ q)
 wrote_then {a} {b} {c} {p} {q} f g = record {
   bytes = Appends-trans a.sink.taken b.sink.taken c.sink.taken p q f.bytes g.bytes;
   count = omega (arith, f.count, g.count, length-append p q);
-  named = g.named ∙ f.named;
 }
 
 -- ---- What a report of a header and a length says of all bytes.

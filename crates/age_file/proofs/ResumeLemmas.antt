@@ -9,16 +9,16 @@ use Rattle.age_keys.specs.declared.fault.KeyFault.{KeyFault}
 use Rattle.age_fault.specs.{HasFailed}
 use Rattle.age_fault.specs.declared.fault.FileFault.{FileFault}
 use Rattle.age_fault.specs.declared.fault.FileFault.TheVariants.{ShortText, Read, Write, ReadNeverEnds, OldTextDiffers, Stream, OtherFile, PositionForged}
-use Rattle.age_file.specs.{StartFails, DecryptsMarked, Ports, ports, NeverEnds, IsFromStart, OpenedFile, pull_room, Done, Stopped, PositionPolicy}
-use Rattle.age_file.specs.{Unlocked, chain, ResumesMarked, HasOpened, ResumePorts, resume_ports, WritesOld, IsFrom, BeginsWith}
-use Rattle.age_file.specs.{IsOldText, NeverEndTogether, BeforeOldFails, InOldFails, StopsInOld, InSkippedFails, StopsInSkipped, ResumeStops}
+use Rattle.age_file.specs.{StartFails, Beginning, DecryptsMarked, from_start, from_position, Ports, ports, OpenedFile, pull_room, Done, Stopped, PositionPolicy}
+use Rattle.age_file.specs.{Unlocked, chain, HasOpened, Resumption, resumption, WritesOld, IsFrom, BeginsWith}
+use Rattle.age_file.specs.{IsOldText, NeverEndTogether, BeforeOldFails, InOldFails, StopsInOld, InSkippedFails, StopsInSkipped}
 use Rattle.age_file.specs.{Position}
 use Rattle.age_file.specs.inner.{chain_if, Unread, StartsAt, Passes, NoMore, FailsInCopy, CopiesChunk, CopiesAll, TextFails, CopiesOld, TextGoes, SkipFails}
 use Rattle.age_file.specs.inner.{marks_over, Uses, OpensPayload, PositionRefused, StartsFor, StartForFails, Stage, ports_at}
 use Rattle.age_file.specs.inner.{start_at, ReaderView, WriterView, Wrote, reader_view, stage, Start, Pulled, start_after, HasPlace}
 use Rattle.age_chunk.specs.{block_length, chunk_length}
 use Rattle.age_chunk.specs.declared.fault.StreamKind.TheVariants.{Truncated}
-use Rattle.age_file.proofs.RunLemmas.{BeginsAt, run, marked, ended, opened, place_at}
+use Rattle.age_file.proofs.RunLemmas.{BeginsAt, run, answered, opened, place_at}
 use Rattle.std.proofs.lemmas.List.{length-append, take_all, take-append-drop, length-take}
 use Rattle.std.proofs.Math.Seq.{drop-append_seam}
 use Rattle.std.specs.Simd.{first_chunks}
@@ -32,27 +32,28 @@ use Rattle.age_io.specs.Supply.{Supply}
 
 -- ---- From what was read and decrypted from a file's start on to what a decryption did.
 
-module _ (keep : PositionPolicy) (Allows : Header → List ℕ → Type 0) (Refused : Header → KeyFault → Type 0) where
-  -- no payload came to be opened
-  pub stopped_at_start : (old new : Ports) (fault : FileFault) → new.sink ≡ old.sink → StartFails Allows Refused old.source new.source fault
-      → DecryptsMarked keep Allows Refused old new (Err (record { fault = fault; written = 0; position = None })) None
-  stopped_at_start old new fault same f = record {
-    is = record {
-      run = None;
-      done = tt;
-      stopped = (record { sink = same; written = refl; position = refl }, f);
-      settled = tt;
-      named = ap (λ (s : SinkView). s.label) same;
-    };
+module _ (keep : PositionPolicy) (Allows : Header → List ℕ → Type 0) where
+  -- a call that came to no payload
+  stopped_with : (begun : Beginning) (old new : Ports) (stopped : Stopped) → begun.early old new stopped → new.sink.taken.label ≡ old.sink.taken.label
+      → DecryptsMarked keep Allows begun old new (Err stopped) None
+  stopped_with begun old new stopped early named = record {
+    is = record { run = None; answers = early; settled = tt; named = named };
     found = refl;
   }
 
+  -- no payload came to be opened
+  pub stopped_at_start : (Refused : Header → KeyFault → Type 0) (old new : Ports) (fault : FileFault) → new.sink ≡ old.sink
+      → StartFails Allows Refused old.source new.source fault
+      → DecryptsMarked keep Allows (from_start Allows Refused) old new (Err (record { fault = fault; written = 0; position = None })) None
+  stopped_at_start Refused old new fault same f =
+      stopped_with (from_start Allows Refused) old new _ (record { sink = same; written = refl; position = refl }, f) (ap (λ (s : SinkView). s.taken.label) same)
+
   -- it was opened from its first chunk on
-  pub run_ended : {a : SourceView} {unlocked : Unlocked} {old new : Stage} {result : Result Done Stopped}
+  pub run_ended : (Refused : Header → KeyFault → Type 0) {a : SourceView} {unlocked : Unlocked} {old new : Stage} {result : Result Done Stopped}
       → old.writer.tally.written ≡ 0 → old.writer.tally.index ≡ 0 → old.writer.tally.chain ≡ chain_if keep []
       → StartsAt Allows a old.reader unlocked → OpensPayload unlocked 0 old new result
-      → DecryptsMarked keep Allows Refused (ports a old.writer.sink) (ports_at new) result (marks_over unlocked new.writer.tally.chain)
-  run_ended {a} {unlocked} {old} {new} {result} written index chain_is s o =
+      → DecryptsMarked keep Allows (from_start Allows Refused) (ports a old.writer.sink) (ports_at new) result (marks_over unlocked new.writer.tally.chain)
+  run_ended Refused {a} {unlocked} {old} {new} {result} written index chain_is s o =
       let q = o.decrypts in
       let begins : BeginsAt keep (start_at a.supply) (s.front ++ unlocked.nonce) old 0 [] [] = record {
         limit = omega arith;
@@ -63,18 +64,8 @@ module _ (keep : PositionPolicy) (Allows : Header → List ℕ → Type 0) (Refu
         index = index;
         chain_is = chain_is;
       } in
-      let r = run s [] begins q in
-      let from : IsFromStart r = record { zero = refl; none_copied = refl; none_skipped = refl } in
-      let found = marked s [] begins q in
-      ended s [] begins q (NeverEnds a.supply new.reader.source.supply) old.writer.sink q.wrote.bytes s.unfailed refl
-      (λ bytes h full. (bytes, h.consumed, (omega (arith, h.each_gave, full), omega (arith, h.small, full))))
-      (λ e. DecryptsMarked keep Allows Refused (ports a old.writer.sink) (ports_at new) e (marks_over unlocked new.writer.tally.chain)) (λ written d none settled. record {
-        is = record { run = Some r; done = (from, d, none); stopped = tt; settled = settled; named = q.wrote.named };
-        found = found;
-      }) (λ stop d. record {
-        is = record { run = Some r; done = tt; stopped = (from, d); settled = tt; named = q.wrote.named };
-        found = found;
-      }) result o.ended
+      answered s [] begins q (from_start Allows Refused) (record { zero = refl; none_copied = refl; none_skipped = refl }) old.writer.sink q.wrote.bytes
+      s.unfailed refl (λ bytes h full. (bytes, h.consumed, (omega (arith, h.each_gave, full), omega (arith, h.small, full)))) result o.ended
 
 -- ---- What was copied, one step after another.
 
@@ -149,50 +140,44 @@ old_of p coming now pulled copied read front le text b =
 -- ---- a run that stopped in the old text, or before it
 
 module _ (keep : PositionPolicy) (Allows : Header → List ℕ → Type 0) (Refused : Header → KeyFault → Type 0) (p : Position) where
-  -- the file was opened, and no more than one pull gives was read after its nonce
-  has_opened : (old new : ResumePorts) (u : Unread) (unlocked : Unlocked)
-      (s : StartsAt Allows old.main.source (reader_view new.main.source u) unlocked) → HasOpened Allows p old new (opened s)
-  has_opened old new u unlocked s = (u.bytes, s.few, record { text = s.text; opens = s.opens; size = s.size; read = s.pulled.consumed })
+  -- what is promised of a stop without a run
+  abbrev Resumes : Ports → Ports → SourceView → SourceView → Result Done Stopped → Type 0
+  Resumes old new l l' result = DecryptsMarked keep Allows (from_position Allows Refused (resumption p l l')) old new result None
 
-  -- a call that came to no payload
-  stopped_with : (old new : ResumePorts) (stopped : Stopped) → ResumeStops Allows p old new keep Refused None stopped
-      → new.main.sink.label ≡ old.main.sink.label → ResumesMarked keep Allows Refused p old new (Err stopped) None
-  stopped_with old new stopped stops named = record {
-    is = record { run = None; done = tt; stopped = stops; settled = tt; named = named };
-    found = refl;
-  }
+  -- the file was opened, and no more than one pull gives was read after its nonce
+  has_opened : (l l' : SourceView) (old new : Ports) (u : Unread) (unlocked : Unlocked)
+      (s : StartsAt Allows old.source (reader_view new.source u) unlocked) → HasOpened Allows (resumption p l l') old new (opened s)
+  has_opened l l' old new u unlocked s = (u.bytes, s.few, record { text = s.text; opens = s.opens; size = s.size; read = s.pulled.consumed })
 
   -- before the old text
-  before_fails : (old new : ResumePorts) (fault : FileFault) → StartFails Allows Refused old.main.source new.main.source fault
-      → BeforeOldFails Allows p old new Refused fault
-  before_fails old new fault h0 = grind (arith, common_steps)
+  before_fails : (l : SourceView) (old new : Ports) (fault : FileFault) → StartFails Allows Refused old.source new.source fault
+      → BeforeOldFails Allows (resumption p l l) old new Refused fault
+  before_fails l old new fault h0 = grind (arith, common_steps)
 
-  verdict_fails : (old new : ResumePorts) (u : Unread) (unlocked : Unlocked) (fault : FileFault)
-      → StartsAt Allows old.main.source (reader_view new.main.source u) unlocked → PositionRefused p unlocked.id unlocked.key unlocked.nonce fault
-      → BeforeOldFails Allows p old new Refused fault
-  verdict_fails old new u unlocked OtherFile s f = (_, has_opened old new u unlocked s, λ own. f (own ∙ sym s.id))
-  verdict_fails old new u unlocked PositionForged s f = (_, has_opened old new u unlocked s, f.0 ∙ s.id, f.1)
-  verdict_fails old new u unlocked other s f = absurd f
+  verdict_fails : (l : SourceView) (old new : Ports) (u : Unread) (unlocked : Unlocked) (fault : FileFault)
+      → StartsAt Allows old.source (reader_view new.source u) unlocked → PositionRefused p unlocked.id unlocked.key unlocked.nonce fault
+      → BeforeOldFails Allows (resumption p l l) old new Refused fault
+  verdict_fails l old new u unlocked OtherFile s f = (_, has_opened l l old new u unlocked s, λ own. f (own ∙ sym s.id))
+  verdict_fails l old new u unlocked PositionForged s f = (_, has_opened l l old new u unlocked s, f.0 ∙ s.id, f.1)
+  verdict_fails l old new u unlocked other s f = absurd f
 
-  stopped_before : (old new : ResumePorts) (fault : FileFault) → new.main.sink ≡ old.main.sink → new.old ≡ old.old
-      → BeforeOldFails Allows p old new Refused fault → ResumesMarked keep Allows Refused p old new
-      (Err (record { fault = fault; written = 0; position = None })) None
-  stopped_before old new fault same text f =
-      stopped_with old new (record { fault = fault; written = 0; position = None })
-      (inl (record { sink = same; written = refl; position = refl }, text, f)) (ap (λ (s : SinkView). s.label) same)
+  stopped_before : (l : SourceView) (old new : Ports) (fault : FileFault) → new.sink ≡ old.sink
+      → BeforeOldFails Allows (resumption p l l) old new Refused fault → Resumes old new l l (Err (record { fault = fault; written = 0; position = None }))
+  stopped_before l old new fault same f =
+      stopped_with keep Allows (from_position Allows Refused (resumption p l l)) old new _
+      (inl (record { sink = same; written = refl; position = refl }, refl, f)) (ap (λ (s : SinkView). s.taken.label) same)
 
   -- no payload came to be opened
-  pub stopped_early : (old new : ResumePorts) (fault : FileFault) → new.main.sink ≡ old.main.sink → new.old ≡ old.old
-      → StartFails Allows Refused old.main.source new.main.source fault → ResumesMarked keep Allows Refused p old new
-      (Err (record { fault = fault; written = 0; position = None })) None
-  stopped_early old new fault same text f = stopped_before old new fault same text (before_fails old new fault f)
+  pub stopped_early : (l : SourceView) (old new : Ports) (fault : FileFault) → new.sink ≡ old.sink
+      → StartFails Allows Refused old.source new.source fault → Resumes old new l l (Err (record { fault = fault; written = 0; position = None }))
+  stopped_early l old new fault same f = stopped_before l old new fault same (before_fails l old new fault f)
 
   -- or the position was refused
-  pub refused : (old new : ResumePorts) (u : Unread) (fault : FileFault) → new.main.sink ≡ old.main.sink → new.old ≡ old.old
-      → StartForFails Allows Refused p old.main.source (reader_view new.main.source u) fault → ResumesMarked keep Allows Refused p old new
-      (Err (record { fault = fault; written = 0; position = None })) None
-  refused old new u fault same text (inl f) = stopped_early old new fault same text f
-  refused old new u fault same text (inr f) = stopped_before old new fault same text (verdict_fails old new u f.0 fault f.1 f.2)
+  pub refused : (l : SourceView) (old new : Ports) (u : Unread) (fault : FileFault) → new.sink ≡ old.sink
+      → StartForFails Allows Refused p old.source (reader_view new.source u) fault
+      → Resumes old new l l (Err (record { fault = fault; written = 0; position = None }))
+  refused l old new u fault same (inl f) = stopped_early l old new fault same f
+  refused l old new u fault same (inr f) = stopped_before l old new fault same (verdict_fails l old new u f.0 fault f.1 f.2)
 
   -- the file was started, and the old text was copied, or a front of it; the pulls of both count together
   module _ {a : SourceView} {unlocked : Unlocked} (s1 : Stage) {u : Unread} (st : StartsFor Allows p a (reader_view s1.reader.source u) unlocked)
@@ -217,12 +202,18 @@ module _ (keep : PositionPolicy) (Allows : Header → List ℕ → Type 0) (Refu
     abbrev out : List ℕ
     out = cb.copied.out
 
-    abbrev old : ResumePorts
-    old = resume_ports (ports a first.sink) l
+    abbrev e : Resumption
+    e = resumption p l l'
+
+    abbrev begun : Beginning
+    begun = from_position Allows Refused e
+
+    abbrev old : Ports
+    old = ports a first.sink
 
     -- nothing more was written, and the file was read up to here
-    abbrev new : ReaderView → ResumePorts
-    new m = resume_ports (ports m.source s1.writer.sink) l'
+    abbrev new : ReaderView → Ports
+    new m = ports m.source s1.writer.sink
 
     abbrev stop : FileFault → Option Position → Stopped
     stop fault position = record { fault = fault; written = s1.writer.tally.written; position = position }
@@ -244,7 +235,7 @@ module _ (keep : PositionPolicy) (Allows : Header → List ℕ → Type 0) (Refu
     -- no more than these bytes of the old text was written
     writes_old : (m : ReaderView) (pulled : List ℕ) → length out ≤ p.index * chunk_length
         → Consumes l.supply l'.supply pulled → length pulled ≤ p.index * chunk_length + pull_room
-        → IsPrefixOf out pulled → WritesOld p old (new m) s1.writer.tally.written out
+        → IsPrefixOf out pulled → WritesOld e old (new m) s1.writer.tally.written out
     writes_old m pulled le read short front = record {
       pulled = pulled;
       read = read;
@@ -258,13 +249,12 @@ module _ (keep : PositionPolicy) (Allows : Header → List ℕ → Type 0) (Refu
     -- the copy of the old text stopped
     stops_in_old : (fault : FileFault) (pulled : List ℕ) → length out ≤ p.index * chunk_length
         → Consumes l.supply l'.supply pulled → length pulled ≤ p.index * chunk_length + pull_room
-        → IsPrefixOf out pulled → InOldFails Allows p old (new s1.reader) pulled out fault → StopsInOld Allows p old (new s1.reader) (stop fault None)
+        → IsPrefixOf out pulled → InOldFails Allows e old (new s1.reader) pulled out fault → StopsInOld Allows e old (new s1.reader) (stop fault None)
     unfolding writes_old
     stops_in_old fault pulled le read short front why = record {
       file = file;
-      opened = has_opened old (new s1.reader) u unlocked s;
-      own = st.own ∙ s.id;
-      tagged = st.tagged;
+      opened = has_opened l l' old (new s1.reader) u unlocked s;
+      own = (st.own ∙ s.id, st.tagged);
       copied = out;
       writes = writes_old s1.reader pulled le read short front;
       nowhere = refl;
@@ -273,30 +263,30 @@ module _ (keep : PositionPolicy) (Allows : Header → List ℕ → Type 0) (Refu
 
     -- why it was not all copied
     abbrev Fails : List ℕ → FileFault → Type 0
-    Fails pulled fault = InOldFails Allows p old (new s1.reader) pulled out fault
+    Fails pulled fault = InOldFails Allows e old (new s1.reader) pulled out fault
 
     less_copied : (pulled : List ℕ) → Pulled old_start l'.supply z.unread.pulls pulled → length out < p.index * chunk_length → (fault : FileFault)
         → ((out ≡ pulled) × NoMore ShortText x z fault × (s1.writer.sink.failed ≡ first.sink.failed))
         ⊎ ((fault ≡ Write) × HasFailed first.sink.failed s1.writer.sink.failed s1.writer.sink.failing × (l'.failed ≡ l.failed)) → Fails pulled fault
-    less_copied pulled h0 h1 fault h2 = grind (arith, common_steps, ended, length-append)
+    less_copied pulled h0 h1 fault h2 = grind (arith, common_steps, length-append)
 
     text_fails_in_old : (fault : FileFault) → TextFails chunk_length p.index p.chain x z first s1.writer out fault
-        → StopsInOld Allows p old (new s1.reader) (stop fault None)
+        → StopsInOld Allows e old (new s1.reader) (stop fault None)
     text_fails_in_old fault (inl (short, f)) =
         let all = old_read f.pulled f.read in
         stops_in_old fault f.pulled (omega (arith, short)) all.consumed (omega (arith, short, f.few)) f.front (less_copied f.pulled all short fault
         f.why)
     text_fails_in_old fault (inr (is, goes, differs, few)) =
         let le : length out ≤ p.index * chunk_length = omega (arith, goes.0) in
-        subst (λ (f : FileFault). StopsInOld Allows p old (new s1.reader) (stop f None)) (sym is) (stops_in_old OldTextDiffers (out ++
+        subst (λ (f : FileFault). StopsInOld Allows e old (new s1.reader) (stop f None)) (sym is) (stops_in_old OldTextDiffers (out ++
         z.unread.bytes) le
         (old_read (out ++ z.unread.bytes) goes.1.uses).consumed (omega (arith, le, few, length-append out z.unread.bytes)) (z.unread.bytes, refl)
         (goes.0, differs))
 
     pub copy_stopped : (fault : FileFault) → TextFails chunk_length p.index p.chain x z first s1.writer out fault
-        → ResumesMarked keep Allows Refused p old (new s1.reader) (Err (stop fault None)) None
+        → Resumes (ports a first.sink) (ports s1.reader.source s1.writer.sink) l l' (Err (stop fault None))
     copy_stopped fault f =
-        stopped_with old (new s1.reader) (stop fault None) (inr (inl (text_fails_in_old fault f))) cb.copied.wrote.named
+        stopped_with keep Allows begun old (new s1.reader) (stop fault None) (inr (inl (text_fails_in_old fault f))) cb.copied.wrote.bytes.named
 
     -- ---- a run that went on after the old text
 
@@ -319,27 +309,26 @@ module _ (keep : PositionPolicy) (Allows : Header → List ℕ → Type 0) (Refu
       again = grind (arith, common_steps, counted_back, old_used)
 
       never_end : (now : ReaderView) (sink : SinkView) (y : List ℕ) → Pulled start now.source.supply now.unread.pulls y
-          → now.unread.pulls ≡ 2 ^ 63 → NeverEndTogether old (resume_ports (ports now.source sink) l')
+          → now.unread.pulls ≡ 2 ^ 63 → NeverEndTogether e old (ports now.source sink)
       never_end now sink y h all = grind (arith, common_steps, length-append, old_used)
 
       -- the run stopped in the blocks that are skipped
       stops_in_skipped : (m : ReaderView) (fault : FileFault) (skipped : List ℕ)
           → length skipped < p.index * block_length → Consumes a.supply m.source.supply (head ++ skipped)
-          → InSkippedFails Allows p old (new m) skipped fault → StopsInSkipped Allows p old (new m) (stop fault (Some p))
+          → InSkippedFails Allows e old (new m) skipped fault → StopsInSkipped Allows e old (new m) (stop fault (Some p))
       stops_in_skipped m fault skipped short read why =
           let le : length out ≤ p.index * chunk_length = omega (arith, g.0) in
           record {
             file = file;
             skipped = skipped;
             reads = record { text = s.text; opens = s.opens; size = s.size; read = read };
-            own = st.own ∙ s.id;
-            tagged = st.tagged;
+            own = (st.own ∙ s.id, st.tagged);
             short = short;
             copied = out;
             old_text = old_text;
             writes = writes_old m old_bytes le old_used.consumed (omega (arith, le, g.6, length-append out z.unread.bytes)) (z.unread.bytes, refl);
             unfailed = g.1.unfailed;
-            here = record { index = refl; file_id_is = refl; chain_is = refl; tag_is = refl };
+            here = refl;
             why = why;
           }
 
@@ -348,7 +337,7 @@ module _ (keep : PositionPolicy) (Allows : Header → List ℕ → Type 0) (Refu
       dried m skipped empty uses = rw (empty, append-nil skipped) at (uses start head again)
 
       skipped_fails : (m : ReaderView) (fault : FileFault) → SkipFails block_length p.index s1.reader m fault
-          → StopsInSkipped Allows p old (new m) (stop fault (Some p))
+          → StopsInSkipped Allows e old (new m) (stop fault (Some p))
       skipped_fails m fault (skipped, short, d) = by fault d.why where
         cut : FileFault
         cut = Stream (record { kind = Truncated; chunk = length skipped / block_length })
@@ -356,8 +345,8 @@ module _ (keep : PositionPolicy) (Allows : Header → List ℕ → Type 0) (Refu
         all : Pulled start m.source.supply m.unread.pulls (head ++ skipped)
         all = dried m skipped d.used d.uses
 
-        by : (fault : FileFault) → NoMore cut s1.reader m fault → StopsInSkipped Allows p old (new m) (stop fault (Some p))
-        by fault (inl ended) = subst (λ (f : FileFault). StopsInSkipped Allows p old (new m) (stop f (Some p))) (sym ended.0)
+        by : (fault : FileFault) → NoMore cut s1.reader m fault → StopsInSkipped Allows e old (new m) (stop fault (Some p))
+        by fault (inl ended) = subst (λ (f : FileFault). StopsInSkipped Allows e old (new m) (stop f (Some p))) (sym ended.0)
             (stops_in_skipped m cut skipped short all.consumed (refl, refl, ended.1, (ended.2 ∙ s.unfailed, g.2)))
         by Read (inr f) = stops_in_skipped m Read skipped short all.consumed
             (subst (λ (k : ℕ). HasFailed k m.source.failed m.source.failing) s.unfailed f, g.2)
@@ -367,9 +356,9 @@ module _ (keep : PositionPolicy) (Allows : Header → List ℕ → Type 0) (Refu
 
       -- the blocks before were not all passed over
       pub skip_stopped : (m : ReaderView) (fault : FileFault) → SkipFails block_length p.index s1.reader m fault
-          → ResumesMarked keep Allows Refused p old (new m) (Err (stop fault (Some p))) None
+          → Resumes old (new m) l l' (Err (stop fault (Some p)))
       skip_stopped m fault f =
-          stopped_with old (new m) (stop fault (Some p)) (inr (inr (skipped_fails m fault f))) cb.copied.wrote.named
+          stopped_with keep Allows begun old (new m) (stop fault (Some p)) (inr (inr (skipped_fails m fault f))) cb.copied.wrote.bytes.named
 
       -- they were
       module _ (m : ReaderView) (passed : List ℕ) (size : length passed ≡ p.index * block_length) (passes : Passes s1.reader m passed) where
@@ -393,28 +382,18 @@ module _ (keep : PositionPolicy) (Allows : Header → List ℕ → Type 0) (Refu
 
         -- the whole run
         pub rest_ended : (s2 : Stage) (result : Result Done Stopped) → OpensPayload unlocked p.index before_rest s2 result
-            → ResumesMarked keep Allows Refused p old (resume_ports (ports_at s2) l') result (marks_over unlocked s2.writer.tally.chain)
+            → DecryptsMarked keep Allows begun old (ports_at s2) result (marks_over unlocked s2.writer.tally.chain)
         rest_ended s2 result o =
             let q = o.decrypts in
-            let r = run s old_bytes begins q in
-            let found = marked s old_bytes begins q in
-            let from : IsFrom p l l' r = record {
+            let from : IsFrom e (run s old_bytes begins q) = record {
               index = refl;
-              own = st.own ∙ s.id;
-              tagged = st.tagged;
+              own = (st.own ∙ s.id, st.tagged);
               old_text = old_text;
               more = z.unread.bytes;
               old_read = old_used.consumed;
               few = g.6;
+              unfailed = g.1.unfailed;
             } in
             let wrote = wrote_then cb.copied.wrote q.wrote in
-            ended s old_bytes begins q (NeverEndTogether old (resume_ports (ports_at s2) l')) first.sink wrote.bytes (passes.unfailed ∙ s.unfailed) g.2
-            (never_end s2.reader s2.writer.sink)
-            (λ e. ResumesMarked keep Allows Refused p old (resume_ports (ports_at s2) l') e (marks_over unlocked s2.writer.tally.chain))
-            (λ written d none settled. record {
-              is = record { run = Some r; done = (from, g.1.unfailed, d, none); stopped = tt; settled = settled; named = wrote.named };
-              found = found;
-            }) (λ stopped d. record {
-              is = record { run = Some r; done = tt; stopped = (from, g.1.unfailed, d); settled = tt; named = wrote.named };
-              found = found;
-            }) result o.ended
+            answered s old_bytes begins q begun from first.sink wrote.bytes (passes.unfailed ∙ s.unfailed) g.2
+            (never_end s2.reader s2.writer.sink) result o.ended

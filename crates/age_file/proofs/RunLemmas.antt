@@ -1,9 +1,9 @@
 -- A run: what it read, what it wrote of a text, its positions, and runs in a row.
 use Rattle.std.proofs.lemmas.Grind.{common_steps}
 use Rattle.std.proofs.Common.{◌≡◌, ℕ, ◌*◌, ◌<◌, ◌≤◌, List, ◌++◌, length, take, sym, ap, subst, ◌∙◌, arith, append_assoc, Some, refl, ◌^◌, Option}
-use Rattle.std.proofs.Common.{inl, inr, [], ◌∷◌, true}
+use Rattle.std.proofs.Common.{inl, inr, [], ◌∷◌, true, None, ⊎_elim}
 use Rattle.std.specs.Simd.{first_chunks}
-use Rattle.std.proofs.lemmas.List.{length-append, take_at}
+use Rattle.std.proofs.lemmas.List.{length-append, length-take, take_at}
 use Rattle.std.proofs.Math.Nat.{le-div_iff_mul-le}
 use Rattle.age_chunk.specs.{chunk_count, chunk_length, chunk_limit, block_length}
 use Rattle.age_chunk.proofs.{first_chunks-append, length-first_chunks}
@@ -15,11 +15,11 @@ use Rattle.age_keys.specs.{payload_key, box, unbox, position_key}
 use Rattle.age_keys.specs.inner.{box_valid}
 use Rattle.age_file.specs.{chain, Run, IsFromStart, segment_of, run_outcome, run_text, held, IsTexts, CarriesText, IsAuthenticRun, IsPositionOf}
 use Rattle.age_file.specs.{Ports, ports, NoneFailed, OpenedFile, IsRun, GivesPosition, PayloadFails, StopsInPayload, IsDone, Position, Done, Stopped}
-use Rattle.age_file.specs.{PositionPolicy, Kept, Dropped, Unlocked, IsSame, IsOldText, ResumePorts, IsFrom, IsBoundTo, ResumedRun, last, AllFollow, WritesRight}
-use Rattle.age_file.specs.{Hands, BindsTo, Bound, IsMarked, IsPositionWithin, FindsMarks}
-use Rattle.age_file.proofs.ReadLemmas.{prefix_trans}
-use Rattle.std.specs.Prelude.{◌⊎◌, Result, MatchResult, OnOk, Ok, Err, true}
-use Rattle.age_io.specs.{SourceView, SinkView}
+use Rattle.age_file.specs.{PositionPolicy, Kept, Dropped, Unlocked, IsSame, IsOldText, Beginning, DecryptsMarked, BegunRun, BeginsAfter, held_last, AllFollow, WritesRight}
+use Rattle.age_file.specs.{BeginsWith, IsFrom, Resumption, WritesOld, Hands, BindsTo, Bound, IsMarked, IsPositionWithin, FindsMarks}
+use Rattle.age_file.proofs.ReadLemmas.{left_of, prefix_trans, same_front}
+use Rattle.std.specs.Prelude.{IsSomeAnd, ◌⊎◌, Result, MatchResult, OnOk, Ok, Err, true}
+use Rattle.age_io.specs.{Consumes, SourceView, SinkView}
 use Rattle.age_io.specs.Taken.{Appends}
 use Rattle.age_stanza.specs.declared.header.Header.{Header}
 use Rattle.age_fault.specs.declared.fault.FileFault.{FileFault}
@@ -59,8 +59,8 @@ writes_all r limit whole done text auth = ap (λ (t : List ℕ). r.copied ++ t) 
 pub none_before : (r : Run) → IsFromStart r → (text : List ℕ) → r.copied ≡ take (r.first * chunk_length) text
 none_before r from text = grind (arith, common_steps)
 
-pub from_start : (r : Run) → IsFromStart r → (text : List ℕ) → chunk_count chunk_length text ≤ chunk_limit → IsTexts text r → IsAuthenticRun r text
-from_start r from text few auth = record { few = few; old_text = none_before r from text; authentic = auth }
+pub authentic_start : (r : Run) → IsFromStart r → (text : List ℕ) → chunk_count chunk_length text ≤ chunk_limit → IsTexts text r → IsAuthenticRun r text
+authentic_start r from text few auth = record { few = few; old_text = none_before r from text; authentic = auth }
 
 -- its position carries the text of which the run is authentic
 pub position_carries : (r : Run) (p : Position) → r.first < chunk_limit → IsPrefixOf r.out (run_text r)
@@ -161,15 +161,19 @@ module _ {keep : PositionPolicy} {Allows : Header → List ℕ → Type 0} {a : 
     found Kept = within_is
     found Dropped = refl
 
-  -- since its sink was as in the first of these ports, and its source too
-  module _ (never : Type 0) (sink : SinkView) (wrote : Appends sink.taken s2.writer.sink.taken (copied ++ q.out))
-      (read_failed : m.reader.source.failed ≡ a.failed) (write_failed : m.writer.sink.failed ≡ sink.failed) (all : (bytes : List ℕ)
-      → Pulled (start_after front a.supply) s2.reader.source.supply s2.reader.unread.pulls bytes → s2.reader.unread.pulls ≡ 2 ^ 63 → never) where
+  -- begun so, since its sink was as in the first of these ports, and its source too
+  module _ (begun : Beginning) (from : begun.run run) (sink : SinkView) (wrote : Appends sink.taken s2.writer.sink.taken (copied ++ q.out))
+      (read_failed : m.reader.source.failed ≡ a.failed) (write_failed : m.writer.sink.failed ≡ sink.failed)
+      (all : (bytes : List ℕ) → Pulled (start_after front a.supply) s2.reader.source.supply s2.reader.unread.pulls bytes → s2.reader.unread.pulls ≡ 2 ^ 63
+      → begun.never (ports a sink) (ports_at s2)) where
     abbrev old : Ports
     old = ports a sink
 
     abbrev new : Ports
     new = ports_at s2
+
+    abbrev never : Type 0
+    never = begun.never old new
 
     fails : (fault : FileFault) → SegmentFails (unbox unlocked.key unlocked.nonce) chunk_length m s2 (segment_of run) q.out fault
         → PayloadFails never old new run fault
@@ -185,73 +189,103 @@ module _ {keep : PositionPolicy} {Allows : Header → List ℕ → Type 0} {a : 
           → EndsAs unlocked s2.writer.tally how result → P result
       ended_as how result h0 h1 h2 = grind (arith, common_steps, fails, given, is_run)
 
-      pub ended : (result : Result Done Stopped) → EndsAs unlocked s2.writer.tally end result → P result
-      ended result is = ended_as end result q.settled q.answered is
+    pub answered : (result : Result Done Stopped) → EndsAs unlocked s2.writer.tally end result
+        → DecryptsMarked keep Allows begun old new result (marks_over unlocked s2.writer.tally.chain)
+    answered result is =
+        ended_as (λ e. DecryptsMarked keep Allows begun old new e (marks_over unlocked s2.writer.tally.chain))
+        (λ written d none settled. record { is = record { run = Some run; answers = (from, d, none); settled = settled; named = wrote.named }; found = marked })
+        (λ stop d. record { is = record { run = Some run; answers = (from, d); settled = tt; named = wrote.named }; found = marked })
+        end result q.settled q.answered is
 
 -- ---- Runs in a row, by the number of runs.
 
-few_chunks : (text : List ℕ) (first : Run) (runs : List ResumedRun) → AllFollow text first runs → chunk_count chunk_length text ≤ chunk_limit
-few_chunks text first [] a = a.1.few
-few_chunks text first (r ∷ earlier) a = few_chunks text first earlier a.1
-
 -- what was copied of a text's beginning is the text's beginning
-pub authentic_of : (text : List ℕ) (p : Position) (r : Run) → chunk_count chunk_length text ≤ chunk_limit → r.first ≡ p.index → IsOldText p r.copied
-    → IsPrefixOf r.copied text → IsTexts text r → IsAuthenticRun r text
-authentic_of text p r few at old c auth = grind (arith, common_steps, take_at)
+old_taken : (text : List ℕ) (p : Position) (r : Run) → r.first ≡ p.index → IsOldText p r.copied → IsPrefixOf r.copied text
+    → r.copied ≡ take (r.first * chunk_length) text
+old_taken text p r at old c = grind (arith, common_steps, take_at)
+
+-- as far as it was copied, the old text begins this text
+pub record Fits (text : List ℕ) (e : Resumption) : Type 0 where
+  pub copied : (old new : Ports) (written : ℕ) (out : List ℕ) → WritesOld e old new written out → IsPrefixOf out text
+  pub taken : (r : Run) → IsFrom e r → r.copied ≡ take (r.first * chunk_length) text
+
+-- if all that it gave begins the text
+pub given_fits : (text : List ℕ) (e : Resumption) → ((given : List ℕ) → Consumes e.first.supply e.last.supply given → IsPrefixOf given text) → Fits text e
+given_fits text e begins = record {
+  copied = λ old new written out w. prefix_trans out w.pulled text w.front (begins w.pulled w.read);
+  taken = λ r from. old_taken text e.position r from.index from.old_text
+      (prefix_trans r.copied (r.copied ++ from.more) text (from.more, refl) (begins (r.copied ++ from.more) from.old_read));
+}
+
+-- if it begins with the text's chunks before the position
+pub begins_fits : (text : List ℕ) (e : Resumption) → BeginsWith e.position e.first.supply text → Fits text e
+begins_fits text e b = record { copied = λ old new written out w. w.of text b; taken = taken } where
+  taken : (r : Run) → IsFrom e r → r.copied ≡ take (r.first * chunk_length) text
+  taken r from =
+      let start = take (e.position.index * chunk_length) text in
+      let t = left_of e.first.supply e.last.supply b.all (r.copied ++ from.more) b.shown from.old_read in
+      let size : length start ≡ e.position.index * chunk_length = omega (arith, length-take (e.position.index * chunk_length) text, b.within) in
+      let both : r.copied ++ (from.more ++ t.0) ≡ start ++ b.begins.0 = sym (append_assoc r.copied from.more t.0) ∙ (sym t.1 ∙ sym b.begins.1) in
+      (same_front r.copied start (from.more ++ t.0) b.begins.0 (from.old_text.size ∙ sym size) both).0
+      ∙ ap (λ (k : ℕ). take (k * chunk_length) text) (sym from.index)
 
 -- the position that a run began from, if the old text begins a text
-pub same_carries : (p q : Position) (copied text : List ℕ) → IsOldText p copied → IsPrefixOf copied text → IsSame p q → CarriesText text q
-same_carries p q copied text o c s = grind (arith, common_steps, first_chunks-append, length-append)
+pub old_carries : (p : Position) (copied text : List ℕ) → IsOldText p copied → IsPrefixOf copied text → CarriesText text p
+old_carries p copied text o c = grind (arith, common_steps, first_chunks-append, length-append)
 
-pub in_a_row : (text : List ℕ) (first : Run) (runs : List ResumedRun) → AllFollow text first runs → WritesRight text first runs
-in_a_row text first [] a =
-    let limit : first.first < chunk_limit = omega (arith, a.0.zero) in
-    let begins = writes_of first limit a.2 text a.1 in
-    record {
-      prefix = begins;
-      in_copy = λ copied front. prefix_trans copied (held first) text front begins;
-      all = λ e. writes_all first limit e.0 e.1 text a.1;
-      carries = λ p h. within_carries first h.0 p limit a.2 h.1 text a.1;
-    }
-in_a_row text first (r ∷ earlier) a =
-    let f = a.0 in
-    let before = in_a_row text first earlier a.1 in
-    let begins = prefix_trans r.run.copied (held (last first earlier)) text f.old before.prefix in
-    let auth = authentic_of text r.position r.run (few_chunks text first earlier a.1) f.at f.old_text begins f.authentic in
-    let limit : r.run.first < chunk_limit = omega (arith, f.at, r.position.within) in
-    let whole = writes_of r.run limit f.prefix text auth in
-    record {
-      prefix = whole;
-      in_copy = λ copied front. prefix_trans copied (held r.run) text front whole;
-      all = λ e. writes_all r.run limit e.0 e.1 text auth;
-      carries = λ q h. elim h [
-        | inl next ↦ within_carries r.run next.0 q limit f.prefix next.1 text auth
-        | inr same ↦ same_carries r.position q r.run.copied text f.old_text begins same
-      ];
-    }
+same_carries : (p q : Position) (text : List ℕ) → IsSame p q → CarriesText text p → CarriesText text q
+same_carries p q text s c = grind (arith, common_steps)
+
+module _ (text : List ℕ) (few : chunk_count chunk_length text ≤ chunk_limit) where
+  -- a run that follows on what begins the text is authentic
+  follows : (before : List ℕ) → IsPrefixOf before text → (from : Option Position) (r : Run) → BeginsAfter before from r → IsTexts text r
+      → (r.first < chunk_limit) × IsAuthenticRun r text × ((p : Position) → IsSomeAnd from (λ q. IsSame q p) → CarriesText text p)
+  follows before front None r begun auth = (omega (arith, begun.zero), authentic_start r begun text few auth, (λ p none. absurd none))
+  follows before front (Some q) r begun auth =
+      let begins = prefix_trans r.copied before text begun.1 front in (
+        omega (arith, begun.0, q.within),
+        record { few = few; old_text = old_taken text q r begun.0 begun.2 begins; authentic = auth },
+        (λ p same. same_carries q p text same (old_carries q r.copied text begun.2 begins)),
+      )
+
+  -- what the last of such runs wrote begins the text
+  front_of : (runs : List BegunRun) → AllFollow text runs → IsPrefixOf (held_last runs) text
+  front_of [] none = (text, refl)
+  front_of (r ∷ earlier) a =
+      let at = follows (held_last earlier) (front_of earlier a.1) r.from r.run a.0.begins a.0.authentic in
+      writes_of r.run at.0 a.0.prefix text at.1
+
+  pub in_a_row : (r : BegunRun) (earlier : List BegunRun) → AllFollow text (r ∷ earlier) → WritesRight text r
+  in_a_row r earlier a =
+      let at = follows (held_last earlier) (front_of earlier a.1) r.from r.run a.0.begins a.0.authentic in
+      let begins = front_of (r ∷ earlier) a in
+      record {
+        prefix = begins;
+        in_copy = λ copied front. prefix_trans copied (held r.run) text front begins;
+        all = λ whole done. writes_all r.run at.0 whole done text at.1;
+        carries = λ p. ⊎_elim (λ h. within_carries r.run h.0 p at.0 a.0.prefix h.1 text at.1) (at.2 p);
+      }
 
 -- ---- Bound positions.
 
 -- the old text is the beginning of each text that the position is bound to
-bound_old : (p : Position) (copied text : List ℕ) → IsOldText p copied → IsBoundTo p copied text → copied ≡ take (p.index * chunk_length) text
-bound_old p copied text old b = b.distinct (old.same ∙ b.carries.1)
+bound_old : {text : List ℕ} {p : Position} {r : Run} → BindsTo text p r → r.copied ≡ take (p.index * chunk_length) text
+bound_old {text} {p} {r} b = b.to.distinct (b.old_text.same ∙ b.to.carries.1)
 
-authentic : {text : List ℕ} {p : Position} {was now : SourceView} {r : Run} → IsFrom p was now r → BindsTo text p r → IsAuthenticRun r text
-authentic {text} {p} {was} {now} {r} from b = record {
+authentic : {text : List ℕ} {p : Position} {r : Run} → BindsTo text p r → IsAuthenticRun r text
+authentic {text} {p} {r} b = record {
   few = b.few;
-  old_text = bound_old p r.copied text from.old_text b.to ∙ ap (λ (k : ℕ). take (k * chunk_length) text) (sym from.index);
+  old_text = bound_old b ∙ ap (λ (k : ℕ). take (k * chunk_length) text) (sym b.index);
   authentic = b.authentic;
 }
 
-pub bound : (Allows : Header → List ℕ → Type 0) (text : List ℕ) (p : Position) (old new : ResumePorts) (written : ℕ) (r : Run) → BindsTo text p r
-    → IsFrom p old.old new.old r → IsRun Allows old.main new.main written r → Bound text p r
-bound Allows text p was now written r b from is =
-    let limit : r.first < chunk_limit = omega (arith, from.index, p.within) in
-    record {
-      copied = bound_old p r.copied text from.old_text b.to;
-      begins = writes_of r limit is.prefix text (authentic from b);
-    }
+pub bound : (Allows : Header → List ℕ → Type 0) (text : List ℕ) (p : Position) (old new : Ports) (written : ℕ) (r : Run) → BindsTo text p r
+    → IsRun Allows old new written r → Bound text p r
+bound Allows text p was now written r b is = record {
+  copied = bound_old b;
+  begins = writes_of r (omega (arith, b.index, p.within)) is.prefix text (authentic b);
+}
 
-pub bound_done : (Allows : Header → List ℕ → Type 0) (text : List ℕ) (p : Position) (old new : ResumePorts) (written : ℕ) (r : Run) → BindsTo text p r
-    → IsFrom p old.old new.old r → IsDone Allows old.main new.main written r → held r ≡ text
-bound_done Allows text p was now written r b from d = writes_all r (omega (arith, from.index, p.within)) d.whole d.done text (authentic from b)
+pub bound_done : (Allows : Header → List ℕ → Type 0) (text : List ℕ) (p : Position) (old new : Ports) (written : ℕ) (r : Run) → BindsTo text p r
+    → IsDone Allows old new written r → held r ≡ text
+bound_done Allows text p was now written r b d = writes_all r (omega (arith, b.index, p.within)) d.whole d.done text (authentic b)

@@ -1,12 +1,11 @@
 -- What can't stop the decryption of an age file that is undamaged, and what it writes.
 use Rattle.std.proofs.lemmas.Grind.{common_steps}
 use Rattle.std.proofs.Common.{inl, inr, ◌≡◌, ℕ, ◌+◌, ◌*◌, ◌<◌, ◌≤◌, List, [], ◌++◌, length, take, drop, Option, Some, refl, sym, ap, subst, ◌∙◌, arith}
-use Rattle.std.proofs.Common.{append-nil, append_assoc, Bool, true, false, None, Result, Ok, Err, IfOk, IfErr, MatchResult}
+use Rattle.std.proofs.Common.{append-nil, append_assoc, Bool, true, false, None, Result, Ok, Err, MatchResult}
 use Rattle.std.proofs.lemmas.List.{length-append, drop_at, drop_all, length-take}
 use Rattle.age_io.specs.Taken.{Appends}
 use Rattle.age_io.specs.Supply.{Supply}
 use Rattle.age_io.specs.{Consumes, IsAtEnd, SourceView}
-use Rattle.std.specs.Prelude.{IsSomeAnd}
 use Rattle.age_stanza.specs.{HeadText, OneHeader}
 use Rattle.age_stanza.specs.declared.header.Header.{Header}
 use Rattle.age_stanza.specs.declared.fault.HeadFault.{HeadFault}
@@ -19,7 +18,7 @@ use Rattle.age_stream.specs.Segment.{Segment}
 use Rattle.age_stream.proofs.LawLemmas.{closed_stays}
 use Rattle.age_stream.proofs.SegmentLemmas.{segment_right as released_is_written}
 use Rattle.age_stream.proofs.ReplayLemmas.{rest_is_right as rest_is_authentic}
-use Rattle.age_keys.specs.{IsMacOf, payload_key, Refuses, RefusesKey, box, unbox, PassphraseOpens, PassphraseIdentity, IsPassphraseKey, PassphraseRefuses}
+use Rattle.age_keys.specs.{IsMacOf, payload_key, Refuses, RefusesKey, box, unbox, PassphraseOpens, IsPassphraseKey, PassphraseRefuses}
 use Rattle.age_keys.specs.{scrypt_head}
 use Rattle.age_keys.specs.declared.fault.KeyFault.{KeyFault}
 use Rattle.age_keys.specs.declared.fault.KeyFault.TheVariants.{Memory as KeyMemory}
@@ -27,13 +26,13 @@ use Rattle.age_keys.specs.inner.{box_valid}
 use Rattle.age_fault.specs.declared.fault.FileFault.{FileFault}
 use Rattle.age_fault.specs.declared.fault.FileFault.TheVariants.{Head, Key, NonceCut, Stream, Read, Write, Memory, ReadNeverEnds, OtherFile, ShortText}
 use Rattle.age_fault.specs.declared.fault.FileFault.TheVariants.{PositionForged, OldTextDiffers}
-use Rattle.age_file.specs.{Ports, IsHeadFault, Run, run_outcome, IsRun, PayloadFails, IsDone, Reads, OpenedFile, NeverEnds, StartFails, IsWhole, WritesText}
-use Rattle.age_file.specs.{StopsOutside, DecryptEnds, DecryptStops, IsUndamagedFile, chain, ResumePorts, WritesOld, IsFrom, IsUndamagedRest, NeverEndTogether}
-use Rattle.age_file.specs.{BeforeOldFails, InOldFails, InSkippedFails, StopsInSkipped, ResumeStops, ResumeEnds, Stopped, Position, PositionPolicy, Done}
-use Rattle.age_file.specs.{SecretView, AgeFile, DecryptAnswers, IsSecret, passphrase_identity, RoundTrip}
+use Rattle.age_file.specs.{Ports, IsHeadFault, Run, run_outcome, IsRun, PayloadFails, IsDone, Reads, OpenedFile, StartFails, IsWhole, WritesText}
+use Rattle.age_file.specs.{StopsOutside, DecryptAnswers, from_either, IsUndamagedFrom, IsUndamagedFile, chain, Resumption, WritesOld, IsUndamagedRest}
+use Rattle.age_file.specs.{BeforeOldFails, InOldFails, InSkippedFails, StopsInSkipped, Stopped, PositionPolicy, Done}
+use Rattle.age_file.specs.{SecretView, AgeFile, IsSecret, passphrase_identity, RoundTrip}
 use Rattle.age_file.specs.inner.{segment}
 use Rattle.age_file.proofs.ReadLemmas.{fault_of_all, left_of, none_left, same_front, regroup}
-use Rattle.age_file.proofs.RunLemmas.{writes_all, none_before}
+use Rattle.age_file.proofs.RunLemmas.{writes_all, none_before, begins_fits}
 use Rattle.std.specs.Simd.{first_chunks}
 use Rattle.age_chunk.proofs.{first_chunks-append}
 
@@ -235,29 +234,32 @@ module _ (one : OneHeader) {Allows : Header → List ℕ → Type 0} {Refused : 
 -- ---- What can't stop a resumed decryption of an age file that is undamaged, after the text that it was
 -- made for.
 
-module _ (one : OneHeader) {Allows : Header → List ℕ → Type 0} {Refused : Header → KeyFault → Type 0} {p : Position} (old new : ResumePorts)
-    {text : List ℕ} (u : IsUndamagedRest Allows Refused p old.main.source.supply old.old.supply text) where
+module _ (one : OneHeader) {Allows : Header → List ℕ → Type 0} {Refused : Header → KeyFault → Type 0} {e : Resumption} (old new : Ports)
+    {text : List ℕ} (u : IsUndamagedRest Allows Refused e old.source.supply text) where
+  abbrev file : IsWhole Allows Refused old.source.supply text
+  file = u.is.whole
+
   -- the old text is long enough
-  old_is_long : (written : ℕ) (copied : List ℕ) (w : WritesOld p old new written copied)
-      → copied ≡ w.pulled → IsAtEnd new.old.supply → p.index * chunk_length ≤ length copied
+  old_is_long : (written : ℕ) (copied : List ℕ) (w : WritesOld e old new written copied)
+      → copied ≡ w.pulled → IsAtEnd e.last.supply → e.position.index * chunk_length ≤ length copied
   old_is_long written copied w whole ended = grind (arith, common_steps, left_of, length-append, length-take, none_left)
 
   -- and has the position's chain
-  old_is_same : (written : ℕ) (copied : List ℕ) → WritesOld p old new written copied → length copied ≡ p.index * chunk_length
-      → chain (first_chunks chunk_length p.index copied) ≡ p.chain
+  old_is_same : (written : ℕ) (copied : List ℕ) → WritesOld e old new written copied → length copied ≡ e.position.index * chunk_length
+      → chain (first_chunks chunk_length e.position.index copied) ≡ e.position.chain
   old_is_same written copied w size =
       let front = w.of text u.old_text in
-      sym (rw (← front.1, first_chunks-append chunk_length p.index copied front.0 (omega (arith, size))) at u.carries)
+      sym (rw (← front.1, first_chunks-append chunk_length e.position.index copied front.0 (omega (arith, size))) at u.carries)
 
   -- the position is the file's, and was made under its key
-  before_undamaged : (fault : FileFault) → BeforeOldFails Allows p old new Refused fault → StopsOutside fault
-  before_undamaged OtherFile f = let o = opened_as one u.whole f.1.2 in absurd (f.2 (cc (u.own, o.front_is, o.nonce_is)))
-  before_undamaged PositionForged f = let o = opened_as one u.whole f.1.2 in absurd (f.3 (cc (u.tagged, o.key_is, o.nonce_is)))
-  before_undamaged other f = start_undamaged one old.main.source new.main.source u.whole other f
+  before_undamaged : (fault : FileFault) → BeforeOldFails Allows e old new Refused fault → StopsOutside fault
+  before_undamaged OtherFile f = let o = opened_as one file f.1.2 in absurd (f.2 (cc (u.own, o.front_is, o.nonce_is)))
+  before_undamaged PositionForged f = let o = opened_as one file f.1.2 in absurd (f.3 (cc (u.tagged, o.key_is, o.nonce_is)))
+  before_undamaged other f = start_undamaged one old.source new.source file other f
 
   -- the old text is long enough, and the text's
-  old_undamaged : (written : ℕ) (copied : List ℕ) (w : WritesOld p old new written copied) (fault : FileFault)
-      → InOldFails Allows p old new w.pulled copied fault → StopsOutside fault
+  old_undamaged : (written : ℕ) (copied : List ℕ) (w : WritesOld e old new written copied) (fault : FileFault)
+      → InOldFails Allows e old new w.pulled copied fault → StopsOutside fault
   old_undamaged written copied w ShortText f =
       let long = old_is_long written copied w f.1.0 f.1.1 in
       absurd (omega (arith, long, f.0))
@@ -268,60 +270,50 @@ module _ (one : OneHeader) {Allows : Header → List ℕ → Type 0} {Refused : 
   old_undamaged written copied w other f = absurd f.1
 
   -- the blocks before the position's are all there
-  skipped_undamaged : (stopped : Stopped) (s : StopsInSkipped Allows p old new stopped) (fault : FileFault)
-      → InSkippedFails Allows p old new s.skipped fault → StopsOutside fault
+  skipped_undamaged : (stopped : Stopped) (s : StopsInSkipped Allows e old new stopped) (fault : FileFault)
+      → InSkippedFails Allows e old new s.skipped fault → StopsOutside fault
   skipped_undamaged stopped s (Stream x) f =
-      absurd (no_early_end one u.whole p.index u.below (own_authentic u.whole.key u.whole.nonce text u.whole.few u.closed p.index u.below)
-      new.main.source.supply s.file s.skipped (opened_as one u.whole s.reads) s.short f.2)
+      absurd (no_early_end one file e.position.index u.below (own_authentic file.key file.nonce text file.few u.is.closed e.position.index u.below)
+      new.source.supply s.file s.skipped (opened_as one file s.reads) s.short f.2)
   skipped_undamaged stopped s Read f = tt
   skipped_undamaged stopped s ReadNeverEnds f = tt
   skipped_undamaged stopped s other f = absurd f
 
-  pub undamaged_rest : (keep : PositionPolicy) (run : Option Run) (stopped : Stopped) → ResumeStops Allows p old new keep Refused run stopped
-      → StopsOutside stopped.fault
-  undamaged_rest keep None stopped (inl f) = before_undamaged stopped.fault f.2
-  undamaged_rest keep None stopped (inr (inl s)) = old_undamaged stopped.written s.copied s.writes stopped.fault s.why
-  undamaged_rest keep None stopped (inr (inr s)) = skipped_undamaged stopped s stopped.fault s.why
-  undamaged_rest keep (Some r) stopped f =
-      payload_undamaged one u.whole u.closed (omega (arith, f.0.index, u.below)) (NeverEndTogether old new) stopped.fault f.2.is f.2.why
-
-  -- an undamaged file that was read to its end gave its text, after the old text that is the text's
-  -- beginning
-  pub undamaged_rest_done : (written : ℕ) (r : Run) → IsFrom p old.old new.old r → IsDone Allows old.main new.main written r
-      → WritesText old.main.sink.taken new.main.sink.taken written text
-  undamaged_rest_done written r from d =
-      let b = u.old_text in
-      let t = left_of old.old.supply new.old.supply b.all (r.copied ++ from.more) b.shown from.old_read in
-      let size : length (take (p.index * chunk_length) text) ≡ p.index * chunk_length =
-      omega (arith, length-take (p.index * chunk_length) text, b.within) in
-      let both : r.copied ++ (from.more ++ t.0) ≡ take (p.index * chunk_length) text ++ b.begins.0 =
-      sym (append_assoc r.copied from.more t.0) ∙ (sym t.1 ∙ sym b.begins.1) in
-      let old_is = same_front r.copied (take (p.index * chunk_length) text) (from.more ++ t.0) b.begins.0 (from.old_text.size ∙ sym size) both in
-      let at : r.copied ≡ take (r.first * chunk_length) text = old_is.0 ∙ ap (λ (k : ℕ). take (k * chunk_length) text) (sym from.index) in
-      run_writes one u.whole u.closed (omega (arith, from.index, u.below)) at d
-
 -- ---- What one call wrote of an age file that is undamaged.
 
-module _ (one : OneHeader) (Allows : Header → List ℕ → Type 0) (Refused : Header → KeyFault → Type 0) (keep : PositionPolicy) where
-  pub decrypted : (old new : Ports) (text : List ℕ) (result : Result Done Stopped)
-      (run : Option Run) → IfOk result (λ done. IsSomeAnd run (DecryptEnds Allows old new done))
-      → IfErr result (DecryptStops keep Allows Refused old new run) → IsUndamagedFile Allows Refused old.source.supply text
-      → MatchResult result (λ done. WritesText old.sink.taken new.sink.taken done.written text) (λ stopped. StopsOutside stopped.fault)
-  decrypted old new text (Ok done) None ends stops whole = absurd ends
-  decrypted old new text (Ok done) (Some r) ends stops whole =
-      run_writes one whole.whole whole.closed (omega (arith, ends.0.zero)) (none_before r ends.0 text) ends.1
-  decrypted old new text (Err s) None ends stops whole = start_undamaged one old.source new.source whole.whole s.fault stops.1
-  decrypted old new text (Err s) (Some r) ends stops whole =
-      payload_undamaged one whole.whole whole.closed (omega (arith, stops.0.zero)) (NeverEnds old.source.supply new.source.supply) s.fault
-      stops.1.is stops.1.why
+module _ (one : OneHeader) (Allows : Header → List ℕ → Type 0) (Refused : Header → KeyFault → Type 0) (keep : PositionPolicy) (old new : Ports)
+    (text : List ℕ) where
+  abbrev Undamaged : Option Resumption → Type 0
+  Undamaged from = IsUndamagedFrom Allows Refused from old.source.supply text
 
-  pub resumed : (p : Position) (old new : ResumePorts) (text : List ℕ) (result : Result Done Stopped) (run : Option Run)
-      → IfOk result (λ done. IsSomeAnd run (ResumeEnds Allows p old new done)) → IfErr result (ResumeStops Allows p old new keep Refused run)
-      → IsUndamagedRest Allows Refused p old.main.source.supply old.old.supply text → MatchResult result
-      (λ done. WritesText old.main.sink.taken new.main.sink.taken done.written text) (λ stopped. StopsOutside stopped.fault)
-  resumed p old new text (Ok done) None ends stops whole = absurd ends
-  resumed p old new text (Ok done) (Some r) ends stops whole = undamaged_rest_done one old new whole done.written r ends.0 ends.2
-  resumed p old new text (Err s) run ends stops whole = undamaged_rest one old new whole keep run s stops
+  abbrev the_file : (from : Option Resumption) → Undamaged from → IsUndamagedFile Allows Refused old.source.supply text
+  the_file None u = u
+  the_file (Some e) u = u.is
+
+  -- a run begins with a chunk of the text, after those before it
+  starts : (from : Option Resumption) → Undamaged from → (r : Run) → (from_either Allows Refused from).run r
+      → (r.first < chunk_count chunk_length text) × (r.copied ≡ take (r.first * chunk_length) text)
+  starts None u r begun = (omega (arith, begun.zero), none_before r begun text)
+  starts (Some e) u r begun = (omega (arith, begun.index, u.below), (begins_fits text e u.old_text).taken r begun)
+
+  stops_early : (from : Option Resumption) → Undamaged from → (s : Stopped) → (from_either Allows Refused from).early old new s → StopsOutside s.fault
+  stops_early None u s f = start_undamaged one old.source new.source u.whole s.fault f.1
+  stops_early (Some e) u s (inl f) = before_undamaged one old new u s.fault f.2
+  stops_early (Some e) u s (inr (inl f)) = old_undamaged one old new u s.written f.copied f.writes s.fault f.why
+  stops_early (Some e) u s (inr (inr f)) = skipped_undamaged one old new u s f s.fault f.why
+
+  pub writes_text : (from : Option Resumption) (result : Result Done Stopped) (run : Option Run)
+      → DecryptAnswers keep Allows (from_either Allows Refused from) old new run result → Undamaged from
+      → MatchResult result (λ done. WritesText old.sink.taken new.sink.taken done.written text) (λ stopped. StopsOutside stopped.fault)
+  writes_text from (Ok done) None a u = absurd a
+  writes_text from (Ok done) (Some r) a u =
+      let f = the_file from u in
+      let at = starts from u r a.0 in
+      run_writes one f.whole f.closed at.0 at.1 a.1
+  writes_text from (Err s) None a u = stops_early from u s a
+  writes_text from (Err s) (Some r) a u =
+      let f = the_file from u in
+      payload_undamaged one f.whole f.closed (starts from u r a.0).0 ((from_either Allows Refused from).never old new) s.fault a.1.is a.1.why
 
 -- ---- What was encrypted under a passphrase, decrypted with it.
 
@@ -344,17 +336,15 @@ whole opens s max_log text bytes coming shown is within few file =
       never = a.never;
     }
 
-answered : (keep : PositionPolicy) → OneHeader → (w : PassphraseIdentity) (text : List ℕ) (now last : Ports) (result : Result Done Stopped)
-    (run : Option Run) → IsUndamagedFile (IsPassphraseKey w) (PassphraseRefuses w) now.source.supply text
-    → DecryptAnswers PassphraseIdentity IsPassphraseKey PassphraseRefuses keep w now last result run
-    → MatchResult result (λ done. Appends now.sink.taken last.sink.taken text) (λ stopped. StopsOutside stopped.fault)
-answered keep one w text now last (Ok done) run u f =
-    (decrypted one (IsPassphraseKey w) (PassphraseRefuses w) keep now last text (Ok done) run f tt u).0
-answered keep one w text now last (Err s) run u f =
-    decrypted one (IsPassphraseKey w) (PassphraseRefuses w) keep now last text (Err s) run tt f u
+appended : (old new : Ports) (text : List ℕ) (result : Result Done Stopped)
+    → MatchResult result (λ done. WritesText old.sink.taken new.sink.taken done.written text) (λ stopped. StopsOutside stopped.fault)
+    → MatchResult result (λ done. Appends old.sink.taken new.sink.taken text) (λ stopped. StopsOutside stopped.fault)
+appended old new text (Ok done) w = w.0
+appended old new text (Err s) w = w
 
 pub there_and_back : OneHeader → PassphraseOpens → RoundTrip
 unfolding whole
 there_and_back one opens keep s max_log was became now last written e result run is within closed coming f =
-    answered keep one (passphrase_identity s max_log) e.text now last result run
-    (record { whole = whole opens s max_log e.text e.file now.source.supply coming is within e.few e.is; closed = closed }) f
+    let id = passphrase_identity s max_log in
+    appended now last e.text result (writes_text one (IsPassphraseKey id) (PassphraseRefuses id) keep now last e.text None result run f
+    (record { whole = whole opens s max_log e.text e.file now.source.supply coming is within e.few e.is; closed = closed }))

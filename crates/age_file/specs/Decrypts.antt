@@ -1,6 +1,6 @@
 -- What a decryption promises, done or stopped.
 use Rattle.std.specs.Prelude.{Option, ◌≢◌, ◌⊎◌, ℕ, ◌<◌, ◌≤◌, List, ◌++◌, length, ◌≡◌, Some, None, true}
-use Rattle.std.specs.Prelude.{Result, IfOk, IfErr, OnOk, IsSomeAnd}
+use Rattle.std.specs.Prelude.{Result, MatchResult, OnOk, IsSomeAnd}
 use Rattle.age_io.specs.Taken.{Taken, Appends}
 use Rattle.age_io.specs.Supply.{Supply}
 use Rattle.age_io.specs.{Consumes, IsAtEnd, SourceView}
@@ -42,23 +42,6 @@ StartFails Allows Refused old new (Key fault) =
 StartFails Allows Refused old new NonceCut = InNonce Allows old.supply new.supply
     × IsAtEnd new.supply
 StartFails Allows Refused old new fault = HeadFails (IsEarly Allows) old new fault
-
--- ---- How a decryption ended.
-
--- what a decryption promises if it ended
-abbrev pub DecryptEnds : (Header → List ℕ → Type 0) → Ports → Ports → Done → Run → Type 0
-DecryptEnds Allows old new done r = IsFromStart r × IsDone Allows old new done.written r
-    × NoneFailed old new
-
--- what a decryption promises if it stopped: before the payload, nothing was written; or in the
--- payload
-abbrev pub DecryptStops : PositionPolicy → (Header → List ℕ → Type 0) → (Header → KeyFault → Type 0)
-    → Ports → Ports → Option Run → Stopped → Type 0
-DecryptStops keep Allows Refused old new None stopped = WritesNone old new stopped
-    × StartFails Allows Refused old.source new.source stopped.fault
-DecryptStops keep Allows Refused old new (Some r) stopped = IsFromStart r
-    × StopsInPayload keep Allows (NeverEnds old.source.supply new.source.supply) old new
-    stopped r
 
 -- ---- A file that is undamaged.
 
@@ -103,26 +86,52 @@ StopsOutside other = ⊥
 abbrev pub WritesText : Taken → Taken → ℕ → List ℕ → Type 0
 WritesText old new written text = Appends old new text × (written ≡ length text)
 
--- what a decryption promises, whether positions are kept or dropped
-pub record Decrypts (keep : PositionPolicy) (Allows : Header → List ℕ → Type 0)
-    (Refused : Header → KeyFault → Type 0) (old new : Ports) (result : Result Done Stopped)
-    : Type 0 where
-  -- the run, if the decryption came to the payload
-  pub run : Option Run
-  -- after Ok it ended as this run
-  pub done : IfOk result (λ done. IsSomeAnd run (DecryptEnds Allows old new done))
-  -- after a fault it stopped in this run, or before the payload
-  pub stopped : IfErr result (DecryptStops keep Allows Refused old new run)
-  -- after Ok the sink sent on what it took
-  pub settled : OnOk result (new.sink.settled ≡ true)
-  -- the sink keeps its label
-  pub named : new.sink.label ≡ old.sink.label
+-- How a decryption begins. From a file's start and from a position it promises the same, but for this.
+pub record Beginning : Type 1 where
+  -- where the run begins, if it comes to the payload
+  pub run : Run → Type 0
+  -- why it stops before that
+  pub early : Ports → Ports → Stopped → Type 0
+  -- what it reads never ends
+  pub never : Ports → Ports → Type 0
 
--- ---- A decryption that hands out its marks.
+-- from the file's first chunk on; if there is no payload, nothing is written
+abbrev pub from_start : (Header → List ℕ → Type 0) → (Header → KeyFault → Type 0) → Beginning
+from_start Allows Refused = record {
+  run = IsFromStart;
+  early = λ old new stopped. WritesNone old new stopped
+      × StartFails Allows Refused old.source new.source stopped.fault;
+  never = λ old new. NeverEnds old.source.supply new.source.supply;
+}
 
--- what a decryption promises that hands out its marks as well
-pub record DecryptsMarked (keep : PositionPolicy) (Allows : Header → List ℕ → Type 0)
-    (Refused : Header → KeyFault → Type 0) (old new : Ports) (result : Result Done Stopped)
-    (marks : Option MarksView) : Type 0 where
-  pub is : Decrypts keep Allows Refused old new result
-  pub found : FindsMarks is.run keep marks
+-- whether positions are kept or dropped
+module _ (keep : PositionPolicy) (Allows : Header → List ℕ → Type 0) (begun : Beginning)
+    (old new : Ports) where
+  -- it ended in this run
+  abbrev pub DecryptEnds : Done → Run → Type 0
+  DecryptEnds done r = begun.run r × IsDone Allows old new done.written r × NoneFailed old new
+
+  -- it stopped in this run, or before the payload
+  abbrev pub DecryptStops : Option Run → Stopped → Type 0
+  DecryptStops None stopped = begun.early old new stopped
+  DecryptStops (Some r) stopped = begun.run r
+      × StopsInPayload keep Allows (begun.never old new) old new stopped r
+
+  -- after Ok it ended in its run; after a fault it stopped in that, or before the payload
+  abbrev pub DecryptAnswers : Option Run → Result Done Stopped → Type 0
+  DecryptAnswers run result = MatchResult result (λ done. IsSomeAnd run (DecryptEnds done)) (DecryptStops run)
+
+  -- what it promises
+  pub record Decrypts (result : Result Done Stopped) : Type 0 where
+    -- the run, if it came to the payload
+    pub run : Option Run
+    pub answers : DecryptAnswers run result
+    -- after Ok the sink sent on what it took
+    pub settled : OnOk result (new.sink.settled ≡ true)
+    -- the sink keeps its label
+    pub named : new.sink.taken.label ≡ old.sink.taken.label
+
+  -- what it promises that hands out its marks as well
+  pub record DecryptsMarked (result : Result Done Stopped) (marks : Option MarksView) : Type 0 where
+    pub is : Decrypts result
+    pub found : FindsMarks is.run keep marks

@@ -4,7 +4,8 @@ use Rattle.age_io.specs.Taken.{Appends}
 use Rattle.age_io.specs.{Consumes, IsAtEnd}
 use Rattle.age_chunk.specs.{chunk_limit, chunk_count, chunk_length, sealed_before_last, block_bytes}
 use Rattle.age_stream.specs.{IsPrefixOf, too_many}
-use Rattle.age_keys.specs.{scrypt_head, box, FileOf}
+use Rattle.age_stanza.specs.{HeadText}
+use Rattle.age_keys.specs.{scrypt_head, box, FileOf, payload_key}
 use Rattle.age_fault.specs.declared.fault.FileFault.{FileFault}
 use Rattle.age_fault.specs.declared.fault.FileFault.TheVariants.{Stream, Read, Write, Memory, ReadNeverEnds}
 use Rattle.age_file.specs.Runs.{IsByAllPulls, Ports, NoneFailed, ReadFailed, WriteFailed}
@@ -21,6 +22,22 @@ pub record SecretView : Type 0 where
   pub nonce : List ℕ
 
 -- ---- The age file of a text, and how an encryption ended with it.
+
+-- the header's text and the payload nonce, with which the age file of each text begins
+pub record BeginsFile (s : SecretView) (bytes : List ℕ) : Type 0 where
+  pub front : List ℕ
+  pub head : HeadText (scrypt_head s.pass s.log s.salt s.key) front
+  pub parts : bytes ≡ front ++ s.nonce
+  pub size : length s.nonce ≡ 16
+
+-- these bytes, and the key of the payload after them
+pub record FrontView : Type 0 where
+  pub bytes : List ℕ
+  pub key : List ℕ
+
+-- they are a secret's
+abbrev pub IsFrontOf : SecretView → FrontView → Type 0
+IsFrontOf s f = BeginsFile s f.bytes × (f.key ≡ payload_key s.key s.nonce)
 
 -- the bytes are the age file of the text for the passphrase: its header has one scrypt stanza
 abbrev pub AgeFile : SecretView → List ℕ → List ℕ → Type 0

@@ -2,8 +2,8 @@
 use Rattle.age_io.specs.Supply.{Supply}
 use Rattle.age_io.specs.{Consumes, IsAtEnd}
 use Rattle.age_io.specs.Taken.{Appends}
-use Rattle.std.specs.Prelude.{◌≡◌, ◌⊎◌, ℕ, List, [], ◌∷◌, ◌≤◌, Option, Some, IfSome, IsSomeAnd, ◌<◌, Result}
-use Rattle.std.specs.Prelude.{MatchResult, ◌*◌, take, drop, length, ◌++◌, IfOk, IfErr}
+use Rattle.std.specs.Prelude.{◌≡◌, ◌⊎◌, ℕ, List, [], ◌∷◌, ◌≤◌, Option, Some, None, IfSome, ◌<◌}
+use Rattle.std.specs.Prelude.{IsSomeAnd, Result, MatchResult, ◌*◌, take, drop, length, ◌++◌, IfOk, IfErr}
 use Rattle.base64.specs.GeneralPurpose.{IsBytes}
 use Rattle.age_stanza.specs.declared.header.Header.{Header}
 use Rattle.age_stanza.specs.declared.fault.HeadFault.{HeadFault}
@@ -16,11 +16,10 @@ use Rattle.age_keys.specs.declared.fault.KeyFault.{KeyFault}
 use Rattle.age_file.specs.Runs.{Run, IsFromStart, run_outcome, run_text, held, IsTexts, IsAuthenticRun}
 use Rattle.age_file.specs.Runs.{IsPositionOf, IsPositionWithin, CarriesText, Ports, IsRun, IsDone}
 use Rattle.age_file.specs.Runs.{IsHeadFault, ReportsFault}
-use Rattle.age_file.specs.Runs.{OpenedFile, Reads, HasId, HasTag, pull_room}
-use Rattle.age_file.specs.Resumes.{IsSame, IsOldText, ResumePorts, ResumeEnds, ResumeStops, IsBoundTo, IsFrom}
-use Rattle.age_file.specs.Resumes.{IsUndamagedRest, ResumesText}
-use Rattle.age_file.specs.Decrypts.{DecryptEnds, DecryptStops, IsWhole, StopsOutside, Decrypts}
-use Rattle.age_file.specs.Decrypts.{IsUndamagedFile, WritesText}
+use Rattle.age_file.specs.Runs.{OpenedFile, Reads, BelongsTo, pull_room}
+use Rattle.age_file.specs.Resumes.{IsOldText, Resumption, IsBoundTo, IsUndamagedRest, from_either}
+use Rattle.age_file.specs.Decrypts.{DecryptAnswers, Decrypts, IsUndamagedFile, IsWhole, StopsOutside}
+use Rattle.age_file.specs.Decrypts.{WritesText, from_start}
 use Rattle.age_file.specs.Encrypts.{SecretView, AgeFile, Encrypts}
 use Rattle.age_file.specs.declared.position.Position.{Position}
 use Rattle.age_file.specs.declared.decryption.Done.{Done}
@@ -28,68 +27,67 @@ use Rattle.age_file.specs.declared.decryption.Stopped.{Stopped}
 use Rattle.age_file.specs.declared.encryption.Written.{Written}
 use Rattle.age_file.specs.declared.position.PositionPolicy.{PositionPolicy}
 
--- ---- Runs in a row: a decryption, and then resumed ones, each with the output of the run before as
--- its old text.
+-- ---- Runs in a row, each from the file's start, or with the output of the run before as its old text.
 
--- a resumed run and the position that it began from; if it stopped in the blocks that are skipped,
--- no bytes are after them
-pub record ResumedRun : Type 0 where
-  pub position : Position
+-- a run, and the position that it began from, if any; if it stopped in the blocks that are skipped, no
+-- bytes are after them
+pub record BegunRun : Type 0 where
+  pub from : Option Position
   pub run : Run
 
--- the last run; the last comes first in the list
-abbrev pub last : Run → List ResumedRun → Run
-last first [] = first
-last first (r ∷ earlier) = r.run
+-- what the last run wrote; the last comes first in the list
+abbrev pub held_last : List BegunRun → List ℕ
+held_last [] = []
+held_last (r ∷ earlier) = held r.run
+
+-- two positions have the same fields
+pub record IsSame (p next : Position) : Type 0 where
+  pub index : next.index ≡ p.index
+  pub file_id_is : next.file_id ≡ p.file_id
+  pub chain_is : next.chain ≡ p.chain
+  pub tag_is : next.tag ≡ p.tag
 
 -- a position of a run: of its stop, or within a part of what it wrote
 abbrev pub Hands : Run → Position → Type 0
 Hands r p = (bytes : ℕ) × IsPositionWithin r bytes p
 
--- a position that the last run handed out
-abbrev pub HandsOut : Run → List ResumedRun → Position → Type 0
-HandsOut first [] p = Hands first p
-HandsOut first (r ∷ earlier) p = Hands r.run p ⊎ IsSame r.position p
+-- where a run begins; what it copied is the beginning of what was written before, and has the
+-- position's chain
+abbrev pub BeginsAfter : (before : List ℕ) → Option Position → Run → Type 0
+BeginsAfter before None r = IsFromStart r
+BeginsAfter before (Some p) r = (r.first ≡ p.index) × IsPrefixOf r.copied before × IsOldText p r.copied
 
--- a run ended with all of its text written
-abbrev pub HasEnded : Run → Type 0
-HasEnded r = (r.out ≡ run_text r) × ((run_outcome r).status ≡ AllDone)
-
--- a resumed run follows on earlier ones
-pub record FollowsOn (text : List ℕ) (first : Run) (earlier : List ResumedRun) (r : ResumedRun)
-    : Type 0 where
-  pub at : r.run.first ≡ r.position.index
-  -- it copied the beginning of what was written before, which has the position's chain
-  pub old : IsPrefixOf r.run.copied (held (last first earlier))
-  pub old_text : IsOldText r.position r.run.copied
-  -- after that it wrote the beginning of the text that it released
+-- a run follows on earlier ones
+pub record FollowsOn (text : List ℕ) (earlier : List BegunRun) (r : BegunRun) : Type 0 where
+  pub begins : BeginsAfter (held_last earlier) r.from r.run
+  -- after its old text it wrote the beginning of the text that it released
   pub prefix : IsPrefixOf r.run.out (run_text r.run)
   -- no block that came and is tried opens, except as the writer of this text sealed it
   pub authentic : IsTexts text r.run
 
-abbrev pub AllFollow : List ℕ → Run → List ResumedRun → Type 0
-AllFollow text first [] = IsFromStart first × IsAuthenticRun first text
-    × IsPrefixOf first.out (run_text first)
-AllFollow text first (r ∷ earlier) = FollowsOn text first earlier r × AllFollow text first earlier
+abbrev pub AllFollow : List ℕ → List BegunRun → Type 0
+AllFollow text [] = Unit {0}
+AllFollow text (r ∷ earlier) = FollowsOn text earlier r × AllFollow text earlier
 
 -- what the last of such runs wrote, and which positions it handed out
-pub record WritesRight (text : List ℕ) (first : Run) (runs : List ResumedRun) : Type 0 where
-  -- what the last run wrote begins the text
-  pub prefix : IsPrefixOf (held (last first runs)) text
+pub record WritesRight (text : List ℕ) (r : BegunRun) : Type 0 where
+  -- what it wrote begins the text
+  pub prefix : IsPrefixOf (held r.run) text
   -- what one more run wrote that stopped while it copied that output begins the text too
-  pub in_copy : (copied : List ℕ) → IsPrefixOf copied (held (last first runs))
-      → IsPrefixOf copied text
-  -- the last run wrote all of the text if it ended
-  pub all : HasEnded (last first runs) → held (last first runs) ≡ text
-  -- each position that the last run handed out carries the chain over the text's first chunks
-  pub carries : (p : Position) → HandsOut first runs p → CarriesText text p
+  pub in_copy : (copied : List ℕ) → IsPrefixOf copied (held r.run) → IsPrefixOf copied text
+  -- it wrote all of the text if it ended with all of its text written
+  pub all : r.run.out ≡ run_text r.run → (run_outcome r.run).status ≡ AllDone → held r.run ≡ text
+  -- each position that it handed out, or began from, carries the chain over the text's first chunks
+  pub carries : (p : Position) → Hands r.run p ⊎ IsSomeAnd r.from (λ from. IsSame from p)
+      → CarriesText text p
 
 abbrev pub RunsInARow : Type 0
-RunsInARow = (text : List ℕ) (first : Run) (runs : List ResumedRun) → AllFollow text first runs
-    → WritesRight text first runs
+RunsInARow = (text : List ℕ) (last : BegunRun) (earlier : List BegunRun)
+    → chunk_count chunk_length text ≤ chunk_limit → AllFollow text (last ∷ earlier)
+    → WritesRight text last
 
--- ---- Calls in a row: a decryption, and then resumed ones, each with what the sink of the call
--- before took, or its beginning, as its old text. What each call did is what its contract promises.
+-- ---- Calls in a row, each from the file's start, or with what the sink of the call before took, or
+-- its beginning, as its old text. What each call did is what its contract promises.
 
 -- the sink took all of the text if the call is done, and else its beginning; and a position that is
 -- handed out is right
@@ -100,79 +98,54 @@ AnswersRight text took result = MatchResult result (λ done. took ≡ text)
 -- who unlocks, and what they allow and refuse
 module _ (Who : Type 0) (Allows : Who → Header → List ℕ → Type 0)
     (Refused : Who → Header → KeyFault → Type 0) where
-  -- what `decrypt_with` promises of its answer and of its run, if it came to its payload
-  abbrev pub DecryptAnswers : PositionPolicy → Who → Ports → Ports → Result Done Stopped → Option Run
-      → Type 0
-  DecryptAnswers keep who old new result run = MatchResult result
-      (λ done. IsSomeAnd run (DecryptEnds (Allows who) old new done))
-      (DecryptStops keep (Allows who) (Refused who) old new run)
-
-  -- what `resume_with` promises of them
-  abbrev pub ResumeAnswers : PositionPolicy → Who → Position → ResumePorts → ResumePorts
-      → Result Done Stopped → Option Run → Type 0
-  ResumeAnswers keep who p old new result run = MatchResult result
-      (λ done. IsSomeAnd run (ResumeEnds (Allows who) p old new done))
-      (ResumeStops (Allows who) p old new keep (Refused who) run)
-
-  -- a call of `decrypt_with`, and what its sink took
-  pub record FirstCall : Type 0 where
+  -- a call, from a file's start or from a position, and what its sink took
+  pub record DecryptCall : Type 0 where
     pub keep : PositionPolicy
     pub who : Who
+    pub from : Option Resumption
     pub old : Ports
     pub new : Ports
     pub result : Result Done Stopped
     pub run : Option Run
     pub took : List ℕ
     pub wrote : Appends old.sink.taken new.sink.taken took
-    pub answers : DecryptAnswers keep who old new result run
-
-  -- a call of `resume_with`, and what its sink took
-  pub record NextCall : Type 0 where
-    pub keep : PositionPolicy
-    pub who : Who
-    pub from : Position
-    pub old : ResumePorts
-    pub new : ResumePorts
-    pub result : Result Done Stopped
-    pub run : Option Run
-    pub took : List ℕ
-    pub wrote : Appends old.main.sink.taken new.main.sink.taken took
-    pub answers : ResumeAnswers keep who from old new result run
+    pub answers : DecryptAnswers keep (Allows who) (from_either (Allows who) (Refused who) from) old new run
+        result
 
   -- the last call comes first in the list
-  abbrev pub last_took : FirstCall → List NextCall → List ℕ
-  last_took first [] = first.took
-  last_took first (c ∷ earlier) = c.took
+  abbrev pub last_took : List DecryptCall → List ℕ
+  last_took [] = []
+  last_took (c ∷ earlier) = c.took
 
   -- what the source of the old text gave begins what the sink of the call before took, from whatever
   -- position the call begins
-  abbrev pub AreInARow : FirstCall → List NextCall → Type 0
-  AreInARow first [] = Unit {0}
-  AreInARow first (c ∷ earlier) = ((given : List ℕ)
-      → Consumes c.old.old.supply c.new.old.supply given
-      → IsPrefixOf given (last_took first earlier)) × AreInARow first earlier
+  abbrev pub AreInARow : List DecryptCall → Type 0
+  AreInARow [] = Unit {0}
+  AreInARow (c ∷ earlier) = IfSome c.from (λ e. (given : List ℕ)
+      → Consumes e.first.supply e.last.supply given → IsPrefixOf given (last_took earlier))
+      × AreInARow earlier
 
   -- the run of each call, if it came to its payload, is authentic for one text
-  abbrev pub AreTexts : List ℕ → FirstCall → List NextCall → Type 0
-  AreTexts text first [] = IfSome first.run (IsTexts text)
-  AreTexts text first (c ∷ earlier) = IfSome c.run (IsTexts text) × AreTexts text first earlier
+  abbrev pub AreTexts : List ℕ → List DecryptCall → Type 0
+  AreTexts text [] = Unit {0}
+  AreTexts text (c ∷ earlier) = IfSome c.run (IsTexts text) × AreTexts text earlier
 
   -- each of the calls answers right
-  abbrev pub AllAnswerRight : List ℕ → FirstCall → List NextCall → Type 0
-  AllAnswerRight text first [] = AnswersRight text first.took first.result
-  AllAnswerRight text first (c ∷ earlier) = AnswersRight text c.took c.result
-      × AllAnswerRight text first earlier
+  abbrev pub AllAnswerRight : List ℕ → List DecryptCall → Type 0
+  AllAnswerRight text [] = Unit {0}
+  AllAnswerRight text (c ∷ earlier) = AnswersRight text c.took c.result × AllAnswerRight text earlier
 
   abbrev pub CallsInARow : Type 0
-  CallsInARow = (text : List ℕ) (first : FirstCall) (calls : List NextCall)
-      → chunk_count chunk_length text ≤ chunk_limit → AreInARow first calls
-      → AreTexts text first calls → AllAnswerRight text first calls
+  CallsInARow = (text : List ℕ) (calls : List DecryptCall) → chunk_count chunk_length text ≤ chunk_limit
+      → AreInARow calls → AreTexts text calls → AllAnswerRight text calls
 
 -- ---- Bound positions: what a position that carries a text's chain says of a resumed run.
 
--- the position binds a resumed run to this text
+-- the position binds a run that begins from it to this text
 pub record BindsTo (text : List ℕ) (p : Position) (r : Run) : Type 0 where
   pub few : chunk_count chunk_length text ≤ chunk_limit
+  pub index : r.first ≡ p.index
+  pub old_text : IsOldText p r.copied
   -- the position carries the chain over the text's first chunks, and the bytes that were copied
   -- have that chain only if they are these chunks
   pub to : IsBoundTo p r.copied text
@@ -184,18 +157,16 @@ pub record Bound (text : List ℕ) (p : Position) (r : Run) : Type 0 where
   pub copied : r.copied ≡ take (p.index * chunk_length) text
   pub begins : IsPrefixOf (held r) text
 
--- every resumed run that a position binds to a text is bound; and if the call is done, all of the
--- text was written
+-- every run that a position binds to a text is bound; and if the call is done, all of the text was
+-- written
 module _ (Who : Type 0) (Allows : Who → Header → List ℕ → Type 0) where
   abbrev pub RunsAreBound : Type 0
-  RunsAreBound = (who : Who) (text : List ℕ) (p : Position) (old new : ResumePorts) (written : ℕ)
-      (r : Run) → BindsTo text p r → IsFrom p old.old new.old r
-      → IsRun (Allows who) old.main new.main written r → Bound text p r
+  RunsAreBound = (who : Who) (text : List ℕ) (p : Position) (old new : Ports) (written : ℕ) (r : Run)
+      → BindsTo text p r → IsRun (Allows who) old new written r → Bound text p r
 
   abbrev pub DoneIsBound : Type 0
-  DoneIsBound = (who : Who) (text : List ℕ) (p : Position) (old new : ResumePorts) (written : ℕ)
-      (r : Run) → BindsTo text p r → IsFrom p old.old new.old r
-      → IsDone (Allows who) old.main new.main written r → held r ≡ text
+  DoneIsBound = (who : Who) (text : List ℕ) (p : Position) (old new : Ports) (written : ℕ) (r : Run)
+      → BindsTo text p r → IsDone (Allows who) old new written r → held r ≡ text
 
 -- ---- What follows of one run, and of one call.
 
@@ -213,24 +184,21 @@ abbrev pub HeadFaultsStay : Type 0
 HeadFaultsStay = (old new : Supply) (fault : HeadFault) → ReportsFault old new fault
     → IfSome old.left (λ all. IsHeadFault all fault)
 
--- the text of an age file that is undamaged is written, unless reading, writing or memory fails
-module _ (Who : Type 0) (Allows : Who → Header → List ℕ → Type 0)
-    (Refused : Who → Header → KeyFault → Type 0) (keep : PositionPolicy) (who : Who)
-    (result : Result Done Stopped) (text : List ℕ) where
-  abbrev pub UndamagedIsDecrypted : Type 0
-  UndamagedIsDecrypted = (old new : Ports) → Decrypts keep (Allows who) (Refused who) old new result
-      → IsUndamagedFile (Allows who) (Refused who) old.source.supply text
-      → MatchResult result (λ done. WritesText old.sink.taken new.sink.taken done.written text)
-      (λ stopped. StopsOutside stopped.fault)
+-- a file is undamaged, and a resumption fits it
+abbrev pub IsUndamagedFrom : (Header → List ℕ → Type 0) → (Header → KeyFault → Type 0) → Option Resumption
+    → Supply → List ℕ → Type 0
+IsUndamagedFrom Allows Refused None coming text = IsUndamagedFile Allows Refused coming text
+IsUndamagedFrom Allows Refused (Some e) coming text = IsUndamagedRest Allows Refused e coming text
 
-  -- the text is written as well if a decryption is resumed at a position of that file
-  abbrev pub UndamagedIsResumed : Type 0
-  UndamagedIsResumed = (p : Position) (old new : ResumePorts)
-      → ResumesText keep (Allows who) (Refused who) p old new result
-      → IsUndamagedRest (Allows who) (Refused who) p old.main.source.supply old.old.supply text
-      → MatchResult result
-      (λ done. WritesText old.main.sink.taken new.main.sink.taken done.written text)
-      (λ stopped. StopsOutside stopped.fault)
+-- the text of an age file that is undamaged is written, unless reading, writing or memory fails
+abbrev pub UndamagedIsWritten : (Who : Type 0) → (Who → Header → List ℕ → Type 0)
+    → (Who → Header → KeyFault → Type 0) → Type 0
+UndamagedIsWritten Who Allows Refused = (keep : PositionPolicy) (who : Who) (from : Option Resumption)
+    (old new : Ports) (result : Result Done Stopped) (text : List ℕ)
+    → Decrypts keep (Allows who) (from_either (Allows who) (Refused who) from) old new result
+    → IsUndamagedFrom (Allows who) (Refused who) from old.source.supply text
+    → MatchResult result (λ done. WritesText old.sink.taken new.sink.taken done.written text)
+    (λ stopped. StopsOutside stopped.fault)
 
 -- ---- What a source gave, whatever it is over.
 
@@ -247,26 +215,6 @@ pub record GaveFile (Allows : Header → List ℕ → Type 0) (old new : Supply)
   pub opens : Opens Allows header key
   pub at_end : IsAtEnd new
 
-module _ (Who : Type 0) (Allows : Who → Header → List ℕ → Type 0)
-    (Refused : Who → Header → KeyFault → Type 0) where
-  -- if a decryption is done, what its source gave is the age file of a text, and what its sink took
-  -- is exactly that text
-  abbrev pub DoneGaveFile : Type 0
-  DoneGaveFile = (keep : PositionPolicy) (who : Who) (old new : Ports)
-      (result : Result Done Stopped) → Decrypts keep (Allows who) (Refused who) old new result
-      → IfOk result (λ done. (text : List ℕ)
-      × GaveFile (Allows who) old.source.supply new.source.supply text
-      × WritesText old.sink.taken new.sink.taken done.written text)
-
-  -- and so is all that was to come of a source that shows it; a sink that shows what it holds then
-  -- holds the text after what it held
-  abbrev pub DoneIsFile : Type 0
-  DoneIsFile = (keep : PositionPolicy) (who : Who) (old new : Ports) (result : Result Done Stopped)
-      (coming held : List ℕ) → Decrypts keep (Allows who) (Refused who) old new result
-      → old.source.supply.left ≡ Some coming → old.sink.taken.contents ≡ Some held
-      → IfOk result (λ done. (text : List ℕ) × (header : Header) × (key : List ℕ) × (nonce : List ℕ)
-      × FileOf header key nonce text coming × (new.sink.taken.contents ≡ Some (held ++ text)))
-
 -- the old text gave this text's chunks before the position, which have the position's chain, and at
 -- most one pull more
 pub record GaveOld (p : Position) (old new : Supply) (text : List ℕ) : Type 0 where
@@ -280,8 +228,7 @@ pub record GaveOld (p : Position) (old new : Supply) (text : List ℕ) : Type 0 
 pub record GaveRest (Allows : Header → List ℕ → Type 0) (p : Position) (old new : Supply)
     (text : List ℕ) : Type 0 where
   pub file : OpenedFile
-  pub own : HasId p file
-  pub tagged : HasTag p file
+  pub own : BelongsTo p file
   -- the blocks before are counted, and not opened
   pub skipped : List ℕ
   pub size : length skipped ≡ p.index * block_length
@@ -292,17 +239,33 @@ pub record GaveRest (Allows : Header → List ℕ → Type 0) (p : Position) (ol
       ++ drop (p.index * block_length) (payload (box file.key file.nonce) chunk_length text))
   pub at_end : IsAtEnd new
 
+-- what the sources gave is this text's: its age file; or, if it was resumed, its chunks before the
+-- position and the rest of its payload
+abbrev pub GaveText : (Header → List ℕ → Type 0) → Option Resumption → Supply → Supply → List ℕ → Type 0
+GaveText Allows None old new text = GaveFile Allows old new text
+GaveText Allows (Some e) old new text = GaveOld e.position e.first.supply e.last.supply text
+    × GaveRest Allows e.position old new text
+
 module _ (Who : Type 0) (Allows : Who → Header → List ℕ → Type 0)
     (Refused : Who → Header → KeyFault → Type 0) where
-  -- if a resumed decryption is done, the old text gave the first chunks of a text, the file the rest
-  -- of that text's payload, and what the sink took is exactly that text
-  abbrev pub DoneGaveRest : Type 0
-  DoneGaveRest = (keep : PositionPolicy) (who : Who) (p : Position) (old new : ResumePorts)
-      (result : Result Done Stopped) → ResumesText keep (Allows who) (Refused who) p old new result
+  -- if a decryption is done, its sources gave a text, and what its sink took is exactly that
+  abbrev pub DoneGaveText : Type 0
+  DoneGaveText = (keep : PositionPolicy) (who : Who) (from : Option Resumption) (old new : Ports)
+      (result : Result Done Stopped)
+      → Decrypts keep (Allows who) (from_either (Allows who) (Refused who) from) old new result
       → IfOk result (λ done. (text : List ℕ)
-      × GaveOld p old.old.supply new.old.supply text
-      × GaveRest (Allows who) p old.main.source.supply new.main.source.supply text
-      × WritesText old.main.sink.taken new.main.sink.taken done.written text)
+      × GaveText (Allows who) from old.source.supply new.source.supply text
+      × WritesText old.sink.taken new.sink.taken done.written text)
+
+  -- and so is all that was to come of a source that shows it, from its start; a sink that shows what
+  -- it holds then holds the text after what it held
+  abbrev pub DoneIsFile : Type 0
+  DoneIsFile = (keep : PositionPolicy) (who : Who) (old new : Ports) (result : Result Done Stopped)
+      (coming held : List ℕ)
+      → Decrypts keep (Allows who) (from_start (Allows who) (Refused who)) old new result
+      → old.source.supply.left ≡ Some coming → old.sink.taken.contents ≡ Some held
+      → IfOk result (λ done. (text : List ℕ) × (header : Header) × (key : List ℕ) × (nonce : List ℕ)
+      × FileOf header key nonce text coming × (new.sink.taken.contents ≡ Some (held ++ text)))
 
 -- a source gave the header and the nonce of the position's file, which the unlocker opens, and at
 -- least the blocks before the position's chunk: they begin the payload of each text that begins with
@@ -310,8 +273,7 @@ module _ (Who : Type 0) (Allows : Who → Header → List ℕ → Type 0)
 pub record GaveFront (Allows : Header → List ℕ → Type 0) (p : Position) (old new : Supply)
     (text : List ℕ) : Type 0 where
   pub file : OpenedFile
-  pub own : HasId p file
-  pub tagged : HasTag p file
+  pub own : BelongsTo p file
   pub carries : CarriesText text p
   pub rest : List ℕ
   pub read : Reads Allows old new file rest
@@ -325,7 +287,8 @@ pub record GaveFront (Allows : Header → List ℕ → Type 0) (p : Position) (o
 abbrev pub StoppedGaveFront : (Who : Type 0) → (Who → Header → List ℕ → Type 0)
     → (Who → Header → KeyFault → Type 0) → Type 0
 StoppedGaveFront Who Allows Refused = (keep : PositionPolicy) (who : Who) (old new : Ports)
-    (result : Result Done Stopped) → Decrypts keep (Allows who) (Refused who) old new result
+    (result : Result Done Stopped)
+    → Decrypts keep (Allows who) (from_start (Allows who) (Refused who)) old new result
     → IfErr result (λ stopped. IfSome stopped.position (λ p. (text : List ℕ)
     × GaveFront (Allows who) p old.source.supply new.source.supply text
     × WritesText old.sink.taken new.sink.taken stopped.written text))
@@ -371,7 +334,7 @@ RoundTrip = (keep : PositionPolicy) (s : SecretView) (max_log : ℕ) (was became
     → s.log ≤ max_log
     → IsClosed (box s.key s.nonce) (unbox s.key s.nonce) chunk_length e.text
     → now.source.supply.left ≡ Some e.file
-    → DecryptAnswers PassphraseIdentity IsPassphraseKey PassphraseRefuses keep (passphrase_identity s max_log)
-    now last result run
+    → let who = passphrase_identity s max_log in let Allows = IsPassphraseKey who in
+    DecryptAnswers keep Allows (from_start Allows (PassphraseRefuses who)) now last run result
     → MatchResult result (λ done. Appends now.sink.taken last.sink.taken e.text)
     (λ stopped. StopsOutside stopped.fault)

@@ -6,26 +6,25 @@ pub mod Decrypts
 pub mod Encrypts
 pub mod InARow
 pub mod inner
-pub use Runs.{CarriesText, EndsInHeader, GivesPosition, HasId, HasTag, HeadFails, InHeader, IsAuthenticRun}
-pub use Runs.{IsCut, IsDone, IsFromStart, IsHeadFault, IsPositionOf, IsRun, IsTexts, NeverEnds, NoHeadFault}
-pub use Runs.{NoneFailed, OpenedFile, PayloadFails, Ports, ReadFailed, Reads, ReportsFault, Run}
-pub use Runs.{StopsAtHeader, StopsInPayload, WriteFailed, WritesNone, held, ports, pull_room, run_outcome}
-pub use Runs.{FindsMarks, IsMarked, IsPositionWithin, MarksView, run_text, segment_of}
+pub use Runs.{BelongsTo, CarriesText, EndsInHeader, FindsMarks, GivesPosition, HeadFails, InHeader}
+pub use Runs.{IsAuthenticRun, IsCut, IsDone, IsFromStart, IsHeadFault, IsMarked, IsPositionOf}
+pub use Runs.{IsPositionWithin, IsRun, IsTexts, MarksView, NoHeadFault, NoneFailed, OpenedFile}
+pub use Runs.{PayloadFails, Ports, ReadFailed, Reads, ReportsFault, Run, StopsAtHeader, StopsInPayload}
+pub use Runs.{WriteFailed, WritesNone, held, ports, pull_room, run_outcome, run_text, segment_of}
 pub use Reports.{Inspects, InspectsFront, IsPlainOf, IsReport, stanza_report}
 unfoldable pub use Bindings.*
-pub use Resumes.{BeforeOldFails, BeginsWith, HasOpened, InOldFails, InSkippedFails, IsBoundTo, IsDigest}
-pub use Resumes.{IsFrom, IsOldText, IsSame, IsUndamagedRest, NeverEndTogether, NoPosition, ResumeEnds}
-pub use Resumes.{ResumePorts, ResumeStops, ResumesMarked, ResumesText, StopsInOld, StopsInSkipped}
-pub use Resumes.{WritesOld, position_text, resume_ports}
-pub use Decrypts.{DecryptEnds, DecryptStops, DecryptsMarked, InNonce, IsUndamagedFile, IsWhole}
-pub use Decrypts.{StartFails, StopsOutside, WritesText}
-pub use Encrypts.{AgeFile, EncryptFails, EncryptsFront, SecretView, WhyStopped, without_last}
+pub use Resumes.{BeforeOldFails, BeginsWith, HasOpened, InOldFails, InSkippedFails, IsDigest, IsFrom}
+pub use Resumes.{IsOldText, IsUndamagedRest, NeverEndTogether, NoPosition, Resumption, StopsInOld}
+pub use Resumes.{StopsInSkipped, WritesOld, from_either, from_position, position_text, resumption}
+pub use Decrypts.{Beginning, DecryptAnswers, DecryptEnds, DecryptStops, DecryptsMarked, InNonce}
+pub use Decrypts.{IsUndamagedFile, IsWhole, StartFails, StopsOutside, WritesText, from_start}
+pub use Encrypts.{AgeFile, BeginsFile, EncryptFails, EncryptsFront, IsFrontOf, SecretView}
+pub use Encrypts.{WhyStopped, without_last}
 pub use InARow.{AgeFileIsWhole, AllAnswerRight, AllFollow, AnswersRight, AreInARow, AreTexts, AuthenticRuns}
-pub use InARow.{BindsTo, Bound, CallsInARow, DecryptAnswers, DoneGaveFile, DoneGaveRest, DoneIsBound}
-pub use InARow.{DoneIsFile, FirstCall, GaveFile, GaveFront, GaveOld, GaveRest, Hands, HeadFaultsStay}
-pub use InARow.{IsSecret}
-pub use InARow.{NextCall, RestIsFile, ResumeAnswers, ResumedRun, RoundTrip, RunsAreBound, RunsInARow}
-pub use InARow.{StoppedGaveFront, UndamagedIsDecrypted, UndamagedIsResumed, WritesRight, last, last_took}
+pub use InARow.{BeginsAfter, BegunRun, BindsTo, Bound, CallsInARow, DecryptCall, DoneGaveText, DoneIsBound}
+pub use InARow.{DoneIsFile, GaveFile, GaveFront, GaveOld, GaveRest, GaveText, Hands, HeadFaultsStay, IsSame}
+pub use InARow.{IsSecret, IsUndamagedFrom, RestIsFile, RoundTrip, RunsAreBound, RunsInARow}
+pub use InARow.{StoppedGaveFront, UndamagedIsWritten, WritesRight, held_last, last_took}
 pub use InARow.{passphrase_identity}
 pub use Rattle.age_file.specs.declared.decryption.Done.{Done}
 pub use Rattle.age_file.specs.declared.decryption.Stopped.{Stopped}

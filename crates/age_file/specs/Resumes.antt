@@ -1,6 +1,6 @@
 -- What resuming at a position promises: from the text of the position to the end of the payload.
 use Rattle.std.specs.Prelude.{◌≡◌, ◌≢◌, ℕ, List, ◌++◌, length, codes, ◌*◌, ◌≤◌, take, Option, Some, ◌⊎◌, ◌/◌}
-use Rattle.std.specs.Prelude.{◌+◌, ◌<◌, None, true, Result, IfOk, IfErr, OnOk, IsSomeAnd}
+use Rattle.std.specs.Prelude.{◌+◌, ◌<◌, None}
 use Rattle.age_io.specs.Taken.{Appends}
 use Rattle.age_io.specs.Supply.{Supply}
 use Rattle.age_io.specs.{Consumes, IsAtEnd, SourceView}
@@ -9,8 +9,7 @@ use Rattle.age_stanza.specs.{base64_text}
 use Rattle.age_stanza.specs.declared.header.Header.{Header}
 use Rattle.age_chunk.specs.{chunk_length, block_length, chunk_count}
 use Rattle.age_chunk.specs.declared.fault.StreamKind.TheVariants.{Truncated}
-use Rattle.age_stream.specs.{IsPrefixOf, IsClosed}
-use Rattle.age_keys.specs.{box, unbox}
+use Rattle.age_stream.specs.{IsPrefixOf}
 use Rattle.age_keys.specs.declared.fault.KeyFault.{KeyFault}
 use Rattle.age_fault.specs.{HasFailed}
 use Rattle.age_fault.specs.declared.fault.FileFault.{FileFault}
@@ -19,12 +18,9 @@ use Rattle.age_fault.specs.declared.fault.FileFault.TheVariants.{ReadNeverEnds}
 use Rattle.age_fault.specs.declared.fault.FileFault.TheVariants.{PositionForged, OldTextDiffers}
 use Rattle.age_file.specs.declared.position.Position.{Position}
 use Rattle.age_file.specs.Bindings.{position_front, chain_over, file_id}
-use Rattle.age_file.specs.Runs.{CarriesText, Ports, Run, HasId, HasTag, pull_room, IsByAllPulls, Reads}
-use Rattle.age_file.specs.Runs.{WritesNone, StopsInPayload, IsDone, NoneFailed, ReadFailed}
-use Rattle.age_file.specs.Runs.{WriteFailed, OpenedFile, IsTagged, MarksView, FindsMarks}
-use Rattle.age_file.specs.Decrypts.{StartFails, IsWhole}
-use Rattle.age_file.specs.declared.position.PositionPolicy.{PositionPolicy}
-use Rattle.age_file.specs.declared.decryption.Done.{Done}
+use Rattle.age_file.specs.Runs.{BelongsTo, CarriesText, HasId, HasTag, IsByAllPulls, IsTagged, NoneFailed}
+use Rattle.age_file.specs.Runs.{OpenedFile, Ports, ReadFailed, Reads, Run, WriteFailed, WritesNone, pull_room}
+use Rattle.age_file.specs.Decrypts.{Beginning, StartFails, IsUndamagedFile, from_start}
 use Rattle.age_file.specs.declared.decryption.Stopped.{Stopped}
 
 -- ---- The text of a position. Not of the age format.
@@ -66,48 +62,41 @@ pub record IsOldText (p : Position) (copied : List ℕ) : Type 0 where
 
 -- ---- What a resumed decryption reads and writes before its payload.
 
--- the ports of a decryption, and what is seen of the old text's source
-pub record ResumePorts : Type 0 where
-  pub main : Ports
-  pub old : SourceView
+-- what it goes on from: a position, and what is seen of the old text's source, before and after
+pub record Resumption : Type 0 where
+  pub position : Position
+  pub first : SourceView
+  pub last : SourceView
 
-abbrev pub resume_ports : Ports → SourceView → ResumePorts
-resume_ports main old = record { main = main; old = old }
+abbrev pub resumption : Position → SourceView → SourceView → Resumption
+resumption position first last = record { position = position; first = first; last = last }
 
 -- only these bytes of the old text were written
-pub record WritesOld (p : Position) (old new : ResumePorts) (written : ℕ) (copied : List ℕ)
-    : Type 0 where
+pub record WritesOld (e : Resumption) (old new : Ports) (written : ℕ) (copied : List ℕ) : Type 0 where
   -- what was read of the old text
   pub pulled : List ℕ
-  pub read : Consumes old.old.supply new.old.supply pulled
+  pub read : Consumes e.first.supply e.last.supply pulled
   -- it is at most one pull more than the position needs
-  pub few : length pulled ≤ p.index * chunk_length + pull_room
+  pub few : length pulled ≤ e.position.index * chunk_length + pull_room
   -- the first of these bytes were written, and nothing else
   pub front : IsPrefixOf copied pulled
-  pub wrote : Appends old.main.sink.taken new.main.sink.taken copied
+  pub wrote : Appends old.sink.taken new.sink.taken copied
   pub count : written ≡ length copied
   -- if the old text begins with the chunks of a text before the position, they begin that text
-  pub of : (text : List ℕ) → BeginsWith p old.old.supply text → IsPrefixOf copied text
+  pub of : (text : List ℕ) → BeginsWith e.position e.first.supply text → IsPrefixOf copied text
 
 -- a run that begins from a position
-pub record IsFrom (p : Position) (old new : SourceView) (r : Run) : Type 0 where
-  pub index : r.first ≡ p.index
+pub record IsFrom (e : Resumption) (r : Run) : Type 0 where
+  pub index : r.first ≡ e.position.index
   -- the position is the file's, and was made under its key
-  pub own : HasId p r.file
-  pub tagged : HasTag p r.file
+  pub own : BelongsTo e.position r.file
   -- what was copied is the text that the position was made for
-  pub old_text : IsOldText p r.copied
-  -- of the old text at most one pull more was read
+  pub old_text : IsOldText e.position r.copied
+  -- of the old text at most one pull more was read, and no pull failed
   pub more : List ℕ
-  pub old_read : Consumes old.supply new.supply (r.copied ++ more)
+  pub old_read : Consumes e.first.supply e.last.supply (r.copied ++ more)
   pub few : length more ≤ pull_room
-
--- two positions have the same fields
-pub record IsSame (p next : Position) : Type 0 where
-  pub index : next.index ≡ p.index
-  pub file_id_is : next.file_id ≡ p.file_id
-  pub chain_is : next.chain ≡ p.chain
-  pub tag_is : next.tag ≡ p.tag
+  pub unfailed : e.last.failed ≡ e.first.failed
 
 -- ---- Why a resumed decryption stopped, and what it did: before the old text, in it, in the blocks
 -- that are skipped, or in the payload.
@@ -121,57 +110,50 @@ pub record IsSame (p next : Position) : Type 0 where
 
 -- the file and the old text together gave bytes by 2^63 pulls, and so are taken for sources that
 -- never end
-abbrev pub NeverEndTogether : ResumePorts → ResumePorts → Type 0
-NeverEndTogether old new = (bytes : List ℕ) × (texts : List ℕ)
-    × Consumes old.main.source.supply new.main.source.supply bytes
-    × Consumes old.old.supply new.old.supply texts
-    × IsByAllPulls (length bytes + length texts)
+abbrev pub NeverEndTogether : Resumption → Ports → Ports → Type 0
+NeverEndTogether e old new = (bytes : List ℕ) × (texts : List ℕ)
+    × Consumes old.source.supply new.source.supply bytes
+    × Consumes e.first.supply e.last.supply texts × IsByAllPulls (length bytes + length texts)
 
-module _ (Allows : Header → List ℕ → Type 0) (p : Position) (old new : ResumePorts) where
-  -- what a resumed decryption promises if it ended
-  abbrev pub ResumeEnds : Done → Run → Type 0
-  ResumeEnds done r = IsFrom p old.old new.old r × (new.old.failed ≡ old.old.failed)
-      × IsDone Allows old.main new.main done.written r × NoneFailed old.main new.main
-
+module _ (Allows : Header → List ℕ → Type 0) (e : Resumption) (old new : Ports) where
   -- this file was opened, and no more was read after its nonce than one pull gives
   abbrev pub HasOpened : OpenedFile → Type 0
   HasOpened f = (rest : List ℕ) × (length rest ≤ pull_room)
-      × Reads Allows old.main.source.supply new.main.source.supply f rest
+      × Reads Allows old.source.supply new.source.supply f rest
 
   -- Before the old text: the position is another file's, or wasn't made under this file's key; or
   -- there is no payload
   abbrev pub BeforeOldFails : (Header → KeyFault → Type 0) → FileFault → Type 0
-  BeforeOldFails Refused OtherFile = (f : OpenedFile) × HasOpened f × (HasId p f → ⊥)
+  BeforeOldFails Refused OtherFile = (f : OpenedFile) × HasOpened f × (HasId e.position f → ⊥)
   BeforeOldFails Refused PositionForged =
-      (f : OpenedFile) × HasOpened f × HasId p f × (HasTag p f → ⊥)
-  BeforeOldFails Refused fault = StartFails Allows Refused old.main.source new.main.source fault
+      (f : OpenedFile) × HasOpened f × HasId e.position f × (HasTag e.position f → ⊥)
+  BeforeOldFails Refused fault = StartFails Allows Refused old.source new.source fault
 
   -- While the old text is copied, a failed read of it leaves all that it gave written; so does its
   -- end, and a source that never ends
   abbrev pub CopyFails : (pulled copied : List ℕ) → FileFault → Type 0
-  CopyFails pulled copied ShortText = (copied ≡ pulled) × IsAtEnd new.old.supply
-  CopyFails pulled copied Read = (copied ≡ pulled) × NoneFailed old.main new.main
-      × HasFailed old.old.failed new.old.failed new.old.failing
-  CopyFails pulled copied ReadNeverEnds = (copied ≡ pulled) × NeverEndTogether old new
-  CopyFails pulled copied Write = WriteFailed old.main new.main × (new.old.failed ≡ old.old.failed)
+  CopyFails pulled copied ShortText = (copied ≡ pulled) × IsAtEnd e.last.supply
+  CopyFails pulled copied Read = (copied ≡ pulled) × NoneFailed old new
+      × HasFailed e.first.failed e.last.failed e.last.failing
+  CopyFails pulled copied ReadNeverEnds = (copied ≡ pulled) × NeverEndTogether e old new
+  CopyFails pulled copied Write = WriteFailed old new × (e.last.failed ≡ e.first.failed)
   CopyFails pulled copied other = ⊥
 
   -- all of it up to the position was copied, and isn't the text that the position was made for; or
   -- less was copied
   abbrev pub InOldFails : (pulled copied : List ℕ) → FileFault → Type 0
-  InOldFails pulled copied OldTextDiffers = (length copied ≡ p.index * chunk_length)
-      × (chain_over p.index copied ≢ p.chain)
-  InOldFails pulled copied fault = (length copied < p.index * chunk_length)
+  InOldFails pulled copied OldTextDiffers = (length copied ≡ e.position.index * chunk_length)
+      × (chain_over e.position.index copied ≢ e.position.chain)
+  InOldFails pulled copied fault = (length copied < e.position.index * chunk_length)
       × CopyFails pulled copied fault
 
   -- a stop in the old text has no position
   pub record StopsInOld (stopped : Stopped) : Type 0 where
     pub file : OpenedFile
     pub opened : HasOpened file
-    pub own : HasId p file
-    pub tagged : HasTag p file
+    pub own : BelongsTo e.position file
     pub copied : List ℕ
-    pub writes : WritesOld p old new stopped.written copied
+    pub writes : WritesOld e old new stopped.written copied
     pub nowhere : stopped.position ≡ None
     pub why : InOldFails writes.pulled copied stopped.fault
 
@@ -179,81 +161,60 @@ module _ (Allows : Header → List ℕ → Type 0) (p : Position) (old new : Res
   -- no more comes of it
   abbrev pub InSkippedFails : (skipped : List ℕ) → FileFault → Type 0
   InSkippedFails skipped (Stream fault) = (fault.kind ≡ Truncated)
-      × (fault.chunk ≡ length skipped / block_length) × IsAtEnd new.main.source.supply
-      × NoneFailed old.main new.main
-  InSkippedFails skipped Read = ReadFailed old.main new.main
-  InSkippedFails skipped ReadNeverEnds = NeverEndTogether old new
+      × (fault.chunk ≡ length skipped / block_length) × IsAtEnd new.source.supply
+      × NoneFailed old new
+  InSkippedFails skipped Read = ReadFailed old new
+  InSkippedFails skipped ReadNeverEnds = NeverEndTogether e old new
   InSkippedFails skipped other = ⊥
 
-  -- a stop in the blocks that are skipped has the old text written, and the position that the run
+  -- a stop in the blocks that are skipped has the old text written, and the position that the call
   -- began from, whether positions are kept or dropped
   pub record StopsInSkipped (stopped : Stopped) : Type 0 where
     pub file : OpenedFile
     pub skipped : List ℕ
-    pub reads : Reads Allows old.main.source.supply new.main.source.supply file skipped
-    pub own : HasId p file
-    pub tagged : HasTag p file
-    pub short : length skipped < p.index * block_length
+    pub reads : Reads Allows old.source.supply new.source.supply file skipped
+    pub own : BelongsTo e.position file
+    pub short : length skipped < e.position.index * block_length
     pub copied : List ℕ
-    pub old_text : IsOldText p copied
-    pub writes : WritesOld p old new stopped.written copied
-    pub unfailed : new.old.failed ≡ old.old.failed
-    pub here : IsSomeAnd stopped.position (IsSame p)
+    pub old_text : IsOldText e.position copied
+    pub writes : WritesOld e old new stopped.written copied
+    pub unfailed : e.last.failed ≡ e.first.failed
+    pub here : stopped.position ≡ Some e.position
     pub why : InSkippedFails skipped stopped.fault
 
   -- a stop before the old text wrote nothing, and has no position
   abbrev pub StopsBeforeOld : (Header → KeyFault → Type 0) → Stopped → Type 0
-  StopsBeforeOld Refused stopped = WritesNone old.main new.main stopped × (new.old ≡ old.old)
+  StopsBeforeOld Refused stopped = WritesNone old new stopped × (e.last ≡ e.first)
       × BeforeOldFails Refused stopped.fault
 
-  -- what it promises if it stopped: before the payload, which its run would name; or in it
-  abbrev pub ResumeStops : PositionPolicy → (Header → KeyFault → Type 0) → Option Run → Stopped → Type 0
-  ResumeStops keep Refused None stopped =
-      StopsBeforeOld Refused stopped ⊎ StopsInOld stopped ⊎ StopsInSkipped stopped
-  ResumeStops keep Refused (Some r) stopped = IsFrom p old.old new.old r
-      × (new.old.failed ≡ old.old.failed)
-      × StopsInPayload keep Allows (NeverEndTogether old new) old.main new.main stopped r
+-- how a decryption begins from a position: it stops before the old text, in it, in the blocks that are
+-- skipped, or in the payload
+abbrev pub from_position : (Header → List ℕ → Type 0) → (Header → KeyFault → Type 0) → Resumption → Beginning
+from_position Allows Refused e = record {
+  run = IsFrom e;
+  early = λ old new stopped. StopsBeforeOld Allows e old new Refused stopped
+      ⊎ StopsInOld Allows e old new stopped ⊎ StopsInSkipped Allows e old new stopped;
+  never = NeverEndTogether e;
+}
+
+-- or from the file's start
+abbrev pub from_either : (Header → List ℕ → Type 0) → (Header → KeyFault → Type 0) → Option Resumption
+    → Beginning
+from_either Allows Refused None = from_start Allows Refused
+from_either Allows Refused (Some e) = from_position Allows Refused e
 
 -- ---- A file that is undamaged from a position on.
 
--- an age file of this text is undamaged from this position on
-pub record IsUndamagedRest (Allows : Header → List ℕ → Type 0)
-    (Refused : Header → KeyFault → Type 0) (p : Position) (coming old_coming : Supply)
-    (text : List ℕ) : Type 0 where
-  -- the source is an age file of the text, and the unlocker opens it
-  pub whole : IsWhole Allows Refused coming text
+-- an undamaged file of this text is to be resumed at this position
+pub record IsUndamagedRest (Allows : Header → List ℕ → Type 0) (Refused : Header → KeyFault → Type 0)
+    (e : Resumption) (coming : Supply) (text : List ℕ) : Type 0 where
+  pub is : IsUndamagedFile Allows Refused coming text
   -- the position is of a chunk that the text has
-  pub below : p.index < chunk_count chunk_length text
+  pub below : e.position.index < chunk_count chunk_length text
   -- the position is the file's, and was made under its key
-  pub own : p.file_id ≡ file_id whole.file.front whole.nonce
-  pub tagged : IsTagged p whole.key whole.nonce
+  pub own : e.position.file_id ≡ file_id is.whole.file.front is.whole.nonce
+  pub tagged : IsTagged e.position is.whole.key is.whole.nonce
   -- the position carries the chain over the text's first chunks
-  pub carries : p.chain ≡ chain_over p.index text
+  pub carries : e.position.chain ≡ chain_over e.position.index text
   -- the old text begins with these chunks
-  pub old_text : BeginsWith p old_coming text
-  -- the last block, if it is full, doesn't open as one before the last
-  pub closed : IsClosed (box whole.key whole.nonce) (unbox whole.key whole.nonce) chunk_length text
-
--- ---- What a resumed decryption promises.
-
--- what a resumed decryption promises, whether positions are kept or dropped
-pub record ResumesText (keep : PositionPolicy) (Allows : Header → List ℕ → Type 0)
-    (Refused : Header → KeyFault → Type 0) (p : Position) (old new : ResumePorts)
-    (result : Result Done Stopped) : Type 0 where
-  -- the run, if the decryption came to the payload
-  pub run : Option Run
-  -- after Ok it ended as this run
-  pub done : IfOk result (λ done. IsSomeAnd run (ResumeEnds Allows p old new done))
-  -- after a fault it stopped in this run, or before the payload
-  pub stopped : IfErr result (ResumeStops Allows p old new keep Refused run)
-  -- after Ok the sink sent on what it took
-  pub settled : OnOk result (new.main.sink.settled ≡ true)
-  -- the sink keeps its label
-  pub named : new.main.sink.label ≡ old.main.sink.label
-
--- what a resumed decryption promises that hands out its marks as well
-pub record ResumesMarked (keep : PositionPolicy) (Allows : Header → List ℕ → Type 0)
-    (Refused : Header → KeyFault → Type 0) (p : Position) (old new : ResumePorts)
-    (result : Result Done Stopped) (marks : Option MarksView) : Type 0 where
-  pub is : ResumesText keep Allows Refused p old new result
-  pub found : FindsMarks is.run keep marks
+  pub old_text : BeginsWith e.position e.first.supply text

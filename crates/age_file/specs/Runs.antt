@@ -1,6 +1,6 @@
 -- What a run read and wrote, where a reader may continue after it, and how it ended.
-use Rattle.std.specs.Prelude.{◌≡◌, ◌⊎◌, ◌+◌, ◌-◌, ◌*◌, ◌/◌, ◌^◌, ◌<◌, ◌≤◌, ℕ, min, List, [], ◌++◌, length, take}
-use Rattle.std.specs.Prelude.{Option, Some, None, IsSomeAnd, Bool, true, false}
+use Rattle.std.specs.Prelude.{◌≡◌, ◌⊎◌, ◌+◌, ◌-◌, ◌*◌, ◌/◌, ◌^◌, ◌<◌, ◌≤◌, ℕ, min, List, [], ◌++◌}
+use Rattle.std.specs.Prelude.{length, take, Option, Some, None, IsSomeAnd, Bool, true, false}
 use Rattle.age_io.specs.Taken.{Appends}
 use Rattle.age_io.specs.Supply.{Supply}
 use Rattle.age_io.specs.{Consumes, IsAtEnd, SourceView, SinkView}
@@ -200,6 +200,10 @@ HasId p f = p.file_id ≡ file_id f.header_bytes f.nonce
 abbrev pub HasTag : Position → OpenedFile → Type 0
 HasTag p f = IsTagged p f.key f.nonce
 
+-- both: the position is the file's
+abbrev pub BelongsTo : Position → OpenedFile → Type 0
+BelongsTo p f = HasId p f × HasTag p f
+
 -- a position stands after chunks of a text, and carries the chain over them
 abbrev pub CarriesText : List ℕ → Position → Type 0
 CarriesText text p = (p.index * chunk_length ≤ length text) × (p.chain ≡ chain_over p.index text)
@@ -212,9 +216,8 @@ whole_chunks r = min (length (held r) / chunk_length) (run_outcome r).index
 -- chunks, and the tag
 pub record IsPositionOf (r : Run) (p : Position) : Type 0 where
   pub index : p.index ≡ whole_chunks r
-  pub own : HasId p r.file
+  pub own : BelongsTo p r.file
   pub chain_is : p.chain ≡ chain_over p.index (held r)
-  pub tagged : HasTag p r.file
 
 -- a position is returned if positions are kept, and none if they are dropped
 abbrev pub GivesPosition : PositionPolicy → (Position → Type 0) → Option Position → Type 0
@@ -249,9 +252,8 @@ pub record IsPositionWithin (r : Run) (bytes : ℕ) (p : Position) : Type 0 wher
   pub few : p.index ≤ whole_chunks r
   pub within : p.index * chunk_length ≤ bytes
   pub near : IsNear (whole_chunks r) bytes p.index
-  pub own : HasId p r.file
+  pub own : BelongsTo p r.file
   pub chain_is : p.chain ≡ chain_over p.index (held r)
-  pub tagged : HasTag p r.file
 
 -- marks are handed out if the run came to its payload and positions are kept, and mark its positions
 abbrev pub FindsMarks : Option Run → PositionPolicy → Option MarksView → Type 0

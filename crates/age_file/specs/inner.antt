@@ -13,7 +13,7 @@ use Rattle.age_fault.specs.{HasFailed}
 use Rattle.age_fault.specs.declared.fault.FileFault.{FileFault}
 use Rattle.age_fault.specs.declared.fault.FileFault.TheVariants.{Read, ReadNeverEnds, NonceCut, Stream}
 use Rattle.age_fault.specs.declared.fault.FileFault.TheVariants.{ShortText, Write, OldTextDiffers, OtherFile}
-use Rattle.age_fault.specs.declared.fault.FileFault.TheVariants.{PositionForged, Memory}
+use Rattle.age_fault.specs.declared.fault.FileFault.TheVariants.{PositionForged}
 use Rattle.age_file.specs.Runs.{Ports, ports, pull_room, StopsAtHeader, EndsInHeader, NoneFailed, ReadFailed}
 use Rattle.age_file.specs.Runs.{WriteFailed, IsTagged, IsByAllPulls, MarksView}
 use Rattle.age_file.specs.inner.Parts.{Unread, link_if, chain_if}
@@ -29,7 +29,7 @@ use Rattle.age_chunk.specs.declared.fault.StreamKind.TheVariants.{Truncated}
 use Rattle.age_stream.specs.{IsPrefixOf, outcome, released, with_piece, has_failed, OpenerView}
 use Rattle.age_stream.specs.{Stands, SealerView, Holds, too_many}
 use Rattle.age_stream.specs.declared.step.Status.TheVariants.{Failed, Done as AllDone}
-use Rattle.age_keys.specs.{Opens, payload_key, position_key, scrypt_head}
+use Rattle.age_keys.specs.{Opens, payload_key, position_key}
 use Rattle.age_keys.specs.declared.fault.KeyFault.{KeyFault}
 use Rattle.age_file.specs.Bindings.{file_id, chain, position_tag}
 use Rattle.age_file.specs.declared.position.Position.{Position}
@@ -41,7 +41,6 @@ use Rattle.age_cipher.specs.{sealing, opening}
 use Rattle.age_file.specs.declared.decryption.Done.{Done}
 use Rattle.age_file.specs.declared.decryption.Stopped.{Stopped}
 use Rattle.age_file.specs.Decrypts.{StartFails}
-use Rattle.age_file.specs.Encrypts.{SecretView}
 use Rattle.age_file.specs.declared.encryption.Written.{Written}
 pub mod Parts
 pub mod Marks
@@ -72,8 +71,6 @@ pub record Wrote (was now : WriterView) (out : List ℕ) : Type 0 where
   pub bytes : Appends was.sink.taken now.sink.taken out
   -- they were counted
   pub count : now.tally.written ≡ was.tally.written + length out
-  -- the sink keeps its label
-  pub named : now.sink.label ≡ was.sink.label
 
 -- where a run stands
 pub record Stage : Type 0 where
@@ -624,39 +621,23 @@ StartForFails Allows Refused p old new fault = StartFails Allows Refused old new
 
 -- ---- What stands before the payload.
 
--- what stands before the payload: the header's text and the payload nonce
-pub record BeginsFile (s : SecretView) (bytes : List ℕ) : Type 0 where
-  pub front : List ℕ
-  pub head : HeadText (scrypt_head s.pass s.log s.salt s.key) front
-  pub parts : bytes ≡ front ++ s.nonce
-  pub size : length s.nonce ≡ 16
-
--- all of it was written
-pub record WroteFront (s : SecretView) (was now : WriterView) : Type 0 where
-  pub front : List ℕ
-  pub begins : BeginsFile s front
+-- these bytes were written, the first of a call
+pub record WroteFront (front : List ℕ) (was now : WriterView) : Type 0 where
   pub wrote : Appends was.sink.taken now.sink.taken front
   pub count : now.tally.written ≡ length front
   pub failed : now.sink.failed ≡ was.sink.failed
 
--- the sink failed in it
-pub record CutFront (s : SecretView) (was now : WriterView) : Type 0 where
-  pub front : List ℕ
-  pub begins : BeginsFile s front
+-- the sink failed in them
+pub record CutFront (front : List ℕ) (was now : WriterView) : Type 0 where
   pub out : List ℕ
   pub unwritten : List ℕ
   pub parts : front ≡ out ++ unwritten
   pub wrote : Appends was.sink.taken now.sink.taken out
   pub failed : HasFailed was.sink.failed now.sink.failed now.sink.failing
 
--- why it was not written
-abbrev pub FrontFails : SecretView → WriterView → WriterView → FileFault → Type 0
-FrontFails s was now Memory = now ≡ was
-FrontFails s was now Write = CutFront s was now
-FrontFails s was now other = ⊥
-
-abbrev pub WritesFront : SecretView → WriterView → WriterView → Result (Unit {0}) FileFault → Type 0
-WritesFront s was now result = MatchResult result (λ _. WroteFront s was now) (FrontFails s was now)
+abbrev pub WritesFront : List ℕ → WriterView → WriterView → Result (Unit {0}) FileFault → Type 0
+WritesFront front was now result = MatchResult result (λ _. WroteFront front was now)
+    (λ fault. (fault ≡ Write) × CutFront front was now)
 
 -- ---- What a sealer was fed, and what of its blocks was written.
 
@@ -772,5 +753,3 @@ module _ (sealing : List ℕ → List ℕ → List ℕ) (n : ℕ) where
     pub fails : IfErr result (SealsFront old new written_old written_new)
     -- after Ok the sink sent on what it took
     pub settled : OnOk result (new.sink.settled ≡ true)
-    -- the sink keeps its label
-    pub named : new.sink.label ≡ old.sink.label

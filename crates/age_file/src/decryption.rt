@@ -5,7 +5,7 @@ ghost use Rattle.age_chunk.specs.{chunk_limit};
 ghost use Rattle.age_io.specs.{Origin};
 ghost use Rattle.age_file.specs.Runs.{ports};
 ghost use Rattle.age_file.specs.declared.position.PositionPolicy.TheVariants.{Kept};
-ghost use Rattle.age_file.specs.Decrypts.{Decrypts, DecryptsMarked};
+ghost use Rattle.age_file.specs.Decrypts.{Decrypts, DecryptsMarked, from_start};
 ghost use Rattle.age_file.specs.inner.{PositionAt, EndsAs, OpensPayload, HasPlace, stage_of, SameReader};
 ghost use Rattle.age_file.specs.inner.{SameWriter};
 
@@ -132,7 +132,8 @@ pub fn decrypt<U: Unlock, S: Source, O: Sink>(
     reader: &mut S,
     writer: &mut O,
 ) -> Result<Done, Stopped>
-    ensures decrypts { Decrypts Kept (U.allows unlock.now) (U.refuses unlock.now)
+    ensures decrypts { Decrypts Kept (U.allows unlock.now)
+        (from_start (U.allows unlock.now) (U.refuses unlock.now))
         (ports (S.view reader.old) (O.view writer.old))
         (ports (S.view reader.new) (O.view writer.new)) result }
     ensures began { (from : Origin) → S.began reader.old from → S.began reader.new from }
@@ -156,7 +157,8 @@ pub fn decrypt_with<U: Unlock, S: Source, O: Sink>(
     reader: &mut S,
     writer: &mut O,
 ) -> Result<Done, Stopped>
-    ensures decrypts { Decrypts positions (U.allows unlock.now) (U.refuses unlock.now)
+    ensures decrypts { Decrypts positions (U.allows unlock.now)
+        (from_start (U.allows unlock.now) (U.refuses unlock.now))
         (ports (S.view reader.old) (O.view writer.old))
         (ports (S.view reader.new) (O.view writer.new)) result }
     ensures began { (from : Origin) → S.began reader.old from → S.began reader.new from }
@@ -173,7 +175,8 @@ pub fn decrypt_marked<U: Unlock + Drop, S: Source, O: Sink>(
     reader: &mut S,
     writer: &mut O,
 ) -> (Result<Done, Stopped>, Option<Marks>)
-    ensures decrypts { DecryptsMarked positions (U.allows unlock) (U.refuses unlock)
+    ensures decrypts { DecryptsMarked positions (U.allows unlock)
+        (from_start (U.allows unlock) (U.refuses unlock))
         (ports (S.view reader.old) (O.view writer.old))
         (ports (S.view reader.new) (O.view writer.new)) result.0 result.1 }
     ensures began { (from : Origin) → S.began reader.old from → S.began reader.new from }

@@ -1,31 +1,25 @@
 //! Laws over the definitions.
-ghost use Rattle.std.specs.Prelude.{ℕ, List, Result};
-ghost use Rattle.age_file.specs.declared.decryption.Done.{Done};
-ghost use Rattle.age_file.specs.declared.decryption.Stopped.{Stopped};
-ghost use Rattle.age_file.specs.declared.position.PositionPolicy.{PositionPolicy};
 ghost use Rattle.age_file.specs.{RunsInARow, CallsInARow, RunsAreBound, DoneIsBound, AgeFileIsWhole};
-ghost use Rattle.age_file.specs.{RoundTrip, AuthenticRuns, HeadFaultsStay, UndamagedIsDecrypted};
-ghost use Rattle.age_file.specs.{UndamagedIsResumed, DoneGaveFile, DoneIsFile, DoneGaveRest};
-ghost use Rattle.age_file.specs.{StoppedGaveFront, RestIsFile};
+ghost use Rattle.age_file.specs.{RoundTrip, AuthenticRuns, HeadFaultsStay, UndamagedIsWritten};
+ghost use Rattle.age_file.specs.{DoneGaveText, DoneIsFile, StoppedGaveFront, RestIsFile};
 
 use age_keys::{Unlock, passphrase_opens};
 use age_stanza::one_header;
 
-/// A decryption that stopped, and any number of resumed ones, each with the output of the one
-/// before as its old text: while no block opens except as the writer of a text sealed it, every
-/// output begins the text, the last is all of it if its run ended, a run that stops while it copies
-/// that output wrote a beginning of the text too, and each position that is handed out carries the
-/// chain over the text's first chunks.
-#[tactic(auto, using(crate::proofs::RunLemmas::in_a_row))]
+/// Any number of runs, each from the file's start, or with the output of the one before as its old
+/// text: while no block opens except as the writer of a text sealed it, every output begins the text,
+/// the last is all of it if its run ended, a run that stops while it copies that output wrote a
+/// beginning of the text too, and each position that is handed out carries the chain over the text's
+/// first chunks.
 pub fn runs_in_a_row()
     ensures { RunsInARow }
 {}
 
-/// Calls of [`decrypt`](crate::decrypt) and then of [`resume`](crate::resume), by unlockers of one
-/// kind, each resumed one with what the sink of the call before took as its old text: while no
-/// block opens except as the writer of a text sealed it, what each call's sink took begins the
-/// text, is all of it if the call is done, and each position that is handed out carries the chain
-/// over the text's first chunks. Of each call no more is assumed than what its contract promises.
+/// Calls of [`decrypt`](crate::decrypt) and [`resume`](crate::resume), by unlockers of one kind, each
+/// resumed one with what the sink of the call before took as its old text: while no block opens except
+/// as the writer of a text sealed it, what each call's sink took begins the text, is all of it if the
+/// call is done, and each position that is handed out carries the chain over the text's first chunks.
+/// Of each call no more is assumed than what its contract promises.
 #[tactic(auto, using(crate::proofs::GivenLemmas::in_a_row))]
 pub fn calls_in_a_row<U: Unlock>()
     ensures { CallsInARow U U.allows U.refuses }
@@ -79,40 +73,29 @@ pub fn head_faults_stay()
 /// [`resume`](crate::resume), or the call stops with `Read` (26), `Write` (27), `Memory` (28) or
 /// `ReadNeverEnds` (29), if contracts see the source's bytes. Of the call no more is assumed than
 /// what its contract promises.
-#[tactic(auto, using(crate::proofs::UndamagedLemmas::decrypted, crate::proofs::UndamagedLemmas::resumed))]
 pub fn undamaged_is_written<U: Unlock>()
-    ensures decrypted { (keep : PositionPolicy) (who : U) (result : Result Done Stopped)
-        (text : List ℕ) → UndamagedIsDecrypted U U.allows U.refuses keep who result text }
-    ensures resumed { (keep : PositionPolicy) (who : U) (result : Result Done Stopped)
-        (text : List ℕ) → UndamagedIsResumed U U.allows U.refuses keep who result text }
+    ensures { UndamagedIsWritten U U.allows U.refuses }
 {
     one_header();
 }
 
-/// What a source gave and a sink took, whatever they are over: if [`decrypt`](crate::decrypt)
+/// What the sources gave and a sink took, whatever they are over. If [`decrypt`](crate::decrypt)
 /// returns `Ok`, the bytes that its source gave during the call are the age file of a text, its
 /// header is one that the unlocker opens, the source is at its end, and the bytes that its sink took
 /// during the call are exactly that text. The source need not show the bytes that are to come, nor
 /// the sink those that it holds. If they do, as over memory, the age file is all that was to come,
-/// and the sink holds the text after what it held. Of the call no more is assumed than what its
-/// contract promises.
-#[tactic(auto, using(crate::proofs::GivenLemmas::done_gave_file, crate::proofs::GivenLemmas::done_is_file))]
-pub fn done_gave_file<U: Unlock>()
-    ensures gave { DoneGaveFile U U.allows U.refuses }
-    ensures shown { DoneIsFile U U.allows U.refuses }
-{}
-
-/// What the sources of a resumed decryption gave and its sink took, whatever they are over: if
-/// [`resume`](crate::resume) returns `Ok`, there is a text whose chunks before the position are what
+/// and the sink holds the text after what it held.
+///
+/// If [`resume`](crate::resume) returns `Ok`, there is a text whose chunks before the position are what
 /// the old text gave, and whose payload from there on is what the file gave, which the unlocker
 /// opens and which is at its end; and the bytes that the sink took during the call are exactly that
 /// text. The blocks before the position's are passed over and not opened. If they are those that a
 /// [`decrypt`](crate::decrypt) gave that stopped at that position, in the same file and by the same
 /// key, and the old text was what it wrote, then the file is the age file of the text. Of the calls
 /// no more is assumed than what their contracts promise.
-#[tactic(auto, using(crate::proofs::GivenLemmas::done_gave_rest, crate::proofs::GivenLemmas::given_front))]
-pub fn done_gave_rest<U: Unlock>()
-    ensures gave { DoneGaveRest U U.allows U.refuses }
+pub fn done_gave_text<U: Unlock>()
+    ensures gave { DoneGaveText U U.allows U.refuses }
+    ensures shown { DoneIsFile U U.allows U.refuses }
     ensures front { StoppedGaveFront U U.allows U.refuses }
     ensures whole { RestIsFile U U.allows }
 {}

@@ -36,11 +36,11 @@ mod tally;
 pub use age_fault::{FileFault, flush_all, write_all};
 pub use age_io::{Failed, MemSink, MemSource, Memory, Reading, Sink, Source, Tape, Writing};
 pub use decryption::{Done, Stopped, decrypt, decrypt_marked, decrypt_with};
-pub use encryption::{Written, encrypt};
+pub use encryption::{Front, Written, encrypt, encrypt_after};
 pub use inspection::{inspect, inspect_sized};
 pub use laws::{
-    age_file_is_whole, authentic_runs, bound_positions, calls_in_a_row, done_gave_file,
-    done_gave_rest, head_faults_stay, round_trip, runs_in_a_row, undamaged_is_written,
+    age_file_is_whole, authentic_runs, bound_positions, calls_in_a_row, done_gave_text,
+    head_faults_stay, round_trip, runs_in_a_row, undamaged_is_written,
 };
 pub use marks::Marks;
 pub use position::{Position, PositionPolicy};

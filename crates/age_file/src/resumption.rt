@@ -6,7 +6,8 @@ ghost use Rattle.age_io.specs.{Origin};
 ghost use Rattle.age_file.specs.inner.{VerdictOn, StartsFor, StartForFails, HasRoomAfter};
 ghost use Rattle.age_file.specs.inner.{ResumesRest, view_of_reader, view_of_writer, stage_of, SameReader};
 ghost use Rattle.age_file.specs.inner.{SameWriter, CopiesOld, chain_if};
-ghost use Rattle.age_file.specs.{ports, resume_ports, ResumesText, ResumesMarked};
+ghost use Rattle.age_file.specs.Decrypts.{Decrypts};
+ghost use Rattle.age_file.specs.{DecryptsMarked, from_position, ports, resumption};
 ghost use Rattle.age_file.specs.declared.position.PositionPolicy.TheVariants.{Kept};
 
 use crate::copy::copy_chunks;
@@ -118,10 +119,11 @@ pub fn resume<U: Unlock, S: Source, L: Source, O: Sink>(
     old_reader: &mut L,
     writer: &mut O,
 ) -> Result<Done, Stopped>
-    ensures resumes { ResumesText Kept (U.allows unlock.now) (U.refuses unlock.now) position.now
-        (resume_ports (ports (S.view reader.old) (O.view writer.old)) (L.view old_reader.old))
-        (resume_ports (ports (S.view reader.new) (O.view writer.new)) (L.view old_reader.new))
-        result }
+    ensures resumes { Decrypts Kept (U.allows unlock.now)
+        (from_position (U.allows unlock.now) (U.refuses unlock.now) (resumption position.now
+        (L.view old_reader.old) (L.view old_reader.new)))
+        (ports (S.view reader.old) (O.view writer.old))
+        (ports (S.view reader.new) (O.view writer.new)) result }
     ensures began { (from : Origin) → S.began reader.old from → S.began reader.new from }
     ensures old_began { (from : Origin) → L.began old_reader.old from
         → L.began old_reader.new from }
@@ -159,10 +161,11 @@ pub fn resume_with<U: Unlock, S: Source, L: Source, O: Sink>(
     old_reader: &mut L,
     writer: &mut O,
 ) -> Result<Done, Stopped>
-    ensures resumes { ResumesText positions (U.allows unlock.now) (U.refuses unlock.now) position.now
-        (resume_ports (ports (S.view reader.old) (O.view writer.old)) (L.view old_reader.old))
-        (resume_ports (ports (S.view reader.new) (O.view writer.new)) (L.view old_reader.new))
-        result }
+    ensures resumes { Decrypts positions (U.allows unlock.now)
+        (from_position (U.allows unlock.now) (U.refuses unlock.now) (resumption position.now
+        (L.view old_reader.old) (L.view old_reader.new)))
+        (ports (S.view reader.old) (O.view writer.old))
+        (ports (S.view reader.new) (O.view writer.new)) result }
     ensures began { (from : Origin) → S.began reader.old from → S.began reader.new from }
     ensures old_began { (from : Origin) → L.began old_reader.old from
         → L.began old_reader.new from }
@@ -185,10 +188,11 @@ pub fn resume_marked<U: Unlock + Drop, S: Source, L: Source, O: Sink>(
     old_reader: &mut L,
     writer: &mut O,
 ) -> (Result<Done, Stopped>, Option<Marks>)
-    ensures resumes { ResumesMarked positions (U.allows unlock) (U.refuses unlock) position.now
-        (resume_ports (ports (S.view reader.old) (O.view writer.old)) (L.view old_reader.old))
-        (resume_ports (ports (S.view reader.new) (O.view writer.new)) (L.view old_reader.new))
-        result.0 result.1 }
+    ensures resumes { DecryptsMarked positions (U.allows unlock)
+        (from_position (U.allows unlock) (U.refuses unlock) (resumption position.now
+        (L.view old_reader.old) (L.view old_reader.new)))
+        (ports (S.view reader.old) (O.view writer.old))
+        (ports (S.view reader.new) (O.view writer.new)) result.0 result.1 }
     ensures began { (from : Origin) → S.began reader.old from → S.began reader.new from }
     ensures old_began { (from : Origin) → L.began old_reader.old from
         → L.began old_reader.new from }

@@ -336,10 +336,9 @@ size_in file = Some (length file.1.left)
 -- and one that is written, by its name and its sink
 abbrev pub shown_out : List ℕ × Holding → SinkView
 shown_out file = record {
-  taken = holds file.1.held;
+  taken = record (holds file.1.held) { label = file.0 };
   failed = file.1.failures;
   failing = file.1.failing;
-  label = file.0;
   settled = file.1.settled;
 }
 

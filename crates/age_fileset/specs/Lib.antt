@@ -1,4 +1,5 @@
 pub mod FileSet
+pub mod Notes
 pub mod inner
 pub use FileSet.{Absent, Alike, AreTrue, CameSince, ChecksStreams, Closed, Created, Does, Doings, Entry}
 pub use FileSet.{Event, Files, FilesView, Fits, Found, FoundOrEmpty, Gave, HasGiven, HasGivenAll, InUse}

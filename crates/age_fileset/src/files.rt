@@ -141,7 +141,13 @@ pub trait FileSet {
             (view self.old) }
         ensures begun { IfOk result (λ o. ((Self.Out.view o).taken.bytes ≡ [])
             × ((Self.Out.view o).failed ≡ 0)) }
-        ensures named { IfOk result (λ o. (Self.Out.view o).label ≡ name.now) }
+        ensures named { IfOk result (λ o. (Self.Out.view o).taken.label ≡ name.now) }
+        ensures faults { IfErr result (OpenFails FileFault.Write) };
+
+    /// Refuses what has the name, a link too, with `Write` (27), as `create_new` would: it changes
+    /// nothing, and is for what takes long before that. Something may have the name by then.
+    fn check_absent(&mut self, name: &str) -> Result<(), OpenFault>
+        ensures noted { view self.new ≡ with_outcomes (made_as [] name.now result) (view self.old) }
         ensures faults { IfErr result (OpenFails FileFault.Write) };
 
     /// Makes a file to be written, as `create` does, and refuses one that is there too, with `Write`
@@ -156,19 +162,19 @@ pub trait FileSet {
             (made_as (Absent name.now ∷ []) name.now result) (view self.old) }
         ensures begun { IfOk result (λ o. ((Self.Out.view o).taken.bytes ≡ [])
             × ((Self.Out.view o).failed ≡ 0)) }
-        ensures named { IfOk result (λ o. (Self.Out.view o).label ≡ name.now) }
+        ensures named { IfOk result (λ o. (Self.Out.view o).taken.label ≡ name.now) }
         ensures faults { IfErr result (OpenFails FileFault.Write) };
 
     /// Whether a file that was created is standard error's, which the lines of progress and of
     /// faults go to.
     fn is_for_faults(&mut self, out: &Self::Out) -> bool
         ensures { view self.new ≡ with_outcomes
-            (noted_if result (InUse (Self.Out.view out.now).label)) (view self.old) };
+            (noted_if result (InUse (Self.Out.view out.now).taken.label)) (view self.old) };
 
     /// Whether a file that was created is a terminal. No regular file of a disk is one.
     fn is_terminal(&mut self, out: &Self::Out) -> bool
         ensures noted { view self.new ≡ with_outcomes
-            (noted_if result (Terminal (Self.Out.view out.now).label)) (view self.old) }
+            (noted_if result (Terminal (Self.Out.view out.now).taken.label)) (view self.old) }
         ensures device { result ≡ true → file out.now ≡ None };
 
     /// Whether a file that was created took no byte so far.
@@ -187,7 +193,7 @@ pub trait FileSet {
     /// held, and waits until they have reached the disk if that is asked for and the machine can
     /// wait. Refuses with `Write` (27); it is then as the calls that succeeded left it.
     fn close(&mut self, out: Self::Out, durability: Durability) -> Result<(), FileFault>
-        ensures noted { EndsOne durability (written_as (Self.Out.view out).label
+        ensures noted { EndsOne durability (written_as (Self.Out.view out).taken.label
             (Self.Out.view out).taken.bytes result) (view self.old) (view self.new) }
         ensures closed { IsSomeAnd (view self.new).ended
             (Closes durability (file out) (Self.Out.view out) result) }

@@ -11,5 +11,5 @@ mod mem_entry;
 mod mem_files;
 
 pub use files::{FileSet, OpenFault};
-pub use log::Log;
+pub use log::{Doing, Log};
 pub use mem_files::{MemFiles, MemIn, MemOut};

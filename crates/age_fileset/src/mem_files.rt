@@ -12,7 +12,7 @@ ghost use Rattle.age_fileset.specs.{size_in, shown_in, shown_out, seen_in, readi
 ghost use Rattle.age_fileset.specs.declared.files.OpenFault.TheVariants.{Fault};
 
 use crate::files::{FileSet, OpenFault};
-use crate::log::Log;
+use crate::log::{Doing, Log};
 use crate::mem_entry::{MemEntry, Name, bytes_of, put_entry};
 use age_fault::FileFault;
 use age_io::{Durability, Failed, MemSink, MemSource, Memory, Sink, Source, Tape};
@@ -195,7 +195,7 @@ impl MemFiles {
         own.note(name.as_str().as_bytes());
         put.note(bytes.as_slice());
         put_entry(&mut self.entries, name, bytes)?;
-        self.log.put(&own, &put);
+        self.log.note(Doing::Put(&own, &put));
         Ok(())
     }
 
@@ -224,7 +224,8 @@ impl MemFiles {
         given.note(source.source.given());
         let is_at_end = source.source.remaining() == 0;
         let is_failing = source.source.is_failing();
-        self.log.gave(&name, &given, is_at_end, is_failing);
+        self.log
+            .note(Doing::Gave(&name, &given, is_at_end, is_failing));
     }
 
     /// Refuses each later attempt to create or replace a file of this name. If memory is refused
@@ -253,6 +254,25 @@ impl MemEnded {
         took.note(sink.bytes());
         MemEnded { took, is_closed }
     }
+}
+
+/// Notes that a file was found, which has this to give.
+fn note_found(log: &mut Log, name: &str, left: Option<&Tape>, size: Option<u64>)
+    ensures { log.new ≡ record log.old {
+      outcomes = log.old.outcomes ++ Found name.now (option_map (λ t. t.now) left.entry) size ∷ [];
+    } }
+{
+    log.note(Doing::Found(name, left, size));
+}
+
+/// The same, if one that isn't there counts as empty.
+fn note_found_or_empty(log: &mut Log, name: &str, left: Option<&Tape>, size: Option<u64>)
+    ensures { log.new ≡ record log.old {
+      outcomes = log.old.outcomes
+          ++ FoundOrEmpty name.now (option_map (λ t. t.now) left.entry) size ∷ [];
+    } }
+{
+    log.note(Doing::FoundOrEmpty(name, left, size));
 }
 
 fn is_refused(refused: &[Name], name: &str) -> bool
@@ -352,16 +372,17 @@ impl FileSet for MemFiles {
             ↔ (entry_of self.old.entries name.now ≡ None) }
         ensures faults { IfErr result (MemFails FileFault.Read) }
     {
-        self.log.opened(name);
+        self.log.note(Doing::Opened(name));
         let Some(bytes) = bytes_of(self.entries.as_slice(), name) else {
-            self.log.refused(name, OpenFault::Fault(FileFault::Read));
+            self.log
+                .note(Doing::Refused(name, OpenFault::Fault(FileFault::Read)));
             return Err(OpenFault::Fault(FileFault::Read));
         };
         let mut left = Tape::new();
         left.note(bytes);
         let size = Some(bytes.len() as u64);
         let source = new_in(alloc, name, bytes)?;
-        self.log.found(name, Some(&left), size);
+        note_found(&mut self.log, name, Some(&left), size);
         Ok(source)
     }
 
@@ -377,13 +398,13 @@ impl FileSet for MemFiles {
         ensures begun { IfOk result (λ s. (s.0 ≡ name.now) × (s.1.given ≡ [])) }
         ensures faults { OnErr result (result ≡ Err (Fault FileFault.Memory)) }
     {
-        self.log.opened(name);
+        self.log.note(Doing::Opened(name));
         let bytes = bytes_or_none(self.entries.as_slice(), name);
         let mut left = Tape::new();
         left.note(bytes);
         let size = Some(bytes.len() as u64);
         let source = new_in(alloc, name, bytes)?;
-        self.log.found_or_empty(name, Some(&left), size);
+        note_found_or_empty(&mut self.log, name, Some(&left), size);
         Ok(source)
     }
 
@@ -416,7 +437,7 @@ impl FileSet for MemFiles {
               ++ Prepared name.now (option_map (λ s. s.now) spared.entry) ∷ [];
         } }
     {
-        self.log.prepared(name, spared);
+        self.log.note(Doing::Prepared(name, spared));
         Ok(())
     }
 
@@ -437,12 +458,29 @@ impl FileSet for MemFiles {
         } }
         ensures faults { IfErr result (MemFails FileFault.Write) }
     {
-        self.log.created(name);
+        self.log.note(Doing::Created(name));
         let out = open_out(alloc, self.refused.as_slice(), name, self.room);
         if let Err(fault) = out {
-            self.log.refused(name, fault);
+            self.log.note(Doing::Refused(name, fault));
         }
         out
+    }
+
+    /// Refuses with `Write` (27) exactly if a file has the name.
+    fn check_absent(&mut self, name: &str) -> Result<(), OpenFault>
+        ensures refused { IsErrOf result (Fault FileFault.Write)
+            ↔ (is_some (entry_of self.old.entries name.now) ≡ true) }
+        ensures kept { self.new ≡ record self.old {
+          outcomes = self.old.outcomes ++ made_as [] name.now result;
+        } }
+        ensures faults { IfErr result (MemFails FileFault.Write) }
+    {
+        if self.get(name).is_none() {
+            return Ok(());
+        }
+        self.log
+            .note(Doing::Refused(name, OpenFault::Fault(FileFault::Write)));
+        Err(OpenFault::Fault(FileFault::Write))
     }
 
     /// As `create`, but refuses with `Write` (27) exactly if the name is one that can't be written, or
@@ -463,15 +501,16 @@ impl FileSet for MemFiles {
         } }
         ensures faults { IfErr result (MemFails FileFault.Write) }
     {
-        self.log.made(name);
+        self.log.note(Doing::Made(name));
         if self.get(name).is_some() {
-            self.log.refused(name, OpenFault::Fault(FileFault::Write));
+            self.log
+                .note(Doing::Refused(name, OpenFault::Fault(FileFault::Write)));
             return Err(OpenFault::Fault(FileFault::Write));
         }
         let out = open_out(alloc, self.refused.as_slice(), name, self.room);
         match out {
-            Ok(_) => self.log.absent(name),
-            Err(fault) => self.log.refused(name, fault),
+            Ok(_) => self.log.note(Doing::Absent(name)),
+            Err(fault) => self.log.note(Doing::Refused(name, fault)),
         }
         out
     }
@@ -507,7 +546,7 @@ impl FileSet for MemFiles {
         let mut took = Tape::new();
         took.note(out.sink.bytes());
         let size = out.sink.bytes().len() as u64;
-        self.log.settled(durability, &took, size);
+        self.log.note(Doing::Settled(durability, &took, size));
         size
     }
 
@@ -523,7 +562,7 @@ impl FileSet for MemFiles {
           ended = Some (ended_with out.1.held true);
         } }
     {
-        self.log.closed(durability);
+        self.log.note(Doing::Closed(durability));
         let MemOut { name, sink } = out;
         self.ended = Some(MemEnded::of(&sink, true));
         let mut own = Tape::new();
@@ -531,7 +570,7 @@ impl FileSet for MemFiles {
         match self.put_noted(name, Bytes::from_vec(sink.into_bytes())) {
             Ok(()) => Ok(()),
             Err(_) => {
-                self.log.unwritten(&own);
+                self.log.note(Doing::Unwritten(&own));
                 Err(FileFault::Write)
             }
         }
@@ -544,7 +583,7 @@ impl FileSet for MemFiles {
           ended = Some (ended_with out.1.held false);
         } }
     {
-        self.log.closed(durability);
+        self.log.note(Doing::Closed(durability));
         self.ended = Some(MemEnded::of(&out.sink, false));
         let _dropped = out;
     }
@@ -568,9 +607,10 @@ impl FileSet for MemFiles {
           outcomes = self.old.outcomes ++ written_as name.now bytes.now result;
         } }
     {
-        self.log.replaced(name, durability);
+        self.log.note(Doing::Replaced(name, durability));
         if is_refused(self.refused.as_slice(), name) || bytes.len() > self.room {
-            self.log.refused(name, OpenFault::Fault(FileFault::Write));
+            self.log
+                .note(Doing::Refused(name, OpenFault::Fault(FileFault::Write)));
             return Err(FileFault::Write);
         }
         let copy = bytes.to_vec(alloc)?;

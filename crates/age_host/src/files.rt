@@ -1,24 +1,25 @@
 //! The machine's files.
 
-ghost use Rattle.std.specs.Prelude.{◌≡◌, ◌≢◌, ◌≤◌, ◌∷◌, ◌++◌, [], true, None, Some, Ok, Err, IfOk};
+ghost use Rattle.std.specs.Prelude.{◌≡◌, ◌≢◌, ◌≤◌, ◌⊎◌, ◌∷◌, ◌++◌, [], true, None, Some, Ok, Err, IfOk};
 ghost use Rattle.std.specs.Prelude.{length, IfErr, IsErr, OnOk, IfSome, IsSomeAnd, Contains};
 ghost use Rattle.age_fault.specs.declared.fault.FileFault.TheVariants.{Read, Write, Memory};
 ghost use Rattle.age_fileset.specs.{IsMemoryOr, OpenFails, Opened, Created, Made, Found, FoundOrEmpty};
-ghost use Rattle.age_fileset.specs.{Absent, Put, Settled, opened_as, made_as};
+ghost use Rattle.age_fileset.specs.{Absent, Settled, Replaced, opened_as, made_as, written_as};
 ghost use Rattle.age_fileset.specs.declared.files.OpenFault.TheVariants.{SameFile};
 ghost use Rattle.age_disk.specs.{IsUnread, as_source, as_sink, IsApart, IsMadeAt, HasAll};
 ghost use Rattle.age_disk.specs.declared.names.FileId.{FileId};
 ghost use Rattle.age_io.specs.{IsNamed, Named};
 ghost use Rattle.age_io.specs.declared.durability.Durability.TheVariants as wait;
+ghost use Rattle.age_disk.specs.Saving.{SavesBytes, WritesDirectly};
 ghost use Rattle.age_machine.specs.Saved.{Saves};
 
-use crate::watched::{WatchedIn, WatchedOut};
+use crate::watched::WatchedIn;
 use age_disk::{
-    Ended, FileId, HostIn, HostOut, Prepared, Saved, Stream, StreamId, found_at, replace,
+    Ended, FileId, HostIn, HostOut, Placed, Prepared, Saved, Stream, StreamId, found_at, replace,
 };
 use age_fault::FileFault;
-use age_fileset::{FileSet, Log, OpenFault};
-use age_io::{Durability, Source, Tape};
+use age_fileset::{Doing, FileSet, Log, OpenFault};
+use age_io::{Durability, Sink, Source, Tape};
 use age_messages::{Action, Failures, announce_copying, announce_passphrase, announce_sync};
 use std::alloc::Global;
 use std::rt::HostRuntime;
@@ -40,7 +41,8 @@ pub struct HostFiles<'r, 'w> {
     log: Log,
     // What was done to the file that was ended last, and for the one that was replaced last.
     ended: Option<Ended>,
-    saved: Saved,
+    saved: Placed,
+    direct: Option<Ended>,
     failures: &'r Failures<'w>,
 }
 
@@ -54,7 +56,8 @@ impl<'r, 'w> HostFiles<'r, 'w> {
             prepared: Vec::new(rt.alloc()),
             log: Log::new(),
             ended: None,
-            saved: Saved::directly(rt),
+            saved: Saved::directly(rt).file,
+            direct: None,
             failures,
         }
     }
@@ -68,7 +71,10 @@ impl<'r, 'w> HostFiles<'r, 'w> {
         match StreamId::at(alloc, self.rt, name) {
             Ok(Some(stream)) => {
                 let kept = keep_stream(&mut self.streams, stream);
-                note_same(self.failures, name, kept)
+                if let Err(OpenFault::SameFile) = kept {
+                    self.failures.note_used(name, false);
+                }
+                kept
             }
             Ok(None) => Ok(()),
             Err(error) => Err(OpenFault::Fault(fault_of(error, FileFault::Read))),
@@ -109,33 +115,48 @@ impl<'r, 'w> HostFiles<'r, 'w> {
         }
     }
 
-    /// Keeps a file that was opened to be written, under its name, and takes it for this run alone.
+    /// Keeps a file that was opened to be written, and takes it for this run alone.
     fn admit_created(
         &mut self,
         name: &str,
         opened: io::Result<HostOut>,
-    ) -> Result<WatchedOut<'r, 'w>, OpenFault>
-        ensures same { IfOk result (λ o. opened ≡ Ok o.sink) }
-        ensures named { IfOk result (λ o. o.label ≡ name.now) }
-        ensures apart { IfOk result (λ o. IsApart self.old.open.items o.sink) }
+    ) -> Result<HostOut, OpenFault>
+        ensures same { IfOk result (λ o. opened ≡ Ok o) }
+        ensures apart { IfOk result (IsApart self.old.open.items) }
         ensures kept { (self.new.log ≡ self.old.log) × (self.new.ended ≡ self.old.ended)
             × (self.new.saved ≡ self.old.saved) }
         ensures faults { IfErr result (OpenFails Write) }
     {
         let out = match opened {
-            Ok(out) => WatchedOut::new(out, name, self.failures),
+            Ok(out) => out,
             Err(error) => return Err(self.refusal(name, error)),
         };
-        let out = admit_out(self.rt, &mut self.open, self.prepared.as_slice(), out)?;
-        match out.claim(self.rt, name) {
+        self.failures.note_output(self.failures.word(name));
+        let prepared = self.prepared.as_slice();
+        let out = admit_out(self.rt, &mut self.open, prepared, out, self.failures)?;
+        match out.claim(self.rt) {
             Ok(out) => Ok(out),
-            Err(error) => Err(OpenFault::Fault(fault_of(error, FileFault::Write))),
+            Err(error) => {
+                self.failures
+                    .note(Action::Write, self.failures.word(name), error);
+                Err(OpenFault::Fault(fault_of(error, FileFault::Write)))
+            }
         }
+    }
+
+    /// Keeps why a put has failed, if one did. The name of the file.
+    fn note_written(&self, out: &HostOut) -> &'w str {
+        let name = self.failures.word(out.name());
+        if out.failures() > 0 {
+            self.failures.note(Action::Write, name, out.error());
+        }
+        name
     }
 
     /// Keeps why a file can't be written, which is the fault.
     fn refusal(&self, name: &str, error: io::Error) -> OpenFault
-        ensures { OpenFails Write result }
+        ensures faults { OpenFails Write result }
+        ensures other { result ≢ SameFile }
     {
         let is_there = error.kind() == io::ErrorKind::AlreadyExists;
         if is_there && is_empty_at(self.rt, name) {
@@ -190,8 +211,8 @@ impl<'r, 'w> HostFiles<'r, 'w> {
         durability: Durability,
         saved: &mut Saved,
     ) -> io::Result<()>
-        requires { saved.old.path ≡ None }
-        ensures { Saves bytes.now durability result saved.new }
+        requires { saved.old.file.path ≡ None }
+        ensures { SavesBytes bytes.now durability result saved.new }
     {
         match self.prepared.iter().find(|p| p.is_named(name)) {
             Some(prepared) => self.replace_prepared(alloc, prepared, bytes, durability, saved),
@@ -213,8 +234,8 @@ impl<'r, 'w> HostFiles<'r, 'w> {
         durability: Durability,
         saved: &mut Saved,
     ) -> io::Result<()>
-        requires { saved.old.path ≡ None }
-        ensures { Saves bytes.now durability result saved.new }
+        requires { saved.old.file.path ≡ None }
+        ensures { SavesBytes bytes.now durability result saved.new }
     {
         let id = prepared.id(self.rt);
         prepared.check_folder(self.rt)?;
@@ -227,14 +248,22 @@ impl<'r, 'w> HostFiles<'r, 'w> {
         )
     }
 
-    /// Keeps a file that was prepared, if it is none of those that are open.
-    fn admit_prepared(&mut self, prepared: Prepared) -> Result<(), OpenFault>
+    /// Keeps a file that was prepared, and is this one, if it is none of those that are open, nor
+    /// standard error.
+    fn admit_prepared(
+        &mut self,
+        prepared: Prepared,
+        id: Option<FileId>,
+        is_for_faults: bool,
+    ) -> Result<(), OpenFault>
         ensures kept { (self.new.log ≡ self.old.log) × (self.new.ended ≡ self.old.ended)
             × (self.new.saved ≡ self.old.saved) }
+        ensures apart { (one : FileId) → id ≡ Some one → Contains self.old.open.items one
+            → result ≡ Err SameFile }
+        ensures only { result ≡ Err SameFile → (is_for_faults ≡ true)
+            ⊎ IsSomeAnd id (Contains self.old.open.items) }
         ensures faults { IfErr result (OpenFails Write) }
     {
-        let id = prepared.id(self.rt);
-        let is_for_faults = is_for_faults(self.rt, id);
         if is_known(self.open.as_slice(), id) || is_for_faults {
             self.failures.note_used(prepared.name(), is_for_faults);
             return Err(OpenFault::SameFile);
@@ -245,20 +274,6 @@ impl<'r, 'w> HostFiles<'r, 'w> {
         let pushed = self.prepared.push(prepared);
         Ok(pushed.map_err(|_| FileFault::Memory)?)
     }
-}
-
-/// Keeps the name of what was refused, if that is a file of another name too.
-fn note_same(
-    failures: &Failures<'_>,
-    name: &str,
-    kept: Result<(), OpenFault>,
-) -> Result<(), OpenFault>
-    ensures { result ≡ kept }
-{
-    if let Err(OpenFault::SameFile) = kept {
-        failures.note_used(name, false);
-    }
-    kept
 }
 
 /// Judges where the name of a position leads. With `--no-clobber` a file there that holds something
@@ -315,12 +330,6 @@ fn holds_position(alloc: Global, rt: &HostRuntime, name: &str) -> bool {
     matches!(file.pull(&mut first), Ok(n) if &first[..n] == POSITION)
 }
 
-/// Whether two paths lead to one file.
-fn is_one_file(rt: &HostRuntime, one: &str, other: &str) -> bool {
-    let one = FileId::at(rt, one);
-    one.is_some() && one == FileId::at(rt, other)
-}
-
 /// Keeps a stream, if it is none of those that were kept before.
 fn keep_stream(kept: &mut Vec<StreamId>, stream: StreamId) -> Result<(), OpenFault>
     ensures faults { IfErr result (OpenFails Read) }
@@ -363,15 +372,6 @@ fn find_same<'n>(
     Ok(None)
 }
 
-/// The file that was prepared and is this one.
-fn find_prepared<'p>(
-    rt: &HostRuntime,
-    prepared: &'p [Prepared],
-    id: Option<FileId>,
-) -> Option<&'p Prepared> {
-    prepared.iter().find(|p| p.is_of(rt, id))
-}
-
 /// Whether this is a file that was opened.
 fn is_known(opened: &[FileId], id: Option<FileId>) -> bool
     ensures known { (one : FileId) → id ≡ Some one → Contains opened.now one → result ≡ true }
@@ -409,28 +409,31 @@ fn admit(opened: &mut Vec<FileId>, id: Option<FileId>) -> Result<(), OpenFault>
 }
 
 /// Keeps a file that was opened to be written, if it is none of those that were opened or prepared
-/// before; otherwise it is as it was before.
-fn admit_out<'r, 'w>(
+/// before; otherwise it is as it was before, and its name is kept, with the other one if that is known.
+fn admit_out(
     rt: &HostRuntime,
     opened: &mut Vec<FileId>,
     prepared: &[Prepared],
-    out: WatchedOut<'r, 'w>,
-) -> Result<WatchedOut<'r, 'w>, OpenFault>
-    ensures same { IfOk result (λ o. o.sink ≡ out.entry.sink) }
-    ensures named { IfOk result (λ o. o.label ≡ out.entry.label) }
-    ensures apart { IfOk result (λ o. IsApart opened.old.items o.sink) }
+    out: HostOut,
+    failures: &Failures<'_>,
+) -> Result<HostOut, OpenFault>
+    ensures same { IfOk result (λ o. o ≡ out) }
+    ensures apart { IfOk result (IsApart opened.old.items) }
     ensures faults { IfErr result (OpenFails Write) }
 {
-    let other = find_prepared(rt, prepared, out.sink.id());
-    let admitted = if other.is_some() {
-        Err(OpenFault::SameFile)
-    } else {
-        admit(opened, out.sink.id())
+    let id = out.id();
+    let other = prepared.iter().find(|p| p.is_of(rt, id));
+    let admitted = match other {
+        Some(_) => Err(OpenFault::SameFile),
+        None => admit(opened, id),
     };
     match admitted {
         Ok(()) => Ok(out),
         Err(fault) => {
-            out.note_same(other);
+            match other {
+                Some(other) => failures.note_twice(other.name(), out.name()),
+                None => failures.note_used(out.name(), false),
+            }
             out.discard(rt, Durability::Buffered);
             Err(fault)
         }
@@ -448,10 +451,10 @@ fn replace_apart(
     durability: Durability,
     saved: &mut Saved,
 ) -> io::Result<()>
-    requires { saved.old.path ≡ None }
+    requires { saved.old.file.path ≡ None }
     ensures apart { (one : FileId) → id ≡ Some one → Contains opened.now one
         → IsErr result }
-    ensures saved { Saves bytes.now durability result saved.new }
+    ensures saved { SavesBytes bytes.now durability result saved.new }
 {
     if is_known(opened, id) {
         return Err(io::Error::from(io::ErrorKind::AlreadyExists));
@@ -472,14 +475,13 @@ fn fault_of(error: io::Error, other: FileFault) -> FileFault
     }
 }
 
-/// Notes that these bytes were put under a name.
-fn note_put(log: &mut Log, name: &str, bytes: &[u8])
-    ensures { log.new ≡ record log.old { outcomes = log.old.outcomes ++ Put name.now bytes.now ∷ [] } }
+/// These bytes, for contracts alone.
+fn tape_of(bytes: &[u8]) -> Tape
+    ensures { result ≡ bytes.now }
 {
-    let (mut label, mut put) = (Tape::new(), Tape::new());
-    label.note(name.as_bytes());
-    put.note(bytes);
-    log.put(&label, &put);
+    let mut tape = Tape::new();
+    tape.note(bytes);
+    tape
 }
 
 // A method with a clause of its own repeats the trait's that the search can't prove. This set doesn't
@@ -487,7 +489,7 @@ fn note_put(log: &mut Log, name: &str, bytes: &[u8])
 impl<'r, 'w> FileSet for HostFiles<'r, 'w> {
     type In = WatchedIn<'r, 'w>;
 
-    type Out = WatchedOut<'r, 'w>;
+    type Out = HostOut;
 
     ghost view = { λ f. record {
       events = f.log.events;
@@ -498,7 +500,7 @@ impl<'r, 'w> FileSet for HostFiles<'r, 'w> {
 
     ghost size = { λ s. s.source.size };
 
-    ghost file = { λ o. o.sink.file };
+    ghost file = { λ o. o.file };
 
     /// Two paths of one file are the same too, so that no link destroys what is read.
     fn is_same(&mut self, one: &str, other: &str) -> bool {
@@ -506,10 +508,11 @@ impl<'r, 'w> FileSet for HostFiles<'r, 'w> {
             self.failures.note_twice(one, other);
             return true;
         }
-        let is_same = is_one_file(self.rt, one, other);
+        let id = FileId::at(self.rt, one);
+        let is_same = id.is_some() && id == FileId::at(self.rt, other);
         if is_same {
             self.failures.note_twice(one, other);
-            self.log.alike(one, other);
+            self.log.note(Doing::Alike(one, other));
         }
         is_same
     }
@@ -517,7 +520,7 @@ impl<'r, 'w> FileSet for HostFiles<'r, 'w> {
     fn check_streams(&mut self, alloc: Global, names: &[Option<&str>]) -> Result<(), OpenFault> {
         let checked = self.check_each(alloc, names);
         if let Err(OpenFault::SameFile) = checked {
-            self.log.one_stream(names);
+            self.log.note(Doing::OneStream(names));
         }
         checked
     }
@@ -535,15 +538,15 @@ impl<'r, 'w> FileSet for HostFiles<'r, 'w> {
         ensures known { IfOk result (λ s. IfSome s.source.id (Contains self.new.open.items)) }
         ensures before { HasAll self.old.open.items self.new.open.items }
     {
-        self.log.opened(name);
+        self.log.note(Doing::Opened(name));
         let opened = self.admit_in(alloc, name, false);
         match &opened {
             Ok(source) => {
                 let length = source.source.length();
                 announce_copying(self.rt, self.failures, name, length);
-                self.log.found(name, None, length);
+                self.log.note(Doing::Found(name, None, length));
             }
-            Err(fault) => self.log.refused(name, *fault),
+            Err(fault) => self.log.note(Doing::Refused(name, *fault)),
         }
         opened
     }
@@ -561,11 +564,13 @@ impl<'r, 'w> FileSet for HostFiles<'r, 'w> {
         ensures known { IfOk result (λ s. IfSome s.source.id (Contains self.new.open.items)) }
         ensures before { HasAll self.old.open.items self.new.open.items }
     {
-        self.log.opened(name);
+        self.log.note(Doing::Opened(name));
         let opened = self.admit_in(alloc, name, true);
         match &opened {
-            Ok(source) => self.log.found_or_empty(name, None, source.source.length()),
-            Err(fault) => self.log.refused(name, *fault),
+            Ok(source) => self
+                .log
+                .note(Doing::FoundOrEmpty(name, None, source.source.length())),
+            Err(fault) => self.log.note(Doing::Refused(name, *fault)),
         }
         opened
     }
@@ -586,15 +591,18 @@ impl<'r, 'w> FileSet for HostFiles<'r, 'w> {
         spared: Option<&str>,
         durability: Durability,
     ) -> Result<(), OpenFault> {
-        self.log.prepared(name, spared);
+        self.log.note(Doing::Prepared(name, spared));
         let spared = spared.and_then(|spared| FileId::at(self.rt, spared));
         let prepared = prepared_at(alloc, self.rt, name, spared, durability, self.failures);
         let admitted = match prepared {
-            Ok(prepared) => self.admit_prepared(prepared),
+            Ok(prepared) => {
+                let id = prepared.id(self.rt);
+                self.admit_prepared(prepared, id, is_for_faults(self.rt, id))
+            }
             Err(error) => Err(self.refusal(name, error)),
         };
         if let Err(fault) = admitted {
-            self.log.refused(name, fault);
+            self.log.note(Doing::Refused(name, fault));
         }
         admitted
     }
@@ -604,23 +612,32 @@ impl<'r, 'w> FileSet for HostFiles<'r, 'w> {
         alloc: Global,
         name: &str,
         durability: Durability,
-    ) -> Result<WatchedOut<'r, 'w>, OpenFault>
+    ) -> Result<HostOut, OpenFault>
         ensures noted { self.new.log.events ≡ self.old.log.events ++ Created name.now ∷ [] }
         ensures came { self.new.log.outcomes ≡ self.old.log.outcomes ++ made_as [] name.now result }
         ensures unended { self.new.ended ≡ self.old.ended }
         ensures unsaved { self.new.saved ≡ self.old.saved }
-        ensures begun { IfOk result (λ o. (o.sink.took ≡ []) × (o.sink.failed ≡ 0)) }
-        ensures named { IfOk result (λ o. o.label ≡ name.now) }
-        ensures apart { IfOk result (λ o. IsApart self.old.open.items o.sink) }
+        ensures begun { IfOk result (λ o. (o.took ≡ []) × (o.failed ≡ 0)) }
+        ensures named { IfOk result (λ o. o.name ≡ name.now) }
+        ensures apart { IfOk result (IsApart self.old.open.items) }
         ensures faults { IfErr result (OpenFails Write) }
     {
-        self.log.created(name);
+        self.log.note(Doing::Created(name));
         let opened = HostOut::open(alloc, self.rt, name, durability);
         let out = self.admit_created(name, opened);
         if let Err(fault) = out {
-            self.log.refused(name, fault);
+            self.log.note(Doing::Refused(name, fault));
         }
         out
+    }
+
+    fn check_absent(&mut self, name: &str) -> Result<(), OpenFault> {
+        if fs::symlink_metadata(self.rt, name).is_err() {
+            return Ok(());
+        }
+        let fault = self.refusal(name, io::Error::from(io::ErrorKind::AlreadyExists));
+        self.log.note(Doing::Refused(name, fault));
+        Err(fault)
     }
 
     fn create_new(
@@ -628,71 +645,95 @@ impl<'r, 'w> FileSet for HostFiles<'r, 'w> {
         alloc: Global,
         name: &str,
         durability: Durability,
-    ) -> Result<WatchedOut<'r, 'w>, OpenFault>
+    ) -> Result<HostOut, OpenFault>
         ensures noted { self.new.log.events ≡ self.old.log.events ++ Made name.now ∷ [] }
         ensures came { self.new.log.outcomes
             ≡ self.old.log.outcomes ++ made_as (Absent name.now ∷ []) name.now result }
         ensures unended { self.new.ended ≡ self.old.ended }
         ensures unsaved { self.new.saved ≡ self.old.saved }
-        ensures begun { IfOk result (λ o. (o.sink.took ≡ []) × (o.sink.failed ≡ 0)) }
-        ensures named { IfOk result (λ o. o.label ≡ name.now) }
-        ensures apart { IfOk result (λ o. IsApart self.old.open.items o.sink) }
-        ensures regular { IfOk result (λ o. IsMadeAt name.now o.sink) }
+        ensures begun { IfOk result (λ o. (o.took ≡ []) × (o.failed ≡ 0)) }
+        ensures named { IfOk result (λ o. o.name ≡ name.now) }
+        ensures apart { IfOk result (IsApart self.old.open.items) }
+        ensures regular { IfOk result (IsMadeAt name.now) }
         ensures faults { IfErr result (OpenFails Write) }
     {
-        self.log.made(name);
+        self.log.note(Doing::Made(name));
         let opened = HostOut::make(alloc, self.rt, name, durability);
         let out = self.admit_created(name, opened);
         match out {
-            Ok(_) => self.log.absent(name),
-            Err(fault) => self.log.refused(name, fault),
+            Ok(_) => self.log.note(Doing::Absent(name)),
+            Err(fault) => self.log.note(Doing::Refused(name, fault)),
         }
         out
     }
 
-    fn is_for_faults(&mut self, out: &WatchedOut<'r, 'w>) -> bool {
+    fn is_for_faults(&mut self, out: &HostOut) -> bool {
         let is_for_faults = out.is_for_faults(self.rt);
         if is_for_faults {
-            self.log.in_use(&out.label);
+            self.failures.note_used(out.name(), true);
+            let label = tape_of(out.name().as_bytes());
+            self.log.note(Doing::InUse(&label));
         }
         is_for_faults
     }
 
-    fn is_terminal(&mut self, out: &WatchedOut<'r, 'w>) -> bool {
-        let is_terminal = out.sink.is_terminal();
+    fn is_terminal(&mut self, out: &HostOut) -> bool {
+        let is_terminal = out.is_terminal();
         if is_terminal {
-            self.log.terminal(&out.label);
+            let label = tape_of(out.name().as_bytes());
+            self.log.note(Doing::Terminal(&label));
         }
         is_terminal
     }
 
-    fn is_empty(&self, out: &WatchedOut<'r, 'w>) -> bool {
-        out.sink.is_empty()
+    fn is_empty(&self, out: &HostOut) -> bool {
+        out.is_empty()
     }
 
-    fn settle(&mut self, out: &mut WatchedOut<'r, 'w>, durability: Durability) -> u64
+    fn settle(&mut self, out: &mut HostOut, durability: Durability) -> u64
         ensures noted { self.new.log.events ≡ self.old.log.events }
         ensures came { self.new.log.outcomes ≡ self.old.log.outcomes
-            ++ Settled durability out.old.sink.took result ∷ [] }
+            ++ Settled durability out.old.took result ∷ [] }
         ensures unended { self.new.ended ≡ self.old.ended }
         ensures unsaved { self.new.saved ≡ self.old.saved }
-        ensures same { as_sink out.new.sink ≡ as_sink out.old.sink }
-        ensures named { out.new.label ≡ out.old.label }
-        ensures most { result ≤ length out.old.sink.took }
-        ensures stored { durability ≡ wait.Synced → result ≤ out.new.sink.settled }
+        ensures same { as_sink out.new ≡ as_sink out.old }
+        ensures most { result ≤ length out.old.took }
+        ensures stored { durability ≡ wait.Synced → result ≤ out.new.settled }
     {
-        let size = out.sink.settle(self.rt, durability);
-        self.log.settled(durability, out.sink.took(), size);
+        let size = out.settle(self.rt, durability);
+        self.log.note(Doing::Settled(durability, out.took(), size));
         size
     }
 
-    fn close(&mut self, out: WatchedOut<'r, 'w>, durability: Durability) -> Result<(), FileFault> {
-        self.log.closed(durability);
+    fn close(&mut self, out: HostOut, durability: Durability) -> Result<(), FileFault> {
+        self.log.note(Doing::Closed(durability));
+        let id = out.id();
         // (what has no id is on no disk)
-        if durability == Durability::Synced && out.sink.id().is_some() {
+        if durability == Durability::Synced && id.is_some() {
             announce_sync(self.rt, self.failures);
         }
-        let (ended, closed) = out.close(self.rt, durability, &mut self.log);
+        let name = self.note_written(&out);
+        let label = tape_of(out.name().as_bytes());
+        let (ended, closed) = out.close(self.rt, durability);
+        match closed {
+            Ok(()) => {
+                if id.is_some() && id != FileId::at(self.rt, name) {
+                    self.failures.note_moved(name);
+                }
+                if ended.is_unwaited() {
+                    self.failures.note_unwaited(name);
+                }
+                self.log.note(Doing::Put(&label, ended.took()));
+            }
+            Err(error) => {
+                let action = match durability {
+                    Durability::Synced => Action::Sync,
+                    Durability::Buffered => Action::Write,
+                };
+                self.failures.note(action, name, error);
+                self.log.note(Doing::Unwritten(&label));
+            }
+        }
         self.ended = Some(ended);
         match closed {
             Ok(()) => Ok(()),
@@ -700,8 +741,9 @@ impl<'r, 'w> FileSet for HostFiles<'r, 'w> {
         }
     }
 
-    fn discard(&mut self, out: WatchedOut<'r, 'w>, durability: Durability) {
-        self.log.closed(durability);
+    fn discard(&mut self, out: HostOut, durability: Durability) {
+        self.log.note(Doing::Closed(durability));
+        self.note_written(&out);
         self.ended = Some(out.discard(self.rt, durability));
     }
 
@@ -711,21 +753,33 @@ impl<'r, 'w> FileSet for HostFiles<'r, 'w> {
         name: &str,
         bytes: &[u8],
         durability: Durability,
-    ) -> Result<(), FileFault> {
-        self.log.replaced(name, durability);
+    ) -> Result<(), FileFault>
+        ensures noted { self.new.log.events ≡ self.old.log.events ++ Replaced name.now durability ∷ [] }
+        ensures came { self.new.log.outcomes
+            ≡ self.old.log.outcomes ++ written_as name.now bytes.now result }
+        ensures unended { self.new.ended ≡ self.old.ended }
+        ensures saved { Saves bytes.now durability result self.new.saved }
+        ensures direct { self.new.saved.path ≡ None
+            → OnOk result (IsSomeAnd self.new.direct (WritesDirectly bytes.now)) }
+        ensures faults { IfErr result (IsMemoryOr Write) }
+    {
+        self.log.note(Doing::Replaced(name, durability));
         let mut saved = Saved::directly(self.rt);
         let replaced = self.replace_named(alloc, name, bytes, durability, &mut saved);
-        self.saved = saved;
+        let Saved { file, direct } = saved;
+        self.saved = file;
+        self.direct = direct;
         match replaced {
             Ok(()) => {
                 self.failures.note_saved(name);
-                note_put(&mut self.log, name, bytes);
+                let (label, put) = (tape_of(name.as_bytes()), tape_of(bytes));
+                self.log.note(Doing::Put(&label, &put));
                 Ok(())
             }
             Err(error) => {
                 self.failures.note_unsaved(name, error);
                 let fault = fault_of(error, FileFault::Write);
-                self.log.refused(name, OpenFault::Fault(fault));
+                self.log.note(Doing::Refused(name, OpenFault::Fault(fault)));
                 Err(fault)
             }
         }

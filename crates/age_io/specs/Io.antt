@@ -18,13 +18,11 @@ pub record SourceView : Type 0 where
   pub failing : Bool
 
 -- the bytes that were taken, how many puts and flushes have failed, whether the last of them did,
--- the name that the sink goes by, and whether what was taken was sent on, which is true if the sink
--- doesn't say
+-- and whether what was taken was sent on, which is true if the sink doesn't say
 pub record SinkView : Type 0 where
   pub taken : Taken
   pub failed : ℕ
   pub failing : Bool
-  pub label : List ℕ
   pub settled : Bool
 
 -- ---- What a meter counts.
@@ -117,7 +115,7 @@ memory_supply given left = record { given = given; left = Some left; is_at_end =
 
 -- the bytes of a sink over memory
 abbrev pub holds : List ℕ → Taken
-holds held = record { bytes = held; contents = Some held }
+holds held = record { bytes = held; contents = Some held; label = [] }
 
 -- a source over memory: what it gave and what is still to come, how much a pull gives at most, the
 -- number of the pull that fails, how many pulls were made and have failed, and whether the last one

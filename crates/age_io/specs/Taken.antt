@@ -3,20 +3,23 @@ use Rattle.std.specs.Prelude.{◌≡◌, ℕ, List, ◌++◌, Option, Result, Ma
 use Rattle.std.specs.Io.KnownBytes as known
 
 -- the bytes of a sink: those that it took since it was made, and those that what it is over holds,
--- if they are shown
+-- if they are shown; and the name that it goes by, which no call changes
 pub record Taken : Type 0 where
   pub bytes : List ℕ
   pub contents : Option (List ℕ)
+  pub label : List ℕ
 
 -- a sink took these bytes
 pub record Appends (old new : Taken) (more : List ℕ) : Type 0 where
   pub bytes : new.bytes ≡ old.bytes ++ more
   pub contents : known.Appends old.contents new.contents more
+  pub named : new.label ≡ old.label
 
 -- a sink took nothing
 pub record Keeps (old new : Taken) : Type 0 where
   pub bytes : new.bytes ≡ old.bytes
   pub contents : known.Keeps old.contents new.contents
+  pub named : new.label ≡ old.label
 
 -- a put took the bytes at the beginning of a slice, or it failed and took nothing
 abbrev pub WriteAppends : {E : Type 0} → Taken → Taken → Result ℕ E → List ℕ → Type 0

@@ -97,7 +97,6 @@ impl Sink for MemSink {
       taken = holds s.held;
       failed = s.failures;
       failing = s.failing;
-      label = [];
       settled = s.settled;
     } };
 

@@ -28,25 +28,6 @@ pub trait Meter {
         ensures shown { Adds (shown self.old) (shown self.new) Ends };
 }
 
-/// A meter that is borrowed.
-impl<M: Meter> Meter for &mut M {
-    ghost count = { λ m. M.count m.now };
-
-    ghost shown = { λ m. M.shown m.now };
-
-    fn begin(&mut self, length: Option<u64>) {
-        (**self).begin(length);
-    }
-
-    fn advance(&mut self, bytes: u64) {
-        (**self).advance(bytes);
-    }
-
-    fn end(&mut self) {
-        (**self).end();
-    }
-}
-
 /// A meter, if one is wanted; `None` counts nothing.
 impl<M: Meter> Meter for Option<M> {
     ghost count = { option_and_then M.count };

@@ -15,9 +15,9 @@ use std::marker::Model;
 /// A sink for bytes, such as a file, a pipe or a vector. Whoever writes puts bytes into it, and it
 /// counts the calls that fail. docs/LIBRARY.md has an example, `Measure`.
 pub trait Sink {
-    // The bytes that were taken, and those that it holds, if they are shown; how many puts and
-    // flushes have failed, and whether the last of them did; the name that the sink goes by, so that
-    // a set of files can say where its bytes end up; and whether what was taken was sent on, which
+    // The bytes that were taken, and those that it holds, if they are shown, with the name that the
+    // sink goes by, so that a set of files can say where its bytes end up; how many puts and flushes
+    // have failed, and whether the last of them did; and whether what was taken was sent on, which
     // the next put may undo.
     ghost view: { Self → SinkView };
 
@@ -26,7 +26,6 @@ pub trait Sink {
     fn put(&mut self, from: &[u8]) -> Result<usize, Failed>
         ensures bound { IfOk result (λ n. (n ≤ length from.now) × (0 < length from.now → 0 < n)) }
         ensures bytes { WriteAppends (view self.old).taken (view self.new).taken result from.now }
-        ensures named { (view self.new).label ≡ (view self.old).label }
         ensures counted { MatchResult result
             (λ _. (view self.new).failed ≡ (view self.old).failed)
             (λ _. (view self.new).failed ≡ one_more (view self.old).failed) }
@@ -36,7 +35,6 @@ pub trait Sink {
     fn flush(&mut self) -> Result<(), Failed>
         ensures settled { OnOk result ((view self.new).settled ≡ true) }
         ensures bytes { Keeps (view self.old).taken (view self.new).taken }
-        ensures named { (view self.new).label ≡ (view self.old).label }
         ensures counted { MatchResult result
             (λ _. (view self.new).failed ≡ (view self.old).failed)
             (λ _. (view self.new).failed ≡ one_more (view self.old).failed) }
@@ -81,10 +79,9 @@ impl<W: Write> Writing<W> {
 
 impl<W: Write> Sink for Writing<W> {
     ghost view = { λ s. record {
-      taken = record { bytes = s.1.1; contents = W.contents s.0 };
+      taken = record { bytes = s.1.1; contents = W.contents s.0; label = [] };
       failed = s.1.0.0;
       failing = s.1.0.1;
-      label = [];
       settled = true;
     } };
 

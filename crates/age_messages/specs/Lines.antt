@@ -1,7 +1,7 @@
 -- Which line shows how far a run is, and when a line is due.
-use Rattle.std.specs.Prelude.{◌≡◌, ◌⊎◌, ℕ, ◌+◌, ◌-◌, ◌*◌, ◌/◌, ◌%◌, ◌^◌, min, Bool, false, List, [], ◌∷◌, ◌++◌}
-use Rattle.std.specs.Prelude.{length, take, codes, decimal, nat_eq, nat_lt, nat_le, Option, None, Some}
-use Rattle.std.specs.Prelude.{if◌then◌else◌}
+use Rattle.std.specs.Prelude.{◌≡◌, ◌⊎◌, ℕ, ◌+◌, ◌-◌, ◌*◌, ◌/◌, ◌%◌, ◌^◌, min, Bool, false, List, []}
+use Rattle.std.specs.Prelude.{◌∷◌, ◌++◌, length, take, codes, decimal, nat_eq, nat_lt, nat_le}
+use Rattle.std.specs.Prelude.{Option, None, Some, if◌then◌else◌}
 use Rattle.age_io.specs.Taken.{Appends}
 use Rattle.age_io.specs.{one_more, SinkView}
 use Rattle.age_messages.specs.declared.line_style.LineStyle.{LineStyle}
@@ -64,16 +64,12 @@ covering text = text ++ take (21 - length text) (codes "                     ")
 abbrev pub pace : Option ℕ → ℕ → ℕ → List ℕ
 pace length count rate = covering (rate_text rate ++ left_text length count rate)
 
--- what ends a line: at a terminal how quick the run is, and a carriage return, so that the next one
--- is written over it; in a log a line feed
-abbrev pub line_end : LineStyle → Option ℕ → ℕ → ℕ → List ℕ
-line_end Rewritten length count millis = pace length count (rate count millis) ++ codes "\r"
-line_end Separate length count millis = codes "\n"
-
--- the same, of a line that covers a longer one over which it is written
-abbrev pub covering_end : LineStyle → ℕ → ℕ → List ℕ
-covering_end Rewritten count millis = pace None count (rate count millis) ++ codes "          \r"
-covering_end Separate count millis = codes "\n"
+-- what ends a line: at a terminal how quick the run is, what covers a longer line before it, and a
+-- carriage return, so that the next one is written over it; in a log a line feed
+abbrev pub line_end : LineStyle → Option ℕ → ℕ → ℕ → List ℕ → List ℕ
+line_end Rewritten length count millis cover = pace length count (rate count millis)
+    ++ (cover ++ codes "\r")
+line_end Separate length count millis cover = codes "\n"
 
 -- the line for a count of bytes, with its end
 abbrev pub count_line : List ℕ → ℕ → List ℕ
@@ -87,12 +83,12 @@ share Separate size count = codes "%  " ++ (amount size count ++ codes " of ")
 
 -- the line for a count of bytes after so many milliseconds, of a length if that is known and no less
 abbrev pub progress_line : LineStyle → Option ℕ → ℕ → ℕ → List ℕ
-progress_line style None count millis = count_line (line_end style None count millis) count
+progress_line style None count millis = count_line (line_end style None count millis []) count
 progress_line style (Some length) count millis = if nat_lt length count
-    then count_line (covering_end style count millis) count
+    then count_line (line_end style None count millis (codes "          ")) count
     else padded 3 (decimal (percentage length count)) ++ (share style (measure_of length).size count
     ++ (amount (measure_of length).size length ++ (codes " "
-    ++ ((measure_of length).name ++ line_end style (Some length) count millis))))
+    ++ ((measure_of length).name ++ line_end style (Some length) count millis []))))
 
 -- whether the line for a count was shown, if that of this one came last
 abbrev pub was_shown : Option ℕ → ℕ → Bool

@@ -85,7 +85,7 @@ pub fn announce_copying(
 /// Says at a terminal that a run waits until what it wrote has reached the disk, if it read much: it
 /// wrote about as much.
 pub fn announce_sync(rt: &HostRuntime, failures: &Failures<'_>) {
-    if failures.last_read().bytes >= LONG && rt.stderr().is_terminal() {
+    if failures.last_read.get().bytes >= LONG && rt.stderr().is_terminal() {
         let _ = eprintln!(rt; "age_tool: waiting for the disk");
     }
 }

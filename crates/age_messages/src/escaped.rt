@@ -29,7 +29,7 @@ impl<'a> fmt::Display for Escaped<'a> {
 }
 
 /// Whether a word has more characters than are shown. A byte that is no text counts as one.
-pub(crate) fn is_cut(word: &[u8]) -> bool {
+fn is_cut(word: &[u8]) -> bool {
     let mut count: usize = 0;
     for chunk in word.utf8_chunks() {
         count = count

@@ -1,13 +1,13 @@
 //! What people read after a run, besides the line of its fault.
 
-use crate::escaped::{Escaped, Leading, Quoted, is_cut};
+use crate::escaped::{Escaped, Leading, Quoted};
 use crate::failures::{Amount, Failure, Failures};
 use crate::head::Work;
 use crate::heard::Heard;
 use crate::hints::Reported;
 use age_io::Sink;
 use std::fmt::{self, Formatter};
-use std::io::Eprint;
+use std::io::{self, Eprint};
 use std::rt::HostRuntime;
 
 /// Says on standard error why a run stopped, and what to do, in one line; whether a position was
@@ -17,7 +17,7 @@ pub fn explain<O: Sink>(rt: &HostRuntime, heard: &Heard<O>, failures: &Failures<
     let mut lines = heard.text().lines();
     match lines.next() {
         Some(line) => explain_end(rt, line, lines.next(), failures),
-        None if failures.is_inspecting() && !heard.is_long() => tell_work(rt, failures),
+        None if failures.is_inspecting() => tell_work(rt, failures),
         None => {}
     }
     explain_words_taken(rt, failures);
@@ -32,7 +32,7 @@ fn explain_end(rt: &HostRuntime, line: &str, second: Option<&str>, failures: &Fa
     };
     explain_fault(rt, fault, failures);
     if let Some(second) = second.and_then(|line| Reported::of(line, by_pass)) {
-        tell_failure(rt, second.number, failures.unsaved(), "");
+        tell_failure(rt, second.number, failures.unsaved.get(), "");
     }
     tell_position(rt, failures);
 }
@@ -45,9 +45,7 @@ fn explain_words_taken(rt: &HostRuntime, failures: &Failures<'_>) {
              /dev/stdout"
         );
     }
-    let has_key = failures.named_by("--file-key").is_some()
-        || failures.named_by("--shared").is_some();
-    if has_key
+    if failures.has_key()
         && failures.named_by("--max-log").is_some()
         && failures.named_by("--pass").is_none()
     {
@@ -57,23 +55,23 @@ fn explain_words_taken(rt: &HostRuntime, failures: &Failures<'_>) {
 
 /// Says what may surprise in a file that was read or written.
 fn explain_files(rt: &HostRuntime, failures: &Failures<'_>) {
-    if let Some(name) = failures.cut_off() {
+    if let Some(name) = failures.cut_off.get() {
         let name = Leading(name.as_bytes());
         let _ = eprintln!(rt; "age_tool: {name}: it became shorter while it was read");
     }
-    if let Some(name) = failures.moved() {
+    if let Some(name) = failures.moved.get() {
         let name = Escaped(name.as_bytes());
         let _ = eprintln!(rt;
             "age_tool: OUT was moved: {name} leads to another file now, or to none"
         );
     }
-    if let Some(name) = failures.unwaited() {
+    if let Some(name) = failures.unwaited.get() {
         let name = Leading(name.as_bytes());
         let _ = eprintln!(rt;
             "age_tool: {name}: its file system can't sync; it may not be on the disk yet"
         );
     }
-    if failures.is_of(&["encrypt"])
+    if failures.is_of("encrypt")
         && let Some(name) = failures.named_by("--pass")
         && let Some(what) = failures.untypable()
     {
@@ -86,19 +84,17 @@ fn explain_files(rt: &HostRuntime, failures: &Failures<'_>) {
 
 /// Says how much memory the file that was read last asks for, if a passphrase opens it.
 fn tell_work(rt: &HostRuntime, failures: &Failures<'_>) {
-    if let Some(work) = failures.last_read().head.work() {
+    if let Some(work) = failures.last_read.get().head.work() {
         let _ = eprintln!(rt; "age_tool: {work}");
     }
 }
 
-/// Says what the machine answered, if a fault came of that; whether it did.
-fn tell_failure(rt: &HostRuntime, number: u8, failure: Option<Failure<'_>>, more: &str) -> bool {
-    match failure {
-        Some(failure) if failure.action.fault_number() == number => {
-            let _ = eprintln!(rt; "age_tool: {failure}{more}");
-            true
-        }
-        _ => false,
+/// Says what the machine answered, if a fault came of that.
+fn tell_failure(rt: &HostRuntime, number: u8, failure: Option<Failure<'_>>, more: &str) {
+    if let Some(failure) = failure
+        && failure.action.fault_number() == number
+    {
+        let _ = eprintln!(rt; "age_tool: {failure}{more}");
     }
 }
 
@@ -119,7 +115,7 @@ impl<'w> fmt::Display for About<'w> {
 /// The file that a fault is about, if no failure of the machine names it.
 fn file_of<'w>(number: u8, failures: &Failures<'w>) -> About<'w> {
     About(match number {
-        1..=22 | 24 | 29 => Some(failures.last_read().name),
+        1..=22 | 24 | 29 => Some(failures.last_read.get().name),
         23 | 30 => failures.named_by("--position"),
         25 | 31 => failures.named_by("--old"),
         _ => None,
@@ -129,28 +125,23 @@ fn file_of<'w>(number: u8, failures: &Failures<'w>) -> About<'w> {
 /// Says in one line what the machine answered, or else what is wrong with which file, and what to do.
 fn explain_fault(rt: &HostRuntime, fault: Reported<'_>, failures: &Failures<'_>) {
     let number = fault.number;
-    if tell_failure(
-        rt,
-        number,
-        failures.first(),
-        more_of_failure(number, failures),
-    ) {
-        return;
-    }
-    let (name, last) = (file_of(number, failures), failures.last_read());
-    if number == 11
-        && let Some(work) = last.head.work()
-    {
-        return explain_work(rt, name, work);
-    }
-    let (what, to_do) = if number == 8 && fault.is_at_first_line() && last.bytes == 0 {
-        ("it is empty", "check where it comes from")
+    let more = more_of_failure(number, failures);
+    tell_failure(rt, number, failures.first.get(), more);
+    let (name, last) = (file_of(number, failures), failures.last_read.get());
+    let said = if number == 8 && last.bytes == 0 {
+        "it is empty: check where it comes from"
     } else {
         fault.sentence()
     };
-    let place = if what.ends_with(' ') { fault.place } else { "" };
-    if !what.is_empty() {
-        let _ = eprintln!(rt; "age_tool: {name}{what}{place}: {to_do} (age_tool help {number})");
+    if let Some(work) = last.head.work()
+        && number == 11
+    {
+        explain_work(rt, name, work);
+    } else if let Some((what, to_do)) = said.split_once('@') {
+        let place = fault.place;
+        let _ = eprintln!(rt; "age_tool: {name}{what}{place}{to_do} (age_tool help {number})");
+    } else if !said.is_empty() {
+        let _ = eprintln!(rt; "age_tool: {name}{said} (age_tool help {number})");
     }
 }
 
@@ -164,27 +155,12 @@ fn explain_work(rt: &HostRuntime, name: About<'_>, work: Work) {
     };
 }
 
-/// What to give to `--old`: where standard output went, the program can't say.
-fn old_name(output: &str) -> &str {
-    match output {
-        "/dev/stdout" => "OLD",
-        _ => output,
-    }
-}
-
-/// Says how to go on from a position that was saved, by a command for a shell if it shows both names
-/// whole.
+/// Says how to go on from a position that was saved, by a command for a shell.
 fn tell_command(rt: &HostRuntime, saved: &str, old: &str) {
     let name = Escaped(saved.as_bytes());
     let _ = if old == "/dev/null" {
         eprintln!(rt;
             "age_tool: position saved in {name}; resume would need the text that /dev/null took"
-        )
-    } else if is_cut(saved.as_bytes()) || is_cut(old.as_bytes()) {
-        let old = Escaped(old.as_bytes());
-        eprintln!(rt;
-            "age_tool: position saved in {name}; to go on from there, give it to age_tool resume as \
-             --position, and as --old {old}"
         )
     } else {
         let (saved, old) = (Quoted(saved), Quoted(old));
@@ -201,66 +177,101 @@ fn tell_position(rt: &HostRuntime, failures: &Failures<'_>) {
     if let Some(saved) = failures.saved.get()
         && let Some(output) = failures.output.get()
     {
-        tell_command(rt, saved, old_name(output));
+        // (Where standard output went, the program can't say.)
+        let old = if output == "/dev/stdout" {
+            "OLD"
+        } else {
+            output
+        };
+        tell_command(rt, saved, old);
         if output != "/dev/null" {
             let _ = eprintln!(rt;
                 "age_tool: resume reads only the rest of IN; from a fast disk, age_tool decrypt is quicker"
             );
         }
-    } else if failures.named_by("--save").is_some() && failures.unsaved().is_none() {
+    } else if failures.named_by("--save").is_some() && failures.unsaved.get().is_none() {
         let _ = eprintln!(rt; "age_tool: no position was saved");
-    }
-}
-
-/// Whether a fault came of the name that an option gives, of which there is no file.
-fn is_of_missing(option: &str, failures: &Failures<'_>) -> bool {
-    match (failures.named_by(option), failures.first()) {
-        (Some(name), Some(first)) => first.is_of_missing(name),
-        _ => false,
     }
 }
 
 /// What follows what the machine answered.
 fn more_of_failure(number: u8, failures: &Failures<'_>) -> &'static str {
-    if number == 27 && failures.is_left_empty() {
-        "; it is empty: a run that was killed may have left it"
-    } else if is_of_missing("--pass", failures) {
-        "; --pass takes the name of a file that holds the passphrase"
-    } else if is_of_missing("--shared", failures) {
-        "; --shared takes the name of a file that holds the shared secret"
-    } else {
-        ""
+    match failures.first.get() {
+        _ if number == 27 && failures.is_left_empty.get() => {
+            "; it is empty: a run that was killed may have left it"
+        }
+        Some(first) if first.is_unopened(io::ErrorKind::NotFound) => {
+            if failures.named_by("--pass") == Some(first.name) {
+                "; --pass takes the name of a file that holds the passphrase"
+            } else if failures.named_by("--shared") == Some(first.name) {
+                "; --shared takes the name of a file that holds the shared secret"
+            } else {
+                ""
+            }
+        }
+        Some(first)
+            if first.is_unopened(io::ErrorKind::IsADirectory) && failures.is_of("encrypt") => {
+            "; to encrypt a folder, pack it first, as by tar"
+        }
+        _ => "",
     }
 }
 
 /// Says which files were one, or what is wrong with one that was refused.
 fn explain_refusal(rt: &HostRuntime, line: &str, failures: &Failures<'_>) {
-    let last = failures.last_read();
-    match line {
-        "age_tool: same file named twice" => {
-            if let Some(twice) = failures.twice() {
+    let last = failures.last_read.get();
+    match line.strip_prefix("age_tool: ").unwrap_or("") {
+        "same file named twice" => {
+            if let Some(twice) = failures.twice.get() {
                 let _ = eprintln!(rt; "age_tool: {twice}");
             }
         }
-        "age_tool: bad file key" => {
+        "bad file key" => {
             let _ = eprintln!(rt; "age_tool: --file-key takes 32 hexadecimal digits");
         }
-        "age_tool: bad passphrase file" => explain_passphrase(rt, last),
-        "age_tool: bad shared file" => explain_length(rt, last, 64),
-        "age_tool: bad random file" => explain_length(rt, last, 48),
-        _ => {}
+        "bad passphrase file" => tell_wrong(rt, last, wrong_passphrase(last.bytes)),
+        "bad shared file" => explain_length(rt, last, 64),
+        "bad random file" => explain_length(rt, last, 48),
+        "script too long" => tell_wrong(
+            rt,
+            last,
+            "it has more than 1,000 lines or 1,048,576 bytes",
+        ),
+        "payload too long" => tell_wrong(rt, last, "its payload has more than 16,777,216 bytes"),
+        said => explain_words_left(rt, said, failures),
     }
 }
 
-/// Says what is wrong with the file of a passphrase. It was read until it was too long.
-fn explain_passphrase(rt: &HostRuntime, last: Amount<'_>) {
-    let name = Leading(last.name.as_bytes());
-    let what = match last.bytes {
+/// Says what is wrong with a file that was read.
+fn tell_wrong(rt: &HostRuntime, file: Amount<'_>, what: &str) {
+    let name = Leading(file.name.as_bytes());
+    let _ = eprintln!(rt; "age_tool: {name}: {what}");
+}
+
+/// Says which line of a script was refused, or that one of several options has to be given.
+fn explain_words_left(rt: &HostRuntime, said: &str, failures: &Failures<'_>) {
+    if let Some(number) = said.strip_prefix("bad script line ") {
+        let name = Leading(failures.read_before.get().as_bytes());
+        let _ = eprintln!(rt;
+            "age_tool: {name}:{number}: no line of a script, or it reaches past the payload's end"
+        );
+    } else if said.starts_with("give one of ") {
+        let said = if failures.named_by("--pass").is_some() || failures.has_key() {
+            "only one of them can be given"
+        } else {
+            "none of them was given; --pass takes the name of a file that holds the passphrase"
+        };
+        let _ = eprintln!(rt; "age_tool: {said}");
+    }
+}
+
+/// What is wrong with the file of a passphrase, which was read until it was too long.
+fn wrong_passphrase(bytes: u64) -> &'static str {
+    match bytes {
         0 => "it is empty",
         1 => "it holds nothing but a newline",
         _ => "it holds more than 65,536 bytes",
-    };
-    let _ = eprintln!(rt; "age_tool: {name}: {what}");
+    }
 }
 
 /// Says what is wrong with a file of a wanted length. It was read until it was too long.

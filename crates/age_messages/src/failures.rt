@@ -4,6 +4,7 @@ ghost use Rattle.std.specs.Prelude.{◌≡◌, ◌⊎◌, codes, IfSome};
 
 use crate::escaped::{Escaped, Leading};
 use crate::head::Head;
+use crate::twice::Twice;
 use crate::typing::Typing;
 use arrayvec::ArrayString;
 use std::cell::Cell;
@@ -55,16 +56,14 @@ impl Action {
 #[derive(Clone, Copy)]
 pub struct Failure<'w> {
     pub action: Action,
-    name: &'w str,
+    pub(crate) name: &'w str,
     error: io::Error,
 }
 
 impl<'w> Failure<'w> {
-    /// Whether there is no file of this name, which was to be read.
-    pub(crate) fn is_of_missing(&self, name: &str) -> bool {
-        self.action == Action::Open
-            && self.name == name
-            && self.error.kind() == io::ErrorKind::NotFound
+    /// Whether a file couldn't be opened, to be read, for this reason.
+    pub(crate) fn is_unopened(&self, kind: io::ErrorKind) -> bool {
+        self.action == Action::Open && self.error.kind() == kind
     }
 }
 
@@ -119,26 +118,6 @@ fn show_error<W: fmt::Write>(error: io::Error, f: &mut Formatter<W>) -> fmt::Res
     }
 }
 
-/// Two names of one file; only one, if the other isn't known.
-#[derive(Clone, Copy)]
-pub struct Twice<'w> {
-    one: &'w str,
-    other: Option<&'w str>,
-}
-
-impl<'w> fmt::Display for Twice<'w> {
-    fn fmt<W: fmt::Write>(&self, f: &mut Formatter<W>) -> fmt::Result {
-        let one = Leading(self.one.as_bytes());
-        match self.other {
-            Some(other) => {
-                let other = Escaped(other.as_bytes());
-                write!(f, "{one} and {other} are the same file")
-            }
-            None => write!(f, "{one} is another file of this command too"),
-        }
-    }
-}
-
 /// How many bytes were read of a file, and the first of them.
 #[derive(Clone, Copy)]
 pub struct Amount<'w> {
@@ -161,9 +140,6 @@ impl<'w> Amount<'w> {
 /// Where random bytes come from if the command line names no file.
 const RANDOM: &str = "/dev/urandom";
 
-/// What standard error is called.
-const FAULTS: &str = "standard error";
-
 /// What failed in a run, for a line that says so: what failed first, what kept a position from
 /// being saved, or where it was saved, which names were found to be one file, which file was read
 /// last, and which one is written. The files of a run share it. No memory is needed for a failure,
@@ -171,16 +147,17 @@ const FAULTS: &str = "standard error";
 #[derive(Drop)]
 pub struct Failures<'w> {
     words: &'w [&'w str],
-    first: Cell<Option<Failure<'w>>>,
-    unsaved: Cell<Option<Failure<'w>>>,
+    pub(crate) first: Cell<Option<Failure<'w>>>,
+    pub(crate) unsaved: Cell<Option<Failure<'w>>>,
     pub(crate) saved: Cell<Option<&'w str>>,
-    twice: Cell<Option<Twice<'w>>>,
-    last_read: Cell<Amount<'w>>,
+    pub(crate) twice: Cell<Option<Twice<'w>>>,
+    pub(crate) last_read: Cell<Amount<'w>>,
+    pub(crate) read_before: Cell<&'w str>,
     pub(crate) output: Cell<Option<&'w str>>,
-    cut_off: Cell<Option<&'w str>>,
-    moved: Cell<Option<&'w str>>,
-    unwaited: Cell<Option<&'w str>>,
-    is_left_empty: Cell<bool>,
+    pub(crate) cut_off: Cell<Option<&'w str>>,
+    pub(crate) moved: Cell<Option<&'w str>>,
+    pub(crate) unwaited: Cell<Option<&'w str>>,
+    pub(crate) is_left_empty: Cell<bool>,
     typing: Cell<Typing>,
 }
 
@@ -194,6 +171,7 @@ impl<'w> Failures<'w> {
             saved: Cell::new(None),
             twice: Cell::new(None),
             last_read: Cell::new(Amount::none("")),
+            read_before: Cell::new(""),
             output: Cell::new(None),
             cut_off: Cell::new(None),
             moved: Cell::new(None),
@@ -245,20 +223,23 @@ impl<'w> Failures<'w> {
 
     /// Keeps two names that are one file.
     pub fn note_twice(&self, one: &str, other: &str) {
-        let other = Some(self.word(other));
-        let one = self.word(one);
-        self.twice.set(Some(Twice { one, other }));
+        let (words, one, other) = (self.words, self.word(one), Some(self.word(other)));
+        self.twice.set(Some(Twice { words, one, other }));
     }
 
     /// Keeps a name of a file that is also standard error's, or has some other name.
     pub fn note_used(&self, one: &str, is_for_faults: bool) {
-        let other = is_for_faults.then_some(FAULTS);
-        let one = self.word(one);
-        self.twice.set(Some(Twice { one, other }));
+        let other = is_for_faults.then_some("standard error");
+        let (words, one) = (self.words, self.word(one));
+        self.twice.set(Some(Twice { words, one, other }));
     }
 
     /// Begins to count what is read of a file.
     pub fn begin_reading(&self, name: &'w str) {
+        self.read_before.set(self.last_read.get().name);
+        if self.named_by("--pass") == Some(name) {
+            self.typing.set(Typing::new());
+        }
         self.last_read.set(Amount::none(name));
     }
 
@@ -281,17 +262,14 @@ impl<'w> Failures<'w> {
         self.typing.get().untypable()
     }
 
-    /// Whether the words are of one of these commands.
-    pub(crate) fn is_of(&self, commands: &[&str]) -> bool {
-        match self.words.first() {
-            Some(word) => commands.contains(word),
-            None => false,
-        }
+    /// Whether the words are of this command.
+    pub(crate) fn is_of(&self, command: &str) -> bool {
+        self.words.first() == Some(&command)
     }
 
     /// Whether the words are those of a run that reports on a header.
     pub(crate) fn is_inspecting(&self) -> bool {
-        self.words.is_empty() || self.is_of(&["inspect"])
+        self.words.is_empty() || self.is_of("inspect")
     }
 
     /// Keeps the name of a file that became shorter while it was read.
@@ -299,19 +277,9 @@ impl<'w> Failures<'w> {
         self.cut_off.set(Some(name));
     }
 
-    /// Which file became shorter while it was read.
-    pub(crate) fn cut_off(&self) -> Option<&'w str> {
-        self.cut_off.get()
-    }
-
     /// Keeps the name of a file that was written, if another file or none is there now.
     pub fn note_moved(&self, name: &'w str) {
         self.moved.set(Some(name));
-    }
-
-    /// The name of a file that was written, at which another file or none is now.
-    pub(crate) fn moved(&self) -> Option<&'w str> {
-        self.moved.get()
     }
 
     /// Keeps the name of a file that was written, if its file system can't wait for the disk.
@@ -319,29 +287,9 @@ impl<'w> Failures<'w> {
         self.unwaited.set(Some(name));
     }
 
-    /// The name of a file that was written, whose file system can't wait for the disk.
-    pub(crate) fn unwaited(&self) -> Option<&'w str> {
-        self.unwaited.get()
-    }
-
     /// Keeps that a file that isn't to be replaced is empty.
     pub fn note_left_empty(&self) {
         self.is_left_empty.set(true);
-    }
-
-    /// Whether a file that isn't to be replaced is empty.
-    pub(crate) fn is_left_empty(&self) -> bool {
-        self.is_left_empty.get()
-    }
-
-    /// What failed first.
-    pub(crate) fn first(&self) -> Option<Failure<'w>> {
-        self.first.get()
-    }
-
-    /// What kept a position from being saved.
-    pub(crate) fn unsaved(&self) -> Option<Failure<'w>> {
-        self.unsaved.get()
     }
 
     /// The file that an option names on the command line.
@@ -361,14 +309,9 @@ impl<'w> Failures<'w> {
         None
     }
 
-    /// Which names were found to be one file.
-    pub(crate) fn twice(&self) -> Option<Twice<'w>> {
-        self.twice.get()
-    }
-
-    /// Which file was opened last to be read, and how much of it was.
-    pub(crate) fn last_read(&self) -> Amount<'w> {
-        self.last_read.get()
+    /// Whether a key is given that is no passphrase.
+    pub(crate) fn has_key(&self) -> bool {
+        self.named_by("--file-key").is_some() || self.named_by("--shared").is_some()
     }
 }
 

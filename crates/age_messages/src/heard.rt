@@ -41,11 +41,6 @@ impl<O: Sink> Heard<O> {
             _ => "",
         }
     }
-
-    /// Whether it was too long to be kept.
-    pub(crate) fn is_long(&self) -> bool {
-        !self.is_whole
-    }
 }
 
 impl<O: Sink> Sink for Heard<O> {

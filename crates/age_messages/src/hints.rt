@@ -25,16 +25,12 @@ impl<'l> Reported<'l> {
         self.place == "line 1"
     }
 
-    /// What is wrong, which is followed by the place if it ends with a space, and what to do.
-    /// docs/FAULTS.md has the same sentences. Nothing is known of 26 and 27 but what the machine
-    /// answered.
-    pub(crate) fn sentence(&self) -> (&'static str, &'static str) {
+    /// What is wrong, with `@` for the place, and what to do. docs/FAULTS.md says to do the same.
+    /// 11 names the work factor, and 26 and 27 what the machine answered.
+    pub(crate) fn sentence(&self) -> &'static str {
         match self.number {
             7 | 8 if self.is_at_first_line() => {
-                (
-                    "this may not be an age file",
-                    "its first line has no newline",
-                )
+                "this may not be an age file: its first line has no newline"
             }
             12 | 13 => sentence_of_key(self.number, self.by_pass),
             1..=15 => sentence_of_head(self.number),
@@ -44,105 +40,83 @@ impl<'l> Reported<'l> {
     }
 }
 
-fn sentence_of_key(number: u8, by_pass: bool) -> (&'static str, &'static str) {
+fn sentence_of_key(number: u8, by_pass: bool) -> &'static str {
     match number {
-        12 if by_pass => ("it isn't encrypted with a passphrase", OTHER_KEYS),
-        12 => ("it isn't encrypted to an X25519 recipient", OTHER_KEYS),
-        _ if by_pass => (
-            "the passphrase doesn't open it",
-            "check the passphrase: only one trailing newline in its file is ignored, not a second \
-             one, a carriage return or a BOM",
-        ),
-        _ => (
-            "the shared secret doesn't open it",
-            "check the shared secret",
-        ),
+        12 if by_pass => {
+            "it isn't encrypted with a passphrase: age_tool inspect shows its stanzas; a key file \
+             is for age -d -i, or for python3 -m agefile decrypt --identity"
+        }
+        12 => {
+            "it isn't encrypted to an X25519 recipient: age_tool inspect shows its stanzas; a key \
+             file is for age -d -i, or for python3 -m agefile decrypt --identity"
+        }
+        _ if by_pass => {
+            "the passphrase doesn't open it: check the passphrase: only one trailing newline in its \
+             file is ignored, not a second one, a carriage return or a BOM"
+        }
+        _ => "the shared secret doesn't open it: check the shared secret",
     }
 }
 
-const OTHER_KEYS: &str = "age_tool inspect shows its stanzas; a key file is for age -d -i, or for \
-     python3 -m agefile decrypt --identity";
-
-fn sentence_of_head(number: u8) -> (&'static str, &'static str) {
+fn sentence_of_head(number: u8) -> &'static str {
     match number {
-        1 => (
-            "not an age file",
-            "an age file begins with the line age-encryption.org/v1",
-        ),
-        2 => (
-            "it is armored",
-            "remove the armor first: grep -v '^-----' f.asc | tr -d '\\r' | base64 -d > f.age",
-        ),
-        3 | 4 | 5 | 6 => ("its header is damaged at ", "fetch the file again"),
-        7 => (
-            "its header is too long",
-            "no age program writes a header this large, except for thousands of recipients: check \
-             where the file comes from",
-        ),
-        8 => ("cut off in its header at ", "fetch all of it"),
-        9 | 10 => (
-            "altered or forged",
-            "no age program writes such a header: don't trust the file",
-        ),
-        11 => (
-            "its work factor is above the limit",
-            "if you trust the file, retry with a larger --max-log (up to 22; N needs 2^N KiB of \
-             memory)",
-        ),
-        14 => (
-            "the key doesn't match its header",
-            "the header was altered, or --file-key is the key of another file",
-        ),
-        _ => (
-            "malformed for the shared secret",
-            "check the file of --shared; if it is right, fetch the age file again",
-        ),
+        1 => "not an age file: an age file begins with the line age-encryption.org/v1",
+        2 => {
+            "it is armored: remove the armor first: \
+             grep -v '^-----' f.asc | tr -d '\\r' | base64 -d > f.age"
+        }
+        3 | 4 | 5 | 6 => "its header is damaged at @: fetch the file again",
+        7 => {
+            "its header is too long: no age program writes a header this large, except for \
+             thousands of recipients: check where the file comes from"
+        }
+        8 => "cut off in its header at @: fetch all of it",
+        9 | 10 => { "altered or forged: no age program writes such a header: don't trust the file" }
+        14 => {
+            "the key doesn't match its header: the header was altered, or --file-key is the key of \
+             another file"
+        }
+        15 => {
+            "malformed for the shared secret: check the file of --shared; if it is right, fetch \
+             the age file again"
+        }
+        _ => "",
     }
 }
 
-fn sentence_of_payload(number: u8) -> (&'static str, &'static str) {
+fn sentence_of_payload(number: u8) -> &'static str {
     match number {
-        16 => ("cut off after its header", "fetch all of it"),
-        17 => ("damaged or cut off at ", "fetch it again"),
-        18 | 20 => ("cut off at ", "fetch the rest"),
-        19 => (
-            "cut off or altered at ",
-            "fetch it again; if this happens again, don't trust the file",
-        ),
-        21 => (
-            "something was appended",
-            "OUT has the whole text, but the file isn't as its writer left it",
-        ),
-        _ => ("more than 2^48 chunks", "split the plaintext"),
+        16 => "cut off after its header: fetch all of it",
+        17 => "damaged or cut off at @: fetch it again",
+        18 | 20 => "cut off at @: fetch the rest",
+        19 => {
+            "cut off or altered at @: fetch it again; if this happens again, don't trust the file"
+        }
+        21 => {
+            "something was appended: OUT has the whole text, but the file isn't as its writer left it"
+        }
+        _ => "more than 2^48 chunks: split the plaintext",
     }
 }
 
-fn sentence_of_rest(number: u8) -> (&'static str, &'static str) {
+fn sentence_of_rest(number: u8) -> &'static str {
     match number {
-        23 => (
-            "not a position",
-            "--position takes the file that --save wrote",
-        ),
-        24 => (
-            "not the file of the position",
-            "IN must be the file that was being decrypted when the position was saved",
-        ),
-        25 => ("shorter than the position says", OLD),
-        28 => (
-            "out of memory",
-            "a passphrase with work factor N takes 2^N KiB of memory",
-        ),
-        29 => (
-            "read 2^63 times without ending",
-            "supply an input that ends",
-        ),
-        30 => (
-            "altered, or not of this file's key",
-            "use the position file exactly as --save wrote it",
-        ),
-        31 => ("not the text of the position", OLD),
-        _ => ("", ""),
+        23 => "not a position: --position takes the file that --save wrote",
+        24 => {
+            "not the file of the position: IN must be the file that was being decrypted when the \
+             position was saved"
+        }
+        25 => {
+            "shorter than the position says: --old takes the output of the run that saved the position"
+        }
+        28 => "out of memory: a passphrase with work factor N takes 2^N KiB of memory",
+        29 => "read 2^63 times without ending: supply an input that ends",
+        30 => {
+            "altered, or not of this file's key: use the position file exactly as --save wrote it"
+        }
+        31 => {
+            "not the text of the position: --old takes the output of the run that saved the position"
+        }
+        _ => "",
     }
 }
-
-const OLD: &str = "--old takes the output of the run that saved the position";

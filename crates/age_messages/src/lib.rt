@@ -17,6 +17,7 @@ mod line;
 mod line_style;
 mod progress_line;
 mod text;
+mod twice;
 mod typing;
 
 pub use announcing::{

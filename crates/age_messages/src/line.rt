@@ -2,7 +2,7 @@
 
 ghost use Rattle.std.specs.Prelude.{◌≡◌, ◌+◌, ◌^◌, ◌≤◌, ◌<◌, ◌++◌, length, codes, decimal};
 ghost use Rattle.age_messages.specs.{percentage, measure_of, amount, padded, count_line, progress_line, mark};
-ghost use Rattle.age_messages.specs.{line_end, covering_end, line_step, line_share, share, last_text};
+ghost use Rattle.age_messages.specs.{line_end, line_step, line_share, share, last_text};
 ghost use Rattle.age_messages.specs.{two_digits, clock_text, rate, rate_text, left_text, pace};
 ghost use Rattle.age_messages.specs.{was_shown, run_end};
 
@@ -173,30 +173,17 @@ fn pace(whole: Option<u64>, count: u64, rate: u128) -> Line
     text
 }
 
-/// What ends a line.
-fn line_end(style: LineStyle, whole: Option<u64>, count: u64, millis: u64) -> Line
-    ensures text { result.items ≡ line_end style whole count millis }
+/// What ends a line; `cover` are spaces, if the line before it may be longer.
+fn line_end(style: LineStyle, whole: Option<u64>, count: u64, millis: u64, cover: &[u8]) -> Line
+    requires { length cover.now ≤ 10 }
+    ensures text { result.items ≡ line_end style whole count millis cover.now }
     ensures short { length result.items ≤ 130 }
 {
     match style {
         LineStyle::Rewritten => {
             let mut text = pace(whole, count, rate(count, millis));
+            push(&mut text, cover);
             push(&mut text, b"\r");
-            text
-        }
-        LineStyle::Separate => line_feed(),
-    }
-}
-
-/// What ends a line that may be shorter than the one before it.
-fn covering_end(style: LineStyle, count: u64, millis: u64) -> Line
-    ensures text { result.items ≡ covering_end style count millis }
-    ensures short { length result.items ≤ 130 }
-{
-    match style {
-        LineStyle::Rewritten => {
-            let mut text = pace(None, count, rate(count, millis));
-            push(&mut text, b"          \r");
             text
         }
         LineStyle::Separate => line_feed(),
@@ -279,7 +266,7 @@ fn share_line(style: LineStyle, whole: u64, count: u64, millis: u64) -> Line
     );
     push_share(&mut line, style, measure.size, count);
     push(&mut line, amount_in(measure.size, whole as u128).as_slice());
-    let end = line_end(style, Some(whole), count, millis);
+    let end = line_end(style, Some(whole), count, millis, &[]);
     push_unit(&mut line, measure, end.as_slice());
     line
 }
@@ -291,8 +278,11 @@ pub(crate) fn line_of(style: LineStyle, whole: Option<u64>, count: u64, millis: 
 {
     match whole {
         Some(whole) if count <= whole => share_line(style, whole, count, millis),
-        Some(_) => count_line(covering_end(style, count, millis).as_slice(), count),
-        None => count_line(line_end(style, None, count, millis).as_slice(), count),
+        Some(_) => count_line(
+            line_end(style, None, count, millis, b"          ").as_slice(),
+            count,
+        ),
+        None => count_line(line_end(style, None, count, millis, &[]).as_slice(), count),
     }
 }
 

@@ -12,9 +12,9 @@ use Rattle.age_command.specs.declared.ending.Usage.TheVariants.{SameFile}
 use Rattle.age_command.specs.Orders.{writing_order}
 use Rattle.age_command.specs.declared.ending.Ending.TheVariants.{Usage}
 use Rattle.age_cli.specs.{IsUnusable, NamesOne, encrypt_engine, Interruption}
-use Rattle.age_cli.specs.inner.{Concludes, EndsBy, FailsEarly, IsMaterialGiven, LacksMaterial, sealing_end}
+use Rattle.age_cli.specs.inner.{Concludes, EndsBy, FailsEarly, IsMaterialGiven, LacksMaterial, sealing_end, secret_of}
 use Rattle.age_cli.specs.declared.encrypt_command.Material.{Material}
-use Rattle.age_cli.proofs.{acts_judged, acts_unopened, came_did, concluded, acts_engine, did_came, fails_all, fails_then, runs_sealed, unopened_as}
+use Rattle.age_cli.proofs.{acts_judged, acts_unopened, came_did, concluded, acts_engine, did_came, fails_then, runs_sealed, unopened_as}
 use Rattle.age_cli.proofs.encrypt_command.encrypt_file.Goals as goal
 
 -- by the name of the random bytes
@@ -34,14 +34,6 @@ returns-in_err-material-clause-acts g c =
     let a = c.args.asked.now in
     acts_judged _ (Encrypt a) _ _ _ _ _ _ _ c.from_residual.ensures refl (subst (FailsWith a _ _ _) c.random_name-random_name.ensures c.in_err-material.ensures.fails) refl
 
-pub returns-in_err-secret-clause-acts : goal.returns-in_err-secret-clause-acts
-returns-in_err-secret-clause-acts g c =
-    let a = c.args.asked.now in
-    let made = subst (DoneWith a c.in_ok-material.material _ _) c.random_name-random_name.ensures c.in_ok-material.ensures.done in
-    let none = c.in_err-secret.ensures.none in
-    acts_judged _ (Encrypt a) _ _ _ _ _ _ _ c.from_residual-in_err-secret.ensures refl (fails_all made.1 (λ twice. absurd (made.2 twice))
-    (record { cause = inr (inl (inl (ap Usage none.0, (c.in_ok-material.material.pass.items, inl (made.0.pass, none.1))))) })) refl
-
 pub returns-in_err-source-clause-acts : goal.returns-in_err-source-clause-acts
 returns-in_err-source-clause-acts g c =
     let a = c.args.asked.now in
@@ -56,41 +48,42 @@ returns-clause-acts g c =
     let In = g.F.In.Source.view in
     let Out = g.F.Out.Sink.view in
     let old = view c.args.files.now in
-    let opened = view c.open_both.new.files in
+    let opened = view c.open_sealing.new.files in
     let mid = view c.finish.new.self in
-    let new = view c.conclude.new.files in
+    let new = view c.end_output.new.files in
     let made = subst (DoneWith a c.in_ok-material.material _ _) c.random_name-random_name.ensures c.in_ok-material.ensures.done in
     let both = c.in_ok-source.ensures.done in
+    let secret = secret_of c.in_ok-material.material in
     let run = c.seal_text-end in
     let source = c.in_ok-source.source in
     let before = ports (In source) (Out c.in_ok-source.out) in
     let after = ports (In run.result.source) (Out run.new.out) in
-    let did = c.conclude.ensures.concludes in
+    let did = c.end_output.ensures.concludes in
     let xs : List Event = Opened a.pass.now ∷ Opened (random_name (option_text a.random)) ∷ [] in
     let ys : List Event = Opened a.from.now ∷ [] in
     let gave = Gave (reading_of a.from.now (In run.result.source)) in
-    let over = c.finish.ensures.over a.from.now (run.ensures.began a.from.now both.0.1) in
+    let over = c.finish.ensures.over a.from.now (run.ensures.began a.from.now both.0.1.1) in
     let ended : Does [] opened mid = does_only opened mid (gave ∷ []) over (gave_puts (reading_of a.from.now (In run.result.source))) in
     let all = does_then xs (ys ++ creating a.clobber a.to.now ∷ []) _ _ _ made.1 both.1 in
-    let concludes = subst (λ (n : Result (Unit {0}) Interruption). Concludes None a.durability after.sink did.0 n mid new c.conclude.result) c.sealing_end.ensures did.1 in
-    let grows = concluded None a.durability after.sink did.0 (sealing_end run.result.end) mid new c.conclude.result concludes in
+    let concludes = subst (λ (n : Result (Unit {0}) Interruption). Concludes None a.durability after.sink 0 n mid new c.end_output.result) c.sealing_end.ensures did in
+    let grows = concluded None a.durability after.sink 0 (sealing_end run.result.end) mid new c.end_output.result concludes in
     let last : (o : Outcome) → CameSince old mid o → CameSince old new o = came_then grows.puts old mid new grows.grows in
     let then : (o : Outcome) → CameSince old opened o → CameSince old new o = λ o came. last o (came_did ended o came) in
     let given : (o : Outcome) → CameSince old _ o → CameSince old new o = λ o came. then o (came_did both.1 o came) in
     let size = g.F.FileSet.size source in
-    acts_engine _ (Encrypt a) old opened new _ _ _ (encrypt_engine c.in_ok-secret.secret)
-    (record { from = a.from.now; to = a.to.now; save = None; clobber = a.clobber }) before c.conclude.result xs ys size
-    (record { source = source; sink = c.in_ok-source.out; is = refl }) both.0.0 (then _ (did_came made.1 _ both.0.3)) (λ refused. then _ (did_came made.1 _ (both.0.4 refused))) both.0.2
-    (runs_sealed _ (CameSince old new) a c.in_ok-secret.secret before after opened mid new _ _ _ size did.0 run.result.end c.conclude.result
+    acts_engine _ (Encrypt a) old opened new _ _ _ (encrypt_engine secret)
+    (record { from = a.from.now; to = a.to.now; save = None; clobber = a.clobber }) before c.end_output.result xs ys size
+    (record { source = source; sink = c.in_ok-source.out; is = refl }) both.0.1.0 (then _ (did_came made.1 _ both.0.1.3)) (λ refused. then _ (did_came made.1 _ (both.0.1.4 refused))) both.0.1.2
+    (runs_sealed _ (CameSince old new) a secret before after opened mid new _ _ _ size 0 run.result.end c.end_output.result
     (record { source = run.result.source; sink = run.new.out; is = refl }) (last gave (did_came all gave (came_one opened mid gave (ap (λ v. v.outcomes) over)))) ended
-    run.ensures.done run.ensures.fails run.ensures.named concludes run.ensures.silent run.ensures.shown) all refl refl (λ P holds. (
-      c.in_ok-secret.secret,
+    (run.ensures.done secret both.0.0) (run.ensures.fails secret both.0.0) concludes run.ensures.silent run.ensures.shown) all refl refl (λ P holds. (
+      secret,
       record {
-        pass = c.in_ok-material.material.pass.items;
-        random = made.0.bytes;
-        pass_given = all_as _ _ given a.pass.now c.in_ok-material.material.pass.items made.0.pass;
-        random_given = given_as _ _ given (random_name (option_text a.random)) made.0.bytes made.0.random;
-        makes = c.in_ok-secret.ensures.makes made.0.bytes made.0.random_is;
+        pass = made.0.pass;
+        random = made.0.random;
+        pass_given = all_as _ _ given a.pass.now made.0.pass made.0.pass_given;
+        random_given = given_as _ _ given (random_name (option_text a.random)) made.0.random made.0.random_given;
+        makes = made.0.makes;
       },
       holds,
     )) refl made.2

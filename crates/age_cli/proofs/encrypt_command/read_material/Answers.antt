@@ -1,4 +1,4 @@
-use Rattle.std.proofs.Common.{◌∷◌, [], inl, inr}
+use Rattle.std.proofs.Common.{◌∷◌, [], Some, ap, inl, inr, refl}
 use Rattle.age_fileset.specs.{Opened}
 use Rattle.age_fileset.proofs.{all_as, does_then, given_as}
 use Rattle.age_cli.proofs.{blamed_for, came_did, did_came, ends_as, fails_for, fails_longer, fails_then, holds_as, opens_not}
@@ -28,13 +28,27 @@ returns g c =
     let pass = c.in_ok-pass.ensures.done in
     let random = c.in_ok-random.ensures.done in
     let before = does_then [] (Opened a.pass.now ∷ []) _ _ _ checked.1 pass.1 in
+    let words = pass.0 in
+    let parts = random.0.2 in
     record {
       done = (
         record {
-          pass = all_as _ _ (λ o came. did_came checked.1 o (came_did random.1 o came)) _ _ pass.0;
-          bytes = random.0.0;
-          random = given_as _ _ (did_came before) _ _ random.0.1;
-          random_is = random.0.2;
+          pass = words.0;
+          random = random.0.0;
+          pass_given = all_as _ _ (λ o came. did_came checked.1 o (came_did random.1 o came)) _ _ words.1;
+          random_given = given_as _ _ (did_came before) _ _ random.0.1;
+          makes = record {
+            passphrase = (words.0, refl, words.2);
+            log_is = words.3;
+            within = words.4;
+            random_is = record {
+              rest = parts.rest;
+              bytes = ap Some parts.parts;
+              key_length = parts.key_length;
+              salt_length = parts.salt_length;
+              nonce_length = parts.nonce_length;
+            };
+          };
         },
         does_then (Opened a.pass.now ∷ []) (Opened c.args.random_name.now ∷ []) _ _ _ before random.1,
         checked.2,

@@ -10,7 +10,10 @@ returns-in_err-held g c =
     (λ same. inr (inl (refl, (c.args.asked.now.pass.now, read.in_use same)))) (λ is. record { cause = read.reason is })))
 
 pub returns-in-Some : goal.returns-in-Some
-returns-in-Some g c = record { done = (rw c.in-Some.ensures.some.0 at c.in_ok-held.ensures.given, c.read.ensures.does, (λ no. no)); fails = tt }
+returns-in-Some g c =
+    let words = c.in-Some.ensures.some in
+    let gave = rw words.0.1 at c.in_ok-held.ensures.given in
+    record { done = ((words.0.0, gave, words.0.2, words.1, words.2), c.read.ensures.does, (λ no. no)); fails = tt }
 
 pub returns-in-None : goal.returns-in-None
 returns-in-None g c =

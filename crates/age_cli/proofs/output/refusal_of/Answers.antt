@@ -14,7 +14,7 @@ returns-then-is_for_faults-clause-does g c =
 pub returns-then-is_for_faults-clause-taken : goal.returns-then-is_for_faults-clause-taken
 returns-then-is_for_faults-clause-taken g c =
     let Files = g.F.FileSet.view in
-    let name = (g.F.Out.Sink.view c.args.out.now).label in
+    let name = (g.F.Out.Sink.view c.args.out.now).taken.label in
     inl (
       refl,
       (

@@ -7,7 +7,7 @@ use Rattle.age_cli_args.specs.declared.request.Request.TheVariants.{Resume}
 use Rattle.age_command.specs.{HoldsOnly, creating, identity_order, preparing, making}
 use Rattle.age_cli.specs.{CameFirst, HoldsNoPosition, paths_of}
 use Rattle.age_cli.specs.inner.{IsUnopened}
-use Rattle.age_cli.proofs.{acts_judged, acts_unopened, acts_engine, did_came, came_did, ends_as, fails_longer, fails_then, first_came, holds_as, opens_as}
+use Rattle.age_cli.proofs.{acts_judged, acts_unopened, acts_engine, concluded, did_came, came_did, ends_as, fails_longer, fails_then, first_came, holds_as, opens_as}
 use Rattle.age_cli.proofs.{taken_as, then_first, unopened_as}
 use Rattle.age_cli.proofs.resume_command.resume_file.Goals as goal
 
@@ -54,9 +54,9 @@ returns-clause-acts g c =
     let rest : List Event = Opened d.from.now ∷ (preparing (option_text d.save) (Some r.position.now) ++ creating d.clobber d.to.now ∷ []) in
     let opened = does_then two rest _ _ _ earlier.1 both.1 in
     let did = does_then xs (two ++ rest) _ _ _ judged.1 opened in
-    let grows = c.resume_opened.ensures.grows in
-    let last : (o : Outcome) → CameSince old mid o → CameSince old new o = came_then grows.0 old mid new grows.1 in
-    let run = c.resume_opened.ensures.opened old (did_came did) earlier.0.1 (last _ (did_came judged.1 _ (came_did both.1 _ earlier.0.3))) in
+    let run = c.resume_opened.ensures.opened old (did_came did) earlier.0.1 (did_came judged.1 _ (came_did both.1 _ earlier.0.3)) in
+    let grows = concluded (option_text d.save) d.durability run.after.sink run.settled run.end mid new c.resume_opened.result run.concludes in
+    let last : (o : Outcome) → CameSince old mid o → CameSince old new o = came_then grows.puts old mid new grows.grows in
     let later : (o : Outcome) → CameSince then mid o → CameSince old new o = λ o came. last o (did_came judged.1 o (did_came earlier.1 o came)) in
     acts_engine _ (Resume r) old mid new _ _ _ _ (paths_of d) before c.resume_opened.result xs ys (g.F.FileSet.size source)
     (record { source = source; sink = c.in_ok-source.out; is = refl }) both.0.0 (later _ both.0.3) (λ refused. later _ (both.0.4 refused)) both.0.2 run did refl refl (λ P holds. (
@@ -64,7 +64,7 @@ returns-clause-acts g c =
       opens_as (λ o came. last o (came_did opened o came)) judged.0,
       c.in_ok-position.position,
       all_as (CameSince _ then) (CameFirst old new) (λ o came. then_first old _ new (grows_by xs old _ judged.1) o
-          (first_came _ _ then new (grows_by two _ then earlier.1) (grows_then [] grows.0 then mid new (grows_by rest then mid both.1) grows.1) o came)) r.position.now
+          (first_came _ _ then new (grows_by two _ then earlier.1) (grows_then [] grows.puts then mid new (grows_by rest then mid both.1) grows.grows) o came)) r.position.now
           (position_text c.in_ok-position.position) earlier.0.0,
       holds,
     )) refl judged.2

@@ -37,5 +37,4 @@ loop-at-preserved g c =
           (Appends-trans _ _ _ (take at bytes) (take n (take (length bytes - at) (drop at bytes))) kept.wrote put.bytes);
       count = omega (arith, kept.count);
       failed = put.counted ∙ kept.failed;
-      named = put.named ∙ kept.named;
     }

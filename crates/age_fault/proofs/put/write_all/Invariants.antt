@@ -7,7 +7,6 @@ invariant-loop-at g l = record {
   within : l.at ≤ length l.bytes;
   wrote : Appends (g.O.Sink.view l.fn.sink).taken (g.O.Sink.view l.sink).taken (take l.at l.bytes);
   count : l.written ≡ l.fn.written + l.at;
-  named : (g.O.Sink.view l.sink).label ≡ (g.O.Sink.view l.fn.sink).label;
   failed : (g.O.Sink.view l.sink).failed ≡ (g.O.Sink.view l.fn.sink).failed;
 }
 

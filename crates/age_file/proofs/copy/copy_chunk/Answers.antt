@@ -52,7 +52,7 @@ returns-in_err-write_all-clause-copied g c =
     let unread = c.need_bytes.new.reader.intake.now.bytes in
     rw (err_is c.from_residual-in_err-write_all.result c.from_residual-in_err-write_all.ensures.1, c.in_err-write_all.ensures.fault) (record {
       out = kept.copied ++ put.out;
-      wrote = wrote_then kept.wrote (record { bytes = put.wrote; count = put.count; named = c.in_err-write_all.ensures.named });
+      wrote = wrote_then kept.wrote (record { bytes = put.wrote; count = put.count });
       answered = (
         omega (arith, kept.size, put.stopped, ap length put.parts, length-append {A = ℕ}, length-take n bytes, c.min-n.ensures),
         record {
@@ -97,7 +97,6 @@ parts-preserved g c =
       wrote = wrote_then {q = take n bytes} kept.wrote (record {
         bytes = subst (λ (t : List ℕ). Appends (g.O.Sink.view c.parts.writer.sink.now).taken (g.O.Sink.view c.write_all.new.sink).taken t) whole put.wrote;
         count = omega (arith, put.count, ap length whole);
-        named = c.in_ok-write_all.ensures.named;
       });
       failures = put.answered.1 ∙ kept.failures;
       index = kept.index;

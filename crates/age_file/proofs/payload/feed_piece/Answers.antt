@@ -58,7 +58,7 @@ returns-in_err-write_all-clause-fed g c = λ key k first fed h.
       released = fed_cut seals opens box_valid chunk_length (omega arith) kept after.key more (chunk_texts step.chunk)
           (after.stands (segment k front false) kept.stands) (c.in_ok-step.ensures.feeds.texts (segment k front false) kept.stands) (chunk_few
           step.chunk) is
-          (record { bytes = put.wrote; count = put.count; named = c.in_err-write_all.ensures.named }) put.stopped refl refl;
+          (record { bytes = put.wrote; count = put.count }) put.stopped refl refl;
       why = (rw c.loop-at.invariant.goes.1 at put.answered, inl put.stopped);
     })
 
@@ -91,7 +91,6 @@ loop-at-preserved g c =
           (lent_flat step.chunk ∙ is ∙ whole) (record {
             bytes = put.wrote;
             count = c.count.ensures.same ∙ put.count;
-            named = c.in_ok-write_all.ensures.named;
           }) (rw whole at c.count.ensures.counted));
       goes = (
         omega (

@@ -25,7 +25,7 @@ returns-in_err-write_all-clause-ends g c = λ key k first fed h.
       unwritten = put.unwritten;
       released = end_released seals opens box_valid chunk_length (omega arith) h after.key (after.stands (segment k fed false) h.stands)
           (rw put.parts at (c.in_ok-text.ensures.ends.text (segment k fed false) h.stands))
-          (record { bytes = put.wrote; count = put.count; named = c.in_err-write_all.ensures.named }) refl refl;
+          (record { bytes = put.wrote; count = put.count }) refl refl;
       answered = rw (p, c.in_err-write_all.ensures.fault) (put.answered, inr (refl, after.done));
     }
 
@@ -40,7 +40,6 @@ returns-clause-ends g c = λ key k first fed h.
           (rw put.parts at (c.in_ok-text.ensures.ends.text (segment k fed false) h.stands)) (record {
             bytes = Appends-kept _ _ _ _ put.wrote flushed.bytes;
             count = put.count;
-            named = flushed.named ∙ c.in_ok-write_all.ensures.named;
           }) refl refl;
       answered = answer_as c.flush_all.result flushed.counted flushed.fault (λ _ same. (after.done, put.answered.0, same ∙ put.answered.1))
           (λ _ is more. rw is ((more.0 ∙ ap (λ (k : ℕ). min (k + 1) (2 ^ 64 - 1)) put.answered.1, more.1), inr (refl, after.done)));

@@ -18,7 +18,7 @@ returns-in_err-write_all-clause-sealed g c = λ key first text h.
     let is = err_is c.from_residual-in_err-write_all.result c.from_residual-in_err-write_all.ensures.1 in (
       omega (arith, last.limit, h.holds.index),
       rw (is, c.in_err-write_all.ensures.fault) (last_cut (omega arith) h put.out put.unwritten
-          (record { bytes = put.wrote; count = put.count; named = c.in_err-write_all.ensures.named }) (rw put.parts at (last.chunk text h.holds))
+          (record { bytes = put.wrote; count = put.count }) (rw put.parts at (last.chunk text h.holds))
           put.answered),
     )
 
@@ -31,6 +31,5 @@ returns-clause-sealed g c = λ key first text h.
       last_flushed (omega arith) h put.out put.unwritten (record {
         bytes = Appends-kept _ _ _ _ put.wrote flushed.bytes;
         count = put.count;
-        named = flushed.named ∙ c.in_ok-write_all.ensures.named;
       }) (rw put.parts at (last.chunk text h.holds)) c.flush_all.result put.answered.0 flushed.fault (rw put.answered.1 at flushed.counted),
     )

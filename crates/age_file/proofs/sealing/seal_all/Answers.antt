@@ -27,7 +27,7 @@ returns-in_err-refill-clause-sealed g c =
       fails = source_fails key chunk_length old (view_of_reader g.S.Source.view c.pulls.reader)
           (reader_view (g.S.Source.view c.refill.new.source) c.refill.new.self) (g.O.Sink.view c.pulls.writer.sink.now) kept.text
           c.in_err-refill.field-0.0 (kept.unfailed, kept.sealed.same) all r.answered.2;
-    }) kept.sealed.wrote.named)
+    }))
 
 pub seal_piece-requires : goal.seal_piece-requires
 seal_piece-requires g c =
@@ -107,5 +107,4 @@ returns-clause-sealed g c =
       counted = refl;
       fails = tt;
       settled = c.in_ok-finish.ensures.settled;
-      named = last.1.0.named;
     }

@@ -60,7 +60,7 @@ returns-in_err-write_all-clause-sealed g c = λ key first text h.
     rest)
     ∙ ap (λ (t : List ℕ). front ++ t) (take-append-drop step.taken rest) ∙ rejoined text piece at in
     rw (p, c.in_err-write_all.ensures.fault, ← all) (seal_cut (omega arith) kept (take step.taken rest) put.out put.unwritten
-    (record { bytes = put.wrote; count = put.count; named = c.in_err-write_all.ensures.named }) (rw is at (c.in_ok-step.ensures.takes.chunk front
+    (record { bytes = put.wrote; count = put.count }) (rw is at (c.in_ok-step.ensures.takes.chunk front
     kept.holds))
     (drop step.taken rest) put.answered)
 
@@ -90,7 +90,7 @@ loop-at-preserved g c =
           let on : front ++ take step.taken rest ≡ text ++ take (at + step.taken) piece = append_assoc text (take at piece) (take step.taken rest)
           ∙ ap (λ (t : List ℕ). text ++ t) (take_on at step.taken piece) in
           rw (← on) (seal_on (omega arith) kept (take step.taken rest) put.out put.unwritten
-          (record { bytes = put.wrote; count = put.count; named = c.in_ok-write_all.ensures.named }) (rw is at (ok.chunk front kept.holds)) after.key
+          (record { bytes = put.wrote; count = put.count }) (rw is at (ok.chunk front kept.holds)) after.key
           (record { unfinished = after.unfinished; sound = after.unfailed }) (after.holds front kept.holds) put.answered.0 put.answered.1);
     }
 

@@ -1,5 +1,5 @@
 -- The code makes a value of no bytes, and the walk picks what it stands for.
-use Rattle.std.proofs.Common.{[], ◌∷◌, refl, option_map, unwrap_or}
+use Rattle.std.proofs.Common.{[], ◌∷◌, refl}
 use Rattle.std.proofs.raw_atomic.Walks.{proved}
 use base.Fml.{ftrue}
 use mir.Syntax.{named}
@@ -16,7 +16,7 @@ use denote.Signature.{Slot, plain, shr_ref_to, named_lft, types_at}
 use denote.Steps.{nothing}
 use denote.Triple.Entry.{alive}
 use denote.Triple.Walked.{Stays, says, stay_dropped, Goes-dropped, ends_at}
-use Rattle.age_fileset.specs.inner.{once_done}
+use Rattle.age_fileset.specs.inner.Notes.{doings_of}
 use Rattle.age_fileset.specs.declared.log.Cell.{Cell}
 use Rattle.age_fileset.specs.contracts.log.Note.{the_row as Note}
 use Rattle.age_fileset.specs.contracts.log.Cell.{the_row as R}
@@ -36,9 +36,7 @@ of_spec 𝓤 𝓛 𝓜 𝓡 wired =
     proved 𝓛 f.ended stayed c 𝓜 𝓡 (Goes-dropped 𝓛 3 borrowed yes (λ κs x w. refl), tt)
     f.Key.name code.function (code.unfolded 𝓤 𝓛.H 𝓜 𝓡 wired) (λ κs. (shr_vals, tt))
     (λ κs. (shr_Tells (named 0) κs.0 (Note (named_lft 3 1 tt κs) (named_lft 3 2 tt κs)), tt)) (λ κs qs bounds a _ are.
-    let p = a.0.now in let vs = shr_vals a.0 in
-    let made : Cell =
-    record { done = once_done p.action (unwrap_or (option_map (λ b. b.now.done) p.before) (record { events = []; outcomes = [] })) } in
+    let vs = shr_vals a.0 in let made : Cell = record { done = doings_of a.0.now } in
     qed 𝓛 ((raw (alive 𝓛 f.signature κs qs) ⊛ ‵ (owns (types_at f.signature.params κs) a (vs, tt))) ∷ ‵ ftrue ∷ []) ∵
     split ! $ keep ! (0 ∷ []) $ enter ! _ _ _ _ _ $ alloc_all ! (λ l. pass_all ! refl ((tt, tt), tt) $
     sets ! (agg ! (no_more !)) refl (tt, tt) $ returns ! (look_at ! 0 refl) $ free_all ! refl $ suffices ! _

@@ -1,5 +1,5 @@
 use Rattle.age_cli.proofs.{saved_well, saved_badly}
-use Rattle.age_cli.proofs.interruption.end_of.Goals as goal
+use Rattle.age_cli.proofs.interruption.report_and_save.Goals as goal
 
 pub returns-in-Ok-clause-put : goal.returns-in-Ok-clause-put
 returns-in-Ok-clause-put g c = saved_well _ _ _ _ _ _ _ c.in-Ok.ensures.put

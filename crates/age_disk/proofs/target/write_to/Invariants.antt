@@ -1,5 +1,5 @@
 use Rattle.std.proofs.Common.{◌≡◌}
-use Rattle.age_disk.proofs.output.write_to.Given as goal
+use Rattle.age_disk.proofs.target.write_to.Given as goal
 
 -- each try so far wrote nothing
 abbrev pub invariant-loop : goal.invariant-loop

@@ -1,0 +1,150 @@
+//! What the bytes of a written file go to.
+
+ghost use Rattle.std.specs.Prelude.{◌≡◌, ◌++◌, [], None, true, OnErr, is_ok};
+ghost use Rattle.std.specs.Io.{WritesAtMost};
+ghost use Rattle.age_disk.specs.Targets.{regular_of};
+ghost use Rattle.age_disk.specs.inner.{part_of, TargetPuts};
+
+use crate::device::Device;
+use crate::names::{Stream, is_handed_on};
+use crate::sync::{Witness, sync_file};
+use age_io::Tape;
+use age_machine::calls::close;
+use age_machine::{HostMachine, Out, TRIES, is_to_retry, too_many_tries};
+use std::fs;
+use std::io::{self, Write};
+use std::os::fd::AsFd;
+use std::rt::{HostRuntime, Stderr, Stdout};
+
+/// How many bytes of what a pipe took aren't counted as certain, since the pipe and its reader may hold
+/// them: a network connection holds megabytes.
+const ON_THE_WAY: u64 = 4 << 20;
+
+/// Where its bytes go.
+#[derive(Drop)]
+pub(crate) enum Target {
+    /// A regular file that was opened.
+    File(Out<HostMachine>),
+    /// A pipe or a device that was opened.
+    Device(Device),
+    /// Standard output, from where it stands, and what its disk is waited for by.
+    Output(Stdout, Witness),
+    /// Standard error, from where it stands.
+    Faults(Stderr, Witness),
+}
+
+/// Writes to what is no regular file, and notes what it took: what no proof sees.
+fn write_once<W: Write>(to: &mut W, from: &[u8], handed: &mut Tape) -> io::Result<usize>
+    ensures bound { WritesAtMost result from.now }
+    ensures notes { handed.new ≡ handed.old ++ part_of result from.now }
+    ensures err { OnErr result (handed.new ≡ handed.old) }
+{
+    let n = to.write(from)?;
+    handed.note(&from[..n]);
+    Ok(n)
+}
+
+/// Writes, and tries again if the machine says to.
+fn write_to<W: Write>(
+    rt: &HostRuntime,
+    to: &mut W,
+    from: &[u8],
+    handed: &mut Tape,
+) -> io::Result<usize>
+    ensures bound { WritesAtMost result from.now }
+    ensures notes { handed.new ≡ handed.old ++ part_of result from.now }
+{
+    for _ in 0..TRIES {
+        match write_once(to, from, handed) {
+            Err(error) if is_to_retry(rt, &error) => {}
+            written => return written,
+        }
+    }
+    Err(too_many_tries())
+}
+
+impl Target {
+    pub(crate) fn write(
+        &mut self,
+        rt: &HostRuntime,
+        from: &[u8],
+        handed: &mut Tape,
+    ) -> io::Result<usize>
+        ensures bound { WritesAtMost result from.now }
+        ensures goes { TargetPuts (regular_of self.old) (regular_of self.new) (is_ok result)
+            (part_of result from.now) }
+        ensures handed { regular_of self.old ≡ None
+            → handed.new ≡ handed.old ++ part_of result from.now }
+    {
+        match self {
+            Target::File(_) if from.is_empty() => Ok(0),
+            Target::File(out) => out.put(from),
+            Target::Device(device) => write_to(rt, &mut device.file.file(), from, handed),
+            Target::Output(output, _) => write_to(rt, output, from, handed),
+            Target::Faults(faults, _) => write_to(rt, faults, from, handed),
+        }
+    }
+
+    /// Waits until what was written has reached the disk.
+    pub(crate) fn reach_disk(&mut self) -> io::Result<()>
+        ensures { TargetPuts (regular_of self.old) (regular_of self.new) true [] }
+    {
+        match self {
+            Target::File(out) => out.reach(),
+            Target::Device(device) => sync_file(device.file.file()),
+            Target::Output(_, witness) => witness.sync(),
+            Target::Faults(_, witness) => witness.sync(),
+        }
+    }
+
+    /// Closes a second descriptor of it, if one can be had: some file systems store a file only as
+    /// one is closed, and say only then that they can't.
+    pub(crate) fn close_copy(&self, rt: &HostRuntime) -> io::Result<()> {
+        let copy = match self {
+            Target::File(out) => out.file().file().as_fd().try_clone_to_owned(),
+            Target::Device(_) => return Ok(()),
+            Target::Output(..) => Stream::Output.copy(rt),
+            Target::Faults(..) => Stream::Faults.copy(rt),
+        };
+        match copy {
+            Ok(copy) => close(rt, copy),
+            Err(_) => Ok(()),
+        }
+    }
+
+    /// How long the file is to which its name leads; 0 if there is none.
+    pub(crate) fn length_by_name(&self, rt: &HostRuntime) -> u64 {
+        let path = match self {
+            Target::File(out) => out.path(),
+            Target::Device(_) => return u64::MAX,
+            Target::Output(..) => Stream::Output.path(),
+            Target::Faults(..) => Stream::Faults.path(),
+        };
+        match fs::metadata(rt, path) {
+            Ok(metadata) => metadata.len(),
+            Err(_) => 0,
+        }
+    }
+
+    /// How many of the last bytes may be on their way to whoever reads it.
+    pub(crate) fn on_the_way(&self, rt: &HostRuntime) -> u64 {
+        let found = match self {
+            Target::File(_) => return 0,
+            Target::Device(device) => device.file.file().metadata(),
+            Target::Output(..) => fs::metadata(rt, Stream::Output.path()),
+            Target::Faults(..) => fs::metadata(rt, Stream::Faults.path()),
+        };
+        match found {
+            Ok(metadata) if is_handed_on(&metadata) => ON_THE_WAY,
+            _ => 0,
+        }
+    }
+
+    /// Whether the disk can be waited for. If it can't, that is said at the end, once all is written.
+    pub(crate) fn can_reach_disk(&self) -> bool {
+        match self {
+            Target::File(_) | Target::Device(_) => true,
+            Target::Output(_, witness) | Target::Faults(_, witness) => !witness.is_missing(),
+        }
+    }
+}
