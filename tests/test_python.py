@@ -334,7 +334,7 @@ class PythonTest(BindingsCase):
         run = self.command("decrypt", "--pass", "pw", "-", "-", given=data[:-1])
         said = f"agefile: {agefile.Damaged(17, 2)}\nagefile: OUT has the first {2 * CHUNK} bytes of the text\n".encode()
         self.see("-m agefile", (run.returncode, run.stdout, run.stderr) == (1, text[:2 * CHUNK], said), run.stderr)
-        self.write("first.age", data[:-len(text) - 3 * 16] + b"*" + data[1 - len(text) - 3 * 16:])
+        self.write("first.age", flipped(data, -len(text) - 3 * 16))
         run = self.command("decrypt", "--pass", "pw", "first.age", "back")
         self.see("a damaged first chunk leaves OUT", run.returncode == 1 and b"17" in run.stderr and self.read("back") == text, run.stderr)
         for words in (("encrypt", "--log", "1", "plain"), ("decrypt", "made.age"), ("salvage", "made.age")):
