@@ -10,6 +10,7 @@ from ._reader import LOST, AgeReader
 from ._source import filled
 
 MOST = 64  # blocks that are read at once, if a call asks for so many: 4 MiB
+KEPT = 16  # blocks whose room is kept from call to call: 1 MiB
 
 
 class AgeFile(AgeReader):
@@ -22,7 +23,8 @@ class AgeFile(AgeReader):
         self._rest = bytearray()
         self._size = self._last = 0
         self._until = 0  # the number after the last block that a call needs
-        self._ahead: tuple[int, int, Bytes, int] | None = None  # the first block that was read ahead, the one after them, their bytes
+        self._blocks = Bytes(0)  # those that were read ahead,
+        self._ahead: tuple[int, int, int] | None = None  # the first of them, the number after the last, how many bytes they have
         if not self._can_seek:
             raise io.UnsupportedOperation("random_access needs a file that can be sought in")
         self._measure()
@@ -66,13 +68,14 @@ class AgeFile(AgeReader):
             count = min(self._until - number, MOST)
             if count <= 1:
                 return self._room.block.place, filled(self._from(number), self._room.block.view)
-            held = Bytes(count * BLOCK) if ahead is None else ahead[2]  # (a call needs fewer and fewer)
             self._ahead = None
-            have = filled(self._from(number), held.view[:count * BLOCK])
-            self._ahead = ahead = number, number + count, held, have
-        first, _, held, have = ahead
+            if len(self._blocks.held) < count * BLOCK:
+                self._blocks = Bytes(count * BLOCK)
+            have = filled(self._from(number), self._blocks.view[:count * BLOCK])
+            self._ahead = ahead = number, number + count, have
+        first, _, have = ahead
         at = (number - first) * BLOCK
-        return ctypes.addressof(held.place) + at, max(0, min(BLOCK, have - at))
+        return ctypes.addressof(self._blocks.place) + at, max(0, min(BLOCK, have - at))
 
     def _from(self, number: int) -> Any:
         """The file, at a block."""
@@ -94,15 +97,20 @@ class AgeFile(AgeReader):
             return call(word)
         finally:
             self._until, self._ahead = 0, None
+            if len(self._blocks.held) > KEPT * BLOCK:
+                self._blocks = Bytes(0)
 
     def _can_open_into(self) -> bool:
         place = self._place()
         return place % CHUNK == 0 and place < self._size
 
     def _next_into(self, out: memoryview) -> int:
-        number = self._place() // CHUNK
-        count = self._open_chunk(number, out)
-        self._stand(number * CHUNK + count)
+        """Opens the next chunk, and those after it that the call needs and that have room."""
+        first = self._place() // CHUNK
+        count = self._open_chunk(first, out)
+        for number in range(first + 1, min(self._until, first + len(out) // CHUNK)):
+            count += self._open_chunk(number, out[count:])
+        self._stand(first * CHUNK + count)
         return count
 
     def _find(self, place: int) -> None:

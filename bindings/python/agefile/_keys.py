@@ -13,7 +13,7 @@ from ._stanzas import base64_of, told_of
 Pair = Tuple[bytes, bytes]  # a shared secret, and the recipient that it is for
 
 WRONG_KEY = 13
-# How many pairs of a key and a stanza are tried: about a second. A header has room for 10,480 such stanzas, so one key is tried on each.
+# How many pairs of a key and a stanza are tried: about a second. A header has room for 10,699 such stanzas, so one key is tried on each.
 TRIES = 16_384
 TRIES_BY_OPENSSL = 64  # each of which takes a process
 NOTHING = bytes([1]) * 32, bytes(32)
