@@ -33,7 +33,7 @@ class AllocationsTest(Case):
         self.refuse("age_tests", "refusals::a_header")
 
     def test_scrypt(self):
-        self.refuse("age_primitive_tests", "a_refusal_is_reported")
+        self.refuse("age_tests", "primitives::a_refusal_is_reported")
 
     def test_replay(self):
         self.refuse("age_tests", "refusals::a_replay")

@@ -77,7 +77,7 @@ class ChecksTest(unittest.TestCase):
         check = loaded(TOP / "checks/trusted")
         for line in ("let _ = File::create(rt, path);", "file.set_len(0)?;", "fs::rename(rt, one, other)?;", "calls::remove(rt, path)?;"):
             with self.subTest(line), tempfile.TemporaryDirectory() as room:
-                place = pathlib.Path(room) / "age_host/src/files.rt"
+                place = pathlib.Path(room) / "age_disk/src/files.rt"
                 place.parent.mkdir(parents=True)
                 place.write_text(f"fn spoil() {{\n    {line}\n}}\n")
                 self.assertEqual(len([*check.unnoted([sources.Source(place, pathlib.Path(room))])]), 1)

@@ -111,7 +111,7 @@ REFUSED = (
     ("drill --clear script huge", "payload too long", "huge: its payload has more than 16,777,216 bytes"),
     ("encrypt --pass pass plain ./plain", TWICE, "./plain and plain are the same file"),
     ("encrypt --pass pass plain pass", TWICE, "--pass and OUT are the same file: pass"),
-    ("encrypt plain pass --pass=pass", TWICE, "OUT and --pass are the same file: pass"),
+    ("encrypt plain pass --pass=pass", TWICE, "--pass and OUT are the same file: pass"),
     ("encrypt --no-sync --pass pass --random plain --progress full.age plain", TWICE, "--random and OUT are the same file: plain"),
     ("decrypt --pass pass --save plain.age --no-clobber plain.age back", TWICE, "--save and IN are the same file: plain.age"),
     ("resume --position=position --save=position --old part --pass pass plain.age position", TWICE, "--position and --save and OUT are the same file: position"),
@@ -183,6 +183,20 @@ class MessagesTest(Case):
         ended = self.tool("encrypt", "--no-sync", "--pass", "pass", "", "")
         self.see("two empty names", ended.stderr == f'age_tool: {TWICE}\nage_tool: IN and OUT are the same file: ""\n'.encode(), ended.stderr)
         self.see("no file changes", [it.read_bytes() for it in files] == before and not self.is_there("back"))
+
+    def test_names_that_look_like_options(self):
+        """After `--` a word is a name, whatever it looks like."""
+        self.write("--pass=x", self.age)
+        self.write("--max-log", bytes(64))
+        for words, status, line, said in (
+            ("decrypt --shared secret -- --pass=x back", 1, "12 NoMatch", f"--pass=x: it isn't encrypted to an X25519 recipient: {KEYS} (age_tool help 12)"),
+            ("decrypt --pass pass -- --pass=x --pass=x", 2, TWICE, "IN and OUT are the same file: --pass=x"),
+            ("decrypt --pass pass --save full -- plain.age --no-clobber", 0, "", ""),
+            ("decrypt --shared other -- x25519 --max-log", 1, "13 WrongKey", "x25519: the shared secret doesn't open it: check the shared secret (age_tool help 13)"),
+        ):
+            ended = self.tool(*words.split())
+            said = "".join(f"age_tool: {it}\n" for it in (line, said) if it).encode()
+            self.see(words, (ended.returncode, ended.stderr + ended.advice) == (status, said), ended.stderr, ended.advice)
 
     def test_standard_input(self):
         """It has no name."""

@@ -1,23 +1,23 @@
 -- What becomes of OUT, from what an engine promises and how OUT was ended.
-use Rattle.std.proofs.Common.{◌≡◌, ◌∙◌, ◌⊎◌, ⊎_elim, ◌++◌, ◌∷◌, ◌<◌, ℕ, ap, sym, subst, refl, inl, inr, true, List, [], Option, Some, None, Result, Ok, Err}
+use Rattle.std.proofs.Common.{◌≡◌, ◌∙◌, ◌⊎◌, ◌++◌, ◌∷◌, ◌<◌, ℕ, ap, sym, subst, refl, inl, inr, true, List, [], Option, Some, None, Result, Ok, Err}
 use Rattle.std.proofs.Common.{OnOk, IfOk, IfErr}
-use Rattle.std.specs.Prelude.{IsErr, IsSomeAnd, IfSome, is_some, ◌≢◌}
+use Rattle.std.specs.Prelude.{IsSomeAnd, IfSome, is_some, ◌≢◌}
 use Rattle.clap.specs.Words.{Text}
-use Rattle.age_io.specs.declared.durability.Durability.{Durability}
 use Rattle.age_file.specs.{Ports, SecretView, EncryptsFront}
 use Rattle.age_file.specs.declared.encryption.Written.{Written}
 use Rattle.age_file.specs.Encrypts.{Encrypts}
 use Rattle.age_fault.specs.declared.fault.FileFault.{FileFault}
-use Rattle.age_fileset.specs.{Event, FilesView, Closed, Outcome, Found, Absent, Unwritten, Settled, Entry, entry, PutsOnly, CameSince}
+use Rattle.age_fileset.specs.{Event, FilesView, Close, Outcome, Found, Absent, Unwritten, Settled, Entry, entry, PutsOnly, CameSince}
 use Rattle.age_fileset.proofs.{grows_then}
 use Rattle.age_cli_args.specs.declared.request.ClobberOption.TheVariants.{Refused}
+use Rattle.age_cli_args.specs.declared.request.Paths.{Paths}
 use Rattle.age_command.specs.{Follows}
 use Rattle.age_command.specs.declared.ending.Ending.{Ending}
 use Rattle.age_command.specs.declared.ending.Ending.TheVariants.{Fault}
 use Rattle.age_machine.specs.{EndedFile, OutFile, TouchesItself}
-use Rattle.age_cli.specs.{WasRead, AreNew, Engine, encrypt_engine, LacksOne, Paths, Returned, HasEngineEnded, HasEngineStopped, Interruption}
+use Rattle.age_cli.specs.{WasRead, AreNew, Engine, encrypt_engine, Returned, HasEngineEnded, HasEngineStopped, Interruption}
 use Rattle.age_cli.specs.inner.{sealing_end, Concludes, IsPut}
-use Rattle.age_cli.proofs.PutLemmas.{stored_as}
+use Rattle.age_cli.proofs.PutLemmas.{saved_as}
 
 -- ---- What an engine promises, by how it ended.
 
@@ -32,20 +32,16 @@ pub sealing_ends : (secret : SecretView) (before after : Ports) (r : Result Writ
 sealing_ends secret before after (Ok written) ends = ((written, ends), ends.none_failed.1)
 sealing_ends secret before after (Err f) ends = tt
 
-pub sealing_stops : (secret : SecretView) (settled : ℕ) (before after : Ports) (r : Result Written FileFault) → IfErr r (EncryptsFront secret before after)
-    → IfErr (sealing_end r) (λ s. (encrypt_engine secret).stops settled s.fault s.position before after)
-sealing_stops secret settled before after (Ok written) fails = tt
-sealing_stops secret settled before after (Err f) fails = (fails, refl)
+pub sealing_stops : (secret : SecretView) (before after : Ports) (r : Result Written FileFault) → IfErr r (EncryptsFront secret before after)
+    → IfErr (sealing_end r) (λ s. (encrypt_engine secret).stops s.settled s.fault s.position before after)
+sealing_stops secret before after (Ok written) fails = tt
+sealing_stops secret before after (Err f) fails = (fails, refl)
 
 -- ---- What becomes of the file of OUT, and of the position.
 
-lacks_none : (save : Option Text) → LacksOne save None
-lacks_none None = tt
-lacks_none (Some name) = tt
-
-module _ (IsPorts : Ports → Type 0) (Came : Outcome → Type 0) (engine : Engine) (p : Paths) (durability : Durability) (before after : Ports)
-    (before_is : IsPorts before) (after_is : IsPorts after) (new : AreNew before) (input : WasRead Came (Found p.from) p.from before.source after.source)
-    (fresh : p.clobber ≡ Refused → Came (Absent p.to)) (named : after.sink.taken.label ≡ p.to) where
+module _ (IsPorts : Ports → Type 0) (Came : Outcome → Type 0) (engine : Engine) (p : Paths) (before after : Ports)
+    (before_is : IsPorts before) (after_is : IsPorts after) (new : AreNew before) (input : WasRead Came (Found p.from.now) p.from.now before.source after.source)
+    (fresh : p.clobber ≡ Refused → Came (Absent p.to.now)) (named : after.sink.taken.label ≡ p.to.now) where
   abbrev returned : (e : Option EndedFile) (out : EndedFile) → e ≡ Some out → out.took ≡ after.sink.taken.bytes → TouchesItself out → Returned IsPorts Came p e
   returned e out is took within = record {
     before = before;
@@ -61,20 +57,22 @@ module _ (IsPorts : Ports → Type 0) (Came : Outcome → Type 0) (engine : Engi
     within = within;
   }
 
-  same_entry : (out : EndedFile) → out.took ≡ after.sink.taken.bytes → entry after.sink.taken.label after.sink.taken.bytes ≡ entry p.to out.took
-  same_entry out took = ap (λ n. entry n after.sink.taken.bytes) named ∙ ap (λ b. entry p.to b) (sym took)
+  same_entry : (out : EndedFile) → out.took ≡ after.sink.taken.bytes → entry after.sink.taken.label after.sink.taken.bytes ≡ entry p.to.now out.took
+  same_entry out took = ap (λ n. entry n after.sink.taken.bytes) named ∙ ap (λ b. entry p.to.now b) (sym took)
 
-  module _ (old mid now : FilesView) (opened : PutsOnly [] old mid) (late : (o : Outcome) → CameSince mid now o → Came o) (settled : ℕ) where
+  module _ (old mid now : FilesView) (opened : PutsOnly [] old mid) (late : (o : Outcome) → CameSince mid now o → Came o) where
     pub engine_ended : (end : Result (Unit {0}) Interruption) → OnOk end (engine.ends before after × (after.sink.failed ≡ before.sink.failed)) → (r : Result (Unit {0}) Ending)
-        → Concludes p.save durability after.sink settled end mid now r → OnOk r (HasEngineEnded IsPorts Came engine p durability old now)
+        → Concludes engine.save p.durability after.sink end mid now r → OnOk r (HasEngineEnded IsPorts Came engine p old now)
     engine_ended (Ok x) did (Ok y) c =
         let o = the_some now.ended c.ended in
         record {
-          run = returned now.ended o.0 o.1 o.2.took o.2.within;
-          promise = did.0;
-          closed = o.2.closed;
-          there = o.2.there (did.1 ∙ new.failed);
-          safe = λ synced. o.2.safe synced (did.1 ∙ new.failed);
+          leaves = record {
+            run = returned now.ended o.0 o.1 o.2.took o.2.within;
+            promise = did.0;
+            closed = o.2.closed;
+            there = o.2.there (did.1 ∙ new.failed);
+            safe = λ synced. o.2.safe synced (did.1 ∙ new.failed);
+          };
           puts = subst (λ (x : Entry). PutsOnly (x ∷ []) old now) (same_entry o.0 o.2.took)
               (grows_then [] (entry after.sink.taken.label after.sink.taken.bytes ∷ []) old mid now opened c.puts_only);
         }
@@ -82,22 +80,23 @@ module _ (IsPorts : Ports → Type 0) (Came : Outcome → Type 0) (engine : Engi
     engine_ended end did (Err e) c = tt
 
     out_so : (out : EndedFile) → out.took ≡ after.sink.taken.bytes → (puts : List Entry) → IsPut after.sink puts
-        → (puts ≡ []) ⊎ ((puts ≡ entry p.to out.took ∷ []) × (out.took ≢ []))
+        → (puts ≡ []) ⊎ ((puts ≡ entry p.to.now out.took ∷ []) × (out.took ≢ []))
     out_so out took puts (inl none) = inl none
     out_so out took puts (inr (all, some)) = inr (all ∙ ap (λ (x : Entry). x ∷ []) (same_entry out took), (λ none. some (sym took ∙ none)))
 
-    pub engine_stopped : (done : List Event) → (now.events ≡ mid.events ++ Closed durability ∷ [] → Follows done old.events now.events) → (end : Result (Unit {0}) Interruption)
-        → OnOk end (engine.ends before after × (after.sink.failed ≡ before.sink.failed)) → IfErr end (λ s. engine.stops settled s.fault s.position before after)
-        → (IsErr end → is_some p.save ≡ true → Came (Settled durability after.sink.taken.bytes settled)) → (r : Result (Unit {0}) Ending)
-        → Concludes p.save durability after.sink settled end mid now r → IfErr r (λ e. HasEngineStopped IsPorts Came engine p durability done e old now)
+    pub engine_stopped : (done : List Event) → (now.events ≡ mid.events ++ Close p.durability ∷ [] → Follows done old.events now.events) → (end : Result (Unit {0}) Interruption)
+        → OnOk end (engine.ends before after × (after.sink.failed ≡ before.sink.failed)) → IfErr end (λ s. engine.stops s.settled s.fault s.position before after)
+        → IfErr end (λ s. is_some engine.save ≡ true → Came (Settled p.durability after.sink.taken.bytes s.settled)) → (r : Result (Unit {0}) Ending)
+        → Concludes engine.save p.durability after.sink end mid now r → IfErr r (λ e. HasEngineStopped IsPorts Came engine p done e old now)
     engine_stopped done closed (Ok x) did stops certain (Err (Fault f)) c =
         let o = the_some now.ended c.0.ended in
         record {
           run = returned now.ended o.0 o.1 o.2.took o.2.within;
           fault = f;
+          save = Ok tt;
           reported = refl;
           position = None;
-          settled = settled;
+          settled = 0;
           cause = inr (record {
             promise = did.0;
             is = (c.1, refl);
@@ -108,28 +107,28 @@ module _ (IsPorts : Ports → Type 0) (Came : Outcome → Type 0) (engine : Engi
           rest = [];
           puts = grows_then [] [] old mid now opened c.0.puts_only;
           out = inl refl;
-          saved = inl (refl, lacks_none p.save, closed c.0.noted);
+          saved = (refl, refl, closed c.0.noted);
         }
     engine_stopped done closed (Err s) did stops certain (Err e) c =
         let o = the_some now.ended c.ended in
         record {
           run = returned now.ended o.0 o.1 o.2.took o.2.within;
           fault = s.fault;
+          save = c.how;
           reported = c.reported;
           position = s.position;
-          settled = settled;
+          settled = s.settled;
           cause = inl (record {
             promise = stops;
             untouched = λ none. o.2.untouched (sym o.2.took ∙ none);
-            kept = λ some. o.2.kept (λ none. some (o.2.took ∙ none));
-            there = λ some. o.2.there (λ none. some (o.2.took ∙ none));
-            certain = λ there. subst (λ (b : List ℕ). Came (Settled durability b settled)) (sym o.2.took) (certain refl there);
+            kept = λ some. (o.2.kept (λ none. some (o.2.took ∙ none)), o.2.there (λ none. some (o.2.took ∙ none)));
+            certain = λ there. subst (λ (b : List ℕ). Came (Settled p.durability b s.settled)) (sym o.2.took) (certain there);
           });
           outs = c.outs;
           rest = c.rest;
           puts = grows_then [] (c.outs ++ c.rest) old mid now opened c.puts_only;
           out = out_so o.0 o.2.took c.outs c.out;
-          saved = ⊎_elim (λ due. inl (due.1, due.2, closed due.0)) (λ stored. inr (stored_as (CameSince mid now) Came late durability p.save settled s.position e c.rest now.saved stored)) c.saved;
+          saved = saved_as (CameSince mid now) Came late closed p.durability s.settled s.position engine.save c.how c.rest now.saved c.saved;
         }
     engine_stopped done closed (Ok x) did stops certain (Err e) c = absurd c
     engine_stopped done closed end did stops certain (Ok y) c = tt

@@ -1,7 +1,7 @@
 -- What a command did whose engine ran, and what progress shows.
-use Rattle.std.proofs.Common.{◌≡◌, ◌∙◌, ◌⊎◌, ◌++◌, ◌∷◌, [], ap, sym, subst, refl, inl, inr, true≢false, List, ℕ, Option, Some, None, Result, Ok, Err, OnOk}
+use Rattle.std.proofs.Common.{◌≡◌, ◌∙◌, ◌⊎◌, ◌++◌, ◌∷◌, [], ap, sym, subst, refl, inl, inr, true, false, true≢false, List, ℕ, Option, Some, None, Result, Ok, Err, OnOk}
 use Rattle.std.proofs.Common.{IfOk, IfErr, length}
-use Rattle.std.specs.Prelude.{IsOk, IfSome}
+use Rattle.std.specs.Prelude.{IsOk, IfSome, IsSomeAnd}
 use Rattle.std.proofs.lemmas.Result.{on_ok_weaker, IfErr-weaker}
 use Rattle.age_io.specs.{Shown as ShownOne, IsAtEnd, Adds, Begins, Ends, Lending, CountsSince}
 use Rattle.age_io.specs.Supply.{Supply}
@@ -9,10 +9,10 @@ use Rattle.age_fault.specs.declared.fault.FileFault.{FileFault}
 use Rattle.age_file.specs.{SecretView, EncryptsFront, Ports}
 use Rattle.age_file.specs.declared.encryption.Written.{Written}
 use Rattle.age_file.specs.Encrypts.{Encrypts}
-use Rattle.age_fileset.specs.{Event, Closed, FilesView, Outcome, Found, Absent, Gave, CameSince, Does, reading_of}
+use Rattle.age_fileset.specs.{Event, Close, FilesView, Outcome, Found, Absent, Gave, Settled, CameSince, Does, reading_of}
 use Rattle.age_fileset.proofs.{did_events, grows_by, then_came}
 use Rattle.age_command.proofs.{followed}
-use Rattle.age_cli_args.specs.declared.request.Encrypting.{Encrypting}
+use Rattle.age_cli_args.specs.declared.request.Paths.{Paths}
 use Rattle.age_cli_args.specs.declared.request.ProgressOption.{ProgressOption}
 use Rattle.age_cli_args.specs.declared.request.ProgressOption.TheVariants.{Shown, Silent}
 use Rattle.age_cli_args.specs.declared.request.ClobberOption.TheVariants.{Refused}
@@ -20,8 +20,8 @@ use Rattle.age_cli_args.specs.declared.request.Request.{Request}
 use Rattle.age_command.specs.{Follows, creating, making, replacing, NamesTwice, order_asked}
 use Rattle.age_command.specs.declared.ending.Ending.{Ending}
 use Rattle.age_cli.specs.Acts.{Acts}
-use Rattle.age_cli.specs.{AreNew, CameFirst, Engine, Paths, OfEngine, HasEngineEnded, HasEngineStopped, durability_of, progress_of, input_of, ShowsProgress}
-use Rattle.age_cli.specs.{ShowsReadings, ShowsRun, encrypt_engine, WasRead, Interruption}
+use Rattle.age_cli.specs.{AreNew, CameFirst, Engine, OfEngine, HasEngineEnded, HasEngineStopped, paths_of, ShowsProgress}
+use Rattle.age_cli.specs.{ShowsRun, encrypt_engine, WasRead, Interruption}
 use Rattle.age_cli.specs.inner.{Concludes, sealing_end, RunsEngine}
 use Rattle.age_cli.proofs.ActLemmas.{then_closed, then_concluded}
 use Rattle.age_cli.proofs.EngineLemmas.{engine_ended, engine_stopped, sealing_ends, sealing_stops}
@@ -72,32 +72,33 @@ sealed_named : (s : SecretView) (before after : Ports) (end : Result Written Fil
 sealed_named s before after (Ok w) ends fails = ends.wrote.named
 sealed_named s before after (Err f) ends fails = fails.wrote.named
 
+-- no position is saved of it
+sealed_unsaved : (P : Interruption → Type 0) (end : Result Written FileFault) → IfErr (sealing_end end) (λ s. false ≡ true → P s)
+sealed_unsaved P (Ok w) = tt
+sealed_unsaved P (Err f) = λ some. absurd (true≢false (sym some))
+
 -- an encryption ran, and the reading of IN was over before OUT was ended
-pub runs_sealed : (IsPorts : Ports → Type 0) (Came : Outcome → Type 0) (e : Encrypting) (secret : SecretView) (before after : Ports) (opened mid new : FilesView)
-    (Unshown : Type 0) (show_old show_new : Option (List ShownOne)) (size : Option ℕ) (settled : ℕ) (sealed : Result Written FileFault) (r : Result (Unit {0}) Ending)
-    → IsPorts after → Came (Gave (reading_of e.from.now after.source)) → Does [] opened mid → IfOk sealed (Encrypts secret before after)
+pub runs_sealed : (IsPorts : Ports → Type 0) (Came : Outcome → Type 0) (p : Paths) (secret : SecretView) (before after : Ports) (opened mid new : FilesView)
+    (Unshown : Type 0) (show_old show_new : Option (List ShownOne)) (size : Option ℕ) (sealed : Result Written FileFault) (r : Result (Unit {0}) Ending)
+    → IsPorts after → Came (Gave (reading_of p.from.now after.source)) → Does [] opened mid → IfOk sealed (Encrypts secret before after)
     → IfErr sealed (EncryptsFront secret before after)
-    → Concludes None e.durability after.sink settled (sealing_end sealed) mid new r
-    → (e.progress ≡ Silent → Unshown) → (e.progress ≡ Shown → ShowsRun size before.source.supply after.source.supply show_old show_new)
-    → RunsEngine IsPorts Came (encrypt_engine secret) (record { from = e.from.now; to = e.to.now; save = None; clobber = e.clobber }) e.durability e.progress
-    before opened new Unshown (λ coming left ended. ShowsReadings size coming left show_old show_new ended) r
-runs_sealed IsPorts Came e secret before after opened mid new Unshown show_old show_new size settled sealed r after_is over did ends fails concludes silent shown = record {
+    → Concludes None p.durability after.sink (sealing_end sealed) mid new r
+    → (p.progress ≡ Silent → Unshown) → (p.progress ≡ Shown → ShowsRun size before.source.supply after.source.supply show_old show_new)
+    → RunsEngine IsPorts Came (encrypt_engine secret) p before opened new Unshown (λ coming left. ShowsRun size coming left show_old show_new) r
+runs_sealed IsPorts Came p secret before after opened mid new Unshown show_old show_new size sealed r after_is over did ends fails concludes silent shown = record {
   after = after;
   after_is = after_is;
   over = over;
   end = sealing_end sealed;
-  settled = settled;
   ends = sealing_ends secret before after sealed ends;
-  stops = sealing_stops secret settled before after sealed fails;
+  stops = sealing_stops secret before after sealed fails;
   named = sealed_named secret before after sealed ends fails;
-  certain = λ failed some. absurd (true≢false (sym some));
-  concludes = concludes_from None e.durability after.sink settled opened mid new did (sealing_end sealed) r concludes;
+  certain = sealed_unsaved (λ s. Came (Settled p.durability after.sink.taken.bytes s.settled)) sealed;
+  concludes = concludes_from None p.durability after.sink opened mid new did (sealing_end sealed) r concludes;
   silent = silent;
-  shown = λ asked. (
-    shown asked,
-    sealed_to_end secret before after sealed r ends (on_ok_weaker r (λ done. done.0)
-        (concluded None e.durability after.sink settled (sealing_end sealed) mid new r concludes).done),
-  );
+  shown = shown;
+  whole = sealed_to_end secret before after sealed r ends (on_ok_weaker r (λ done. done.0)
+      (concluded None p.durability after.sink (sealing_end sealed) mid new r concludes).done);
 }
 
 -- what was opened is `old` to `mid`, and the engine ran until then; OUT was ended, and a position saved, until `new`
@@ -107,54 +108,41 @@ module _ (IsPorts : Ports → Type 0) (asked : Request) (old mid new : FilesView
   Came = CameSince old new
 
   abbrev opened : List Event
-  opened = xs ++ (ys ++ creating p.clobber p.to ∷ [])
+  opened = xs ++ (ys ++ creating p.clobber p.to.now ∷ [])
 
-  pub acts_engine : IsPorts before → AreNew before → Came (Found p.from before.source.supply.left size)
-      → (p.clobber ≡ Refused → Came (Absent p.to)) → before.sink.taken.label ≡ p.to
-      → RunsEngine IsPorts Came engine p (durability_of asked) (progress_of asked) before mid new Unshown
-      (λ coming left ended. ShowsReadings size coming left show_old show_new ended) r
+  pub acts_engine : IsPorts before → AreNew before → Came (Found p.from.now before.source.supply.left size)
+      → (p.clobber ≡ Refused → Came (Absent p.to.now)) → before.sink.taken.label ≡ p.to.now
+      → RunsEngine IsPorts Came engine p before mid new Unshown (λ coming left. ShowsRun size coming left show_old show_new) r
       → Does opened old mid
-      → (order_asked asked).done ≡ xs ++ (ys ++ making p.clobber (Some p.to) (durability_of asked))
-      → (order_asked asked).whole ≡ (xs ++ (ys ++ making p.clobber (Some p.to) (durability_of asked))) ++ replacing p.save (durability_of asked)
-      → ((P : Engine → Paths → Type 0) → P engine p → OfEngine IsPorts Came (CameFirst old new) asked P) → input_of asked ≡ Some p.from
+      → (order_asked asked).done ≡ xs ++ (ys ++ making p.clobber p.to.now p.durability)
+      → (order_asked asked).whole ≡ (xs ++ (ys ++ making p.clobber p.to.now p.durability)) ++ replacing engine.save p.durability
+      → ((P : Engine → Paths → Type 0) → P engine p → OfEngine IsPorts Came (CameFirst old new) asked P) → paths_of asked ≡ Some p
       → (NamesTwice (order_asked asked).apart → ⊥)
       → Acts IsPorts asked old new Unshown (ShowsProgress Came show_old show_new) r
-  acts_engine before_is begun found fresh named run did done_is whole_is of input_is apart =
-      let durability = durability_of asked in
+  acts_engine before_is begun found fresh named run did done_is whole_is of paths_is apart =
       let concludes = run.concludes in
-      let facts = concluded p.save durability run.after.sink run.settled run.end mid new r concludes in
+      let facts = concluded engine.save p.durability run.after.sink run.end mid new r concludes in
       let grows = grows_by opened old mid did in
       let noted = did_events opened old mid did in
       let late : (o : Outcome) → CameSince mid new o → Came o = then_came [] old mid new grows in
-      let read : WasRead Came (Found p.from) p.from before.source run.after.source = record { unread = begun.given; size = size; found = found; over = run.over } in
-      let closed : new.events ≡ mid.events ++ Closed durability ∷ [] → new.events ≡ old.events ++ (order_asked asked).done =
-      λ events. then_closed xs ys p.clobber p.to durability old.events mid.events new.events noted events ∙ ap (λ (order : List Event). old.events ++ order) (sym done_is) in
-      let shown : progress_of asked ≡ Shown → ShowsProgress Came show_old show_new (input_of asked) r =
-      λ is. subst (λ (n : Option (List ℕ)). ShowsProgress Came show_old show_new n r) (sym input_is)
-      (record {
-        size = size;
-        coming = before.source.supply;
-        left = run.after.source.supply;
-        failing = run.after.source.failing;
-        unread = begun.given;
-        found = found;
-        over = run.over;
-        shown = run.shown is;
-      }) in
+      let read : WasRead Came (Found p.from.now) p.from.now before.source run.after.source = record { unread = begun.given; size = size; found = found; over = run.over } in
+      let closed : new.events ≡ mid.events ++ Close p.durability ∷ [] → new.events ≡ old.events ++ (order_asked asked).done =
+      λ events. then_closed xs ys p.clobber p.to.now p.durability old.events mid.events new.events noted events ∙ ap (λ (order : List Event). old.events ++ order) (sym done_is) in
+      let shown : p.progress ≡ Shown → ShowsProgress Came show_old show_new p.from.now r =
+      λ is. record { first = before.source; last = run.after.source; reading = read; shown = run.shown is; whole = run.whole } in
       record {
-        done = on_ok_weaker r (λ ended. of (λ n q. HasEngineEnded IsPorts Came n q durability old new) ended)
-            (engine_ended IsPorts Came engine p durability before run.after before_is run.after_is begun read fresh (run.named ∙ named) old mid new grows late run.settled
+        done = on_ok_weaker r (λ ended. of (λ n q. HasEngineEnded IsPorts Came n q old new) ended)
+            (engine_ended IsPorts Came engine p before run.after before_is run.after_is begun read fresh (run.named ∙ named) old mid new grows late
             run.end run.ends r concludes);
-        stopped = IfErr-weaker r _ _ (λ e stop. inr (of (λ n q. HasEngineStopped IsPorts Came n q durability (order_asked asked).done e old new) stop))
-            (engine_stopped IsPorts Came engine p durability before run.after before_is run.after_is begun read fresh (run.named ∙ named) old mid new grows late run.settled
+        stopped = IfErr-weaker r _ _ (λ e stop. inr (of (λ n q. HasEngineStopped IsPorts Came n q (order_asked asked).done e old new) stop))
+            (engine_stopped IsPorts Came engine p before run.after before_is run.after_is begun read fresh (run.named ∙ named) old mid new grows late
             (order_asked asked).done (λ events. followed old.events new.events (order_asked asked).done (closed events)) run.end run.ends run.stops run.certain r concludes);
         blamed = IfErr-weaker r _ _ (λ e no usage. absurd (true≢false (sym usage ∙ no))) facts.fault;
         order = subst (λ (order : List Event). Follows order old.events new.events) (sym whole_is)
-            (then_concluded xs ys p.clobber p.to durability (replacing p.save durability) old.events mid.events new.events noted facts.order);
+            (then_concluded xs ys p.clobber p.to.now p.durability (replacing engine.save p.durability) old.events mid.events new.events noted facts.order);
         order_done = on_ok_weaker r (λ done. closed done.1) facts.done;
-        order_judged = IfErr-weaker r _ _ (λ e no usage. absurd (true≢false (sym usage ∙ no))) facts.fault;
         apart = λ twice. absurd (apart twice);
-        silent = run.silent;
-        progress = either_shown (progress_of asked) run.silent shown;
-        shown = always_ok r _ shown;
+        progress = subst (λ (o : Option Paths). Unshown ⊎ IsSomeAnd o (λ q. (q.progress ≡ Shown) × ShowsProgress Came show_old show_new q.from.now r)) (sym paths_is)
+            (either_shown p.progress run.silent (λ is. (is, shown is)));
+        shown = always_ok r _ (subst (λ (o : Option Paths). IfSome o (λ q. q.progress ≡ Shown → ShowsProgress Came show_old show_new q.from.now r)) (sym paths_is) shown);
       }

@@ -2,7 +2,7 @@
 use Rattle.std.proofs.Common.{◌≡◌, ◌≤◌, ◌*◌, ◌∙◌, ◌⊎◌, ◌++◌, ℕ, inl, inr, ap, sym, subst, refl, true, true≢false, List, [], ◌∷◌, length, take, Option, Some}
 use Rattle.std.proofs.Common.{None, append-nil, append_assoc, arith, rules, ⊎_elim, Bool, false, Result, Ok, Err}
 use Rattle.std.specs.Prelude.{IfSome, is_some, ◌==◌, bytes_eq, OnErr, IsErrAnd, if◌then◌else◌}
-use Rattle.std.specs.Option.{option_map_or}
+use Rattle.std.specs.Option.{option_map_or, option_or}
 use Rattle.std.specs.Io.KnownBytes.{Consumes, IsAtEnd, prepend_known}
 use Rattle.age_io.specs.Supply.{Supply}
 use Rattle.age_io.specs.{SourceView}
@@ -18,10 +18,9 @@ use Rattle.age_file.specs.{AnswersRight, Beginning, DecryptAnswers, BeginsWith, 
 use Rattle.age_file.specs.declared.decryption.Done.{Done}
 use Rattle.age_file.specs.{SecretView, AgeFile}
 use Rattle.age_file.specs.declared.decryption.Stopped.{Stopped}
-use Rattle.age_file.specs.declared.position.PositionPolicy.{PositionPolicy}
 use Rattle.age_file.specs.declared.position.Position.{Position}
 use Rattle.age_fault.specs.declared.fault.FileFault.{FileFault}
-use Rattle.age_machine.specs.{EndedFile}
+use Rattle.age_machine.specs.{EndedFile, SavedFile}
 use Rattle.age_fileset.specs.{Event, FilesView, Files, Entry, entry, entry_of, Outcome, Found, FoundOrEmpty, PutsOnly, CameSince, HasGiven, HasGivenAll, AreTrue}
 use Rattle.age_fileset.specs.{or_empty, puts_in}
 use Rattle.age_fileset.specs.declared.mem_entry.MemEntry.{MemEntry}
@@ -31,21 +30,24 @@ use Rattle.age_cli_args.specs.{Asks, IsDecrypting, IsForHelp, refusals, IsIdenti
 use Rattle.age_cli_args.specs.declared.request.IdentityOptions.{IdentityOptions}
 use Rattle.age_cli_args.specs.declared.request.Decrypting.{Decrypting}
 use Rattle.age_cli_args.specs.declared.request.Encrypting.{Encrypting}
+use Rattle.age_cli_args.specs.declared.request.Paths.{Paths}
 use Rattle.age_cli_args.specs.declared.request.Resuming.{Resuming}
 use Rattle.age_cli_args.specs.declared.request.Request.{Request}
 use Rattle.age_cli_args.specs.declared.request.Request.TheVariants.{Inspect, Encrypt, Decrypt, Resume, Drill}
 use Rattle.age_cli_args.specs.Requests.{Requests}
 use Rattle.age_cli_args.proofs.{no_command, one_number}
-use Rattle.age_command.specs.{IsIdentity, IsSecretGiven, allows_by, refuses_by, either_name, identity_file, Follows, NamesTwice, IsOneOf, apart_from, random_name, IsPassphraseIn}
+use Rattle.age_command.specs.{IsIdentity, IsSecretGiven, allows_by, refuses_by, identity_file, is_usage, NamesTwice, IsOneOf, random_name, IsPassphraseIn}
+use Rattle.age_command.specs.Orders.{writing_order}
 use Rattle.age_command.specs.declared.identity.Identity.{Identity}
 use Rattle.age_command.specs.declared.identity.Identity.TheVariants.{ByPassphrase, ByFileKey, ByShared}
 use Rattle.age_command.specs.declared.ending.Ending.{Ending}
-use Rattle.age_command.specs.declared.ending.Ending.TheVariants.{Words, Fault, Unsaved, Usage}
+use Rattle.age_command.specs.declared.ending.Ending.TheVariants.{Words, Usage}
 use Rattle.age_cli.specs.Acts.{Acts}
 use Rattle.age_cli.specs.Commands.{MakesSecret, IsRandomIn}
-use Rattle.age_cli.specs.{CameFirst, Engine, HasEngineStopped, IsNotDue, IsStored, IsSavedAs, OfEngine, OpensOf, Paths, paths_of, Returned, IsUsage, IsEndingOf}
+use Rattle.age_cli.specs.{CameFirst, Engine, HasEngineStopped, IsSaved, IsStored, OfEngine, OpensOf, Returned, IsUsage, stop_ending}
 use Rattle.age_cli.specs.{Earlier, WasRead, decrypt_engine, kept_for, status_by, old_found, World, Obeys, DoesOther, held_for, OpensBy, IsPositionIn}
-use Rattle.age_cli.specs.{IsRead, IsWritersInput, KeepsOut, IsWritersOld, BeginsAt, IsWritersResumption, out_of, save_of, paths_to_encrypt, EncryptLeavesOut}
+use Rattle.age_cli.specs.{IsRead, IsWritersInput, KeepsOut, IsWritersOld, BeginsAt, IsWritersResumption, out_of, save_of, EncryptLeavesOut}
+use Rattle.age_cli.proofs.PutLemmas.{no_usage}
 
 -- ---- What a decryption wrote, and read.
 
@@ -62,7 +64,7 @@ module _ (IsPorts : Ports → Type 0) (Came : Outcome → Type 0) (p : Paths) (e
   Leaves engine = (engine.ends run.before run.after → run.out.took ≡ text)
       × ((settled : ℕ) (f : FileFault) (position : Option Position) → engine.stops settled f position run.before run.after → IsPrefixOf run.out.took text)
 
-  module _ (identity : Identity) (keep : PositionPolicy) (input : Option (List ℕ)) (there : is_some input ≡ true)
+  module _ (identity : Identity) (save : Option Text) (input : Option (List ℕ)) (there : is_some input ≡ true)
       (coming : input ≡ run.before.source.supply.left) where
     is_read : (written : ℕ) (r : Run) → IsRun (allows_by identity) run.before run.after written r → IsRead identity input r
     is_read written r is =
@@ -86,7 +88,7 @@ module _ (IsPorts : Ports → Type 0) (Came : Outcome → Type 0) (p : Paths) (e
 
     module _ (from : Option Resumption) (fits : IfSome from (Fits text)) (auth : (r : Run) → (begun from).run r → IsRead identity input r → IsTextsOwn r) where
       abbrev Answered : Option Run → Result Done Stopped → Type 0
-      Answered = DecryptAnswers keep (allows_by identity) (begun from) run.before run.after
+      Answered = DecryptAnswers (kept_for save) (allows_by identity) (begun from) run.before run.after
 
       is_own : (r : Option Run) (result : Result Done Stopped) → Answered r result → IfSome r IsTextsOwn
       is_own None result h = tt
@@ -95,11 +97,11 @@ module _ (IsPorts : Ports → Type 0) (Came : Outcome → Type 0) (p : Paths) (e
 
       right : (r : Option Run) (result : Result Done Stopped) → Answered r result → AnswersRight text run.out.took result
       right r result h =
-          let did = call_right (allows_by identity) (refuses_by identity) text run.before run.after keep from fits result r h (is_own r result h) in
+          let did = call_right (allows_by identity) (refuses_by identity) text run.before run.after (kept_for save) from fits result r h (is_own r result h) in
           subst (λ (out : List ℕ). AnswersRight text out result)
           (sym (run.took ∙ (did.1.bytes ∙ ap (λ (l : List ℕ). l ++ did.0) run.new.taken))) did.2
 
-    decrypts : ((r : Run) → IsFromStart r → IsRead identity input r → IsTextsOwn r) → Leaves (decrypt_engine IsPorts Came keep identity None)
+    decrypts : ((r : Run) → IsFromStart r → IsRead identity input r → IsTextsOwn r) → Leaves (decrypt_engine IsPorts Came save identity None)
     decrypts auth = (
       λ (done, r, ends). right None tt auth (Some r) (Ok done) ends,
       λ settled f position (r, stop, is, stops, placed). (right None tt auth r (Err stop) stops).0,
@@ -107,7 +109,7 @@ module _ (IsPorts : Ports → Type 0) (Came : Outcome → Type 0) (p : Paths) (e
 
     resumes : (e : Earlier)
         → ((first : SourceView) (size : Option ℕ) → Came (old_found e.position e.name first.supply.left size) → BeginsWith e.position first.supply text)
-        → ((r : Run) → BeginsAt e.position r → IsRead identity input r → IsTextsOwn r) → Leaves (decrypt_engine IsPorts Came keep identity (Some e))
+        → ((r : Run) → BeginsAt e.position r → IsRead identity input r → IsTextsOwn r) → Leaves (decrypt_engine IsPorts Came save identity (Some e))
     resumes e front auth =
         let own : (first last : SourceView) (r : Run) → IsFrom (resumption e.position first last) r → IsRead identity input r → IsTextsOwn r =
         λ first last r begun. auth r (record { index = begun.index; own = begun.own }) in
@@ -121,21 +123,32 @@ module _ (IsPorts : Ports → Type 0) (Came : Outcome → Type 0) (p : Paths) (e
 
 -- ---- What was put, and the names that have to differ.
 
-one_identity : (first second old : Option Text) (from q : Text) → either_name first second ≡ Some q
+one_identity : (first second old : Option Text) (from q : Text) → option_or first second ≡ Some q
     → IsOneOf q (Some from ∷ first ∷ second ∷ old ∷ [])
 one_identity (Some n) second old from q is = inr (inl is)
 one_identity None second old from q is = inr (inr (inl is))
 
-saved_others : (ending : Ending) (save : Option Text) (p : Position) (rest : List Entry) → IsSavedAs ending save p rest
-    → (q : Text) → (save ≡ Some q → ⊥) → AreOthers q rest
-saved_others (Fault f) (Some name) p rest is q other = subst (λ (l : List Entry). AreOthers q l) (sym is) ((λ same. other (ap Some same)), tt)
-saved_others (Unsaved f second) (Some name) p rest is q other = subst (λ (l : List Entry). AreOthers q l) (sym is) tt
-saved_others ending save p rest is q other = absurd is
+module _ (q : Text) (rest : List Entry) where
+  none_others : rest ≡ [] → AreOthers q rest
+  none_others none = subst (λ (l : List Entry). AreOthers q l) (sym none) tt
 
-usage_no_fault : (f : FileFault) (e : Ending) → IsEndingOf f e → IsUsage e → ⊥
-usage_no_fault f (Fault x) is usage = true≢false (sym usage)
-usage_no_fault f (Unsaved x second) is usage = true≢false (sym usage)
-usage_no_fault f e is usage = is
+  stored_others : (name : Text) (p : Position) (save : Result (Unit {0}) FileFault) {Came : Outcome → Type 0} {durability : Durability} {saved : SavedFile}
+      → IsStored Came durability name p save rest saved → (name ≡ q → ⊥) → AreOthers q rest
+  stored_others name p (Ok done) stored other = subst (λ (l : List Entry). AreOthers q l) (sym stored.stands) (other, tt)
+  stored_others name p (Err second) stored other = none_others stored.lost.0
+
+  -- nothing of its position was put, or this
+  saved_others : (Came : Outcome → Type 0) (durability : Durability) (settled : ℕ) (position : Option Position) (name : Option Text)
+      (save : Result (Unit {0}) FileFault) (saved : SavedFile) (Untried : Type 0) → IsSaved Came durability settled position name save rest saved Untried
+      → (name ≡ Some q → ⊥) → AreOthers q rest
+  saved_others Came durability settled (Some p) (Some name) save saved Untried (inl unsaved) other = none_others unsaved.1
+  saved_others Came durability settled (Some p) (Some name) save saved Untried (inr stored) other =
+      stored_others name p save stored.1 (λ same. other (ap Some same))
+  saved_others Came durability settled (Some p) None save saved Untried undue other = none_others undue.1
+  saved_others Came durability settled None name save saved Untried undue other = none_others undue.1
+
+usage_no_fault : (f : FileFault) (save : Result (Unit {0}) FileFault) (e : Ending) → e ≡ stop_ending f save → IsUsage e → ⊥
+usage_no_fault f save e is usage = true≢false (sym usage ∙ (ap is_usage is ∙ no_usage f save))
 
 -- ---- What was read, by what stood there.
 
@@ -161,7 +174,7 @@ some_front p text coming (Some b) there is front = record { all = b; shown = is;
 
 -- what opens the input is what the files make
 by_secret : (held given : Option (List ℕ)) (pass key shared : Option Text) (max_log : ℕ) (identity : Identity)
-    → ((name : Text) (bytes : List ℕ) → either_name pass shared ≡ Some name → given ≡ Some bytes → held ≡ Some bytes)
+    → ((name : Text) (bytes : List ℕ) → option_or pass shared ≡ Some name → given ≡ Some bytes → held ≡ Some bytes)
     → IsIdentity given pass key shared max_log identity → IsIdentity held pass key shared max_log identity
 by_secret held given (Some pass) None None max_log (ByPassphrase words) was is = ((is.0.0, was pass is.0.0 refl is.0.1, is.0.2), is.1, is.2)
 by_secret held given None (Some digits) None max_log (ByFileKey known) was is = is
@@ -202,10 +215,10 @@ differs a b name x y apart same = true≢false (sym same ∙ ap (λ (n : Text). 
 -- OUT and the file of `--save` are those of the rows
 same_names : (name : Text) (rows : List Row) (a b : Request) → IsRequest name rows a → IsRequest name rows b
     → (out_of a ≡ out_of b) × (save_of a ≡ save_of b)
-same_names name rows (Encrypt a) (Encrypt b) x y = (x.1.to ∙ sym y.1.to, refl)
-same_names name rows (Decrypt a) (Decrypt b) x y = (x.1.to ∙ sym y.1.to, x.1.save ∙ sym y.1.save)
+same_names name rows (Encrypt a) (Encrypt b) x y = (x.1.paths.to ∙ sym y.1.paths.to, refl)
+same_names name rows (Decrypt a) (Decrypt b) x y = (x.1.paths.to ∙ sym y.1.paths.to, x.1.save ∙ sym y.1.save)
 same_names name rows (Resume a) (Resume b) x y =
-    (x.1.decrypting.to ∙ sym y.1.decrypting.to, x.1.decrypting.save ∙ sym y.1.decrypting.save)
+    (x.1.decrypting.paths.to ∙ sym y.1.decrypting.paths.to, x.1.decrypting.save ∙ sym y.1.decrypting.save)
 same_names name rows (Inspect a) (Inspect b) x y = (refl, refl)
 same_names name rows (Drill a) (Drill b) x y = (refl, refl)
 same_names name rows a b x y = absurd (differs _ _ name x.0 y.0 refl refl)
@@ -224,7 +237,7 @@ usage_by (Err (Usage usage)) status is two = refl
 usage_by r status is two = let no = sym is ∙ two in cc
 
 module _ (words : List Text) (IsPorts : Ports → Type 0) (before after : World) (Unread Unprinted Unshown : Type 0)
-    (Progress : Option Text → Result (Unit {0}) Ending → Type 0) (status : ℕ) (was is : List MemEntry) (kept_was : AreTrue was before.files.outcomes)
+    (Progress : Text → Result (Unit {0}) Ending → Type 0) (status : ℕ) (was is : List MemEntry) (kept_was : AreTrue was before.files.outcomes)
     (kept_is : AreTrue is after.files.outcomes) where
   abbrev olds : Files
   olds = entry_of was
@@ -272,18 +285,18 @@ module _ (words : List Text) (IsPorts : Ports → Type 0) (before after : World)
 
     -- IN, and what opens it
     module _ (d : Decrypting) (old_name : Option Text) (others : (q : Text)
-        → IsOneOf q (Some d.from.now ∷ option_text d.identity.pass ∷ option_text d.identity.shared ∷ old_name ∷ []) → AreOthers q puts) where
+        → IsOneOf q (Some d.paths.from.now ∷ option_text d.identity.pass ∷ option_text d.identity.shared ∷ old_name ∷ []) → AreOthers q puts) where
       opened : (identity : Identity) → OpensOf since d identity → OpensBy olds d.identity identity
       opened identity by =
           by_secret (held_for olds (identity_file d.identity)) by.given (option_text d.identity.pass) (option_text d.identity.file_key)
           (option_text d.identity.shared) d.identity.max_log identity (secret_was (identity_file d.identity) by.given by.read (λ name is. others name
-          (one_identity (option_text d.identity.pass) (option_text d.identity.shared) old_name d.from.now name is))) by.makes
+          (one_identity (option_text d.identity.pass) (option_text d.identity.shared) old_name d.paths.from.now name is))) by.makes
 
-      input_was : (run : Returned IsPorts since (paths_of d) after.files.ended)
-          → (is_some (olds d.from.now) ≡ true) × (olds d.from.now ≡ run.before.source.supply.left)
+      input_was : (run : Returned IsPorts since d.paths after.files.ended)
+          → (is_some (olds d.paths.from.now) ≡ true) × (olds d.paths.from.now ≡ run.before.source.supply.left)
       input_was run =
-          let found = found_was before.files after.files was is kept_was kept_is d.from.now run.before.source.supply.left run.input.size run.input.found
-          (earlier d.from.now _ (others d.from.now (inl refl)) run.input.found) in
+          let found = found_was before.files after.files was is kept_was kept_is d.paths.from.now run.before.source.supply.left run.input.size run.input.found
+          (earlier d.paths.from.now _ (others d.paths.from.now (inl refl)) run.input.found) in
           (ap is_some (sym found.1) ∙ found.0, sym found.1)
 
     front_was : (p : Position) (name : Text) (text : List ℕ) → AreOthers name puts → IsWritersOld (olds name) p text
@@ -302,22 +315,13 @@ module _ (words : List Text) (IsPorts : Ports → Type 0) (before after : World)
 
   -- ---- What a command put.
 
-  -- nothing of its position was put, or this
-  rest_others : (durability : Durability) (save : Option Text) (settled : ℕ) (position : Option Position) (ending : Ending) (rest : List Entry) (done : List Event)
-      → ((rest ≡ []) × IsNotDue settled ending save position × Follows done before.files.events after.files.events)
-      ⊎ IsStored since durability save settled position ending rest after.files.saved
-      → (q : Text) → (save ≡ Some q → ⊥) → AreOthers q rest
-  rest_others durability save settled position ending rest done (inl none) q other = subst (λ (x : List Entry). AreOthers q x) (sym none.0) tt
-  rest_others durability save settled None ending rest done (inr stored) q other = absurd stored.is
-  rest_others durability save settled (Some p) ending rest done (inr stored) q other = saved_others ending save p rest stored.is.0 q other
-
   -- what its output took, or nothing, and then at most the position
-  module _ (engine : Engine) (p : Paths) (durability : Durability) (done : List Event) (ending : Ending)
-      (s : HasEngineStopped IsPorts since engine p durability done ending before.files after.files) where
-    saved_rest : (q : Text) → (p.save ≡ Some q → ⊥) → AreOthers q s.rest
-    saved_rest = rest_others durability p.save s.settled s.position ending s.rest done s.saved
+  module _ (engine : Engine) (p : Paths) (done : List Event) (ending : Ending)
+      (s : HasEngineStopped IsPorts since engine p done ending before.files after.files) where
+    saved_rest : (q : Text) → (engine.save ≡ Some q → ⊥) → AreOthers q s.rest
+    saved_rest q other = saved_others q s.rest since p.durability s.settled s.position engine.save s.save after.files.saved _ s.saved other
 
-    left_others : (q : Text) → (Some p.to ≡ Some q → ⊥) → (p.save ≡ Some q → ⊥) → AreOthers q (s.outs ++ s.rest)
+    left_others : (q : Text) → (Some p.to.now ≡ Some q → ⊥) → (engine.save ≡ Some q → ⊥) → AreOthers q (s.outs ++ s.rest)
     left_others q out save =
         others_then q s.outs s.rest (⊎_elim (λ none. subst (λ (x : List Entry). AreOthers q x) (sym none) tt)
         (λ took. subst (λ (x : List Entry). AreOthers q x) (sym took.0) ((λ same. out (ap Some same)), tt)) s.out) (saved_rest q save)
@@ -330,68 +334,70 @@ module _ (words : List Text) (IsPorts : Ports → Type 0) (before after : World)
 
   -- ---- What OUT holds, of a text and the names that are read.
 
-  module _ (text : List ℕ) (p : Paths) (first second position old : Option Text) where
+  module _ (text : List ℕ) (p : Paths) (first second position old save : Option Text) where
     abbrev reads : List (Option Text)
-    reads = Some p.from ∷ first ∷ second ∷ old ∷ []
+    reads = Some p.from.now ∷ first ∷ second ∷ old ∷ []
 
     abbrev IsTwice : Type 0
-    IsTwice = NamesTwice (apart_from (Some p.to) (position ∷ reads) ∷ apart_from p.save (Some p.to ∷ reads) ∷ apart_from old (Some p.from ∷ []) ∷ [])
+    IsTwice = NamesTwice (writing_order first second position old save p).apart
 
     -- an engine leaves the text, if nothing was put under the names that are read
     abbrev Writes : Engine → Type 0
     Writes engine = (puts : List Entry) → PutsOnly puts before.files after.files → ((q : Text) → IsOneOf q reads → AreOthers q puts)
         → (run : Returned IsPorts since p after.files.ended) → Leaves IsPorts since p after.files.ended run text engine
 
-    unread : (IsTwice → ⊥) → (puts : List Entry) → ((q : Text) → (Some p.to ≡ Some q → ⊥) → (p.save ≡ Some q → ⊥) → AreOthers q puts)
+    unread : (IsTwice → ⊥) → (puts : List Entry) → ((q : Text) → (Some p.to.now ≡ Some q → ⊥) → (save ≡ Some q → ⊥) → AreOthers q puts)
         → (q : Text) → IsOneOf q reads → AreOthers q puts
     unread apart puts only q one = only q (λ here. apart (q, inl (here, inr one))) (λ here. apart (q, inr (inl (here, inr one))))
 
-    stopped_out : (engine : Engine) (durability : Durability) (done : List Event) (ending : Ending) → (IsTwice → ⊥) → Writes engine
-        → HasEngineStopped IsPorts since engine p durability done ending before.files after.files → HoldsNoMore (olds p.to) (news p.to) text
-    stopped_out engine durability done ending apart writes s =
+    stopped_out : (engine : Engine) (done : List Event) (ending : Ending) → engine.save ≡ save → (IsTwice → ⊥) → Writes engine
+        → HasEngineStopped IsPorts since engine p done ending before.files after.files → HoldsNoMore (olds p.to.now) (news p.to.now) text
+    stopped_out engine done ending saves apart writes s =
+        let to = p.to.now in
         let puts = s.outs ++ s.rest in
-        let leaves = writes puts s.puts (unread apart puts (left_others engine p durability done ending s)) s.run in
+        let leaves = writes puts s.puts (unread apart puts (λ q out none. left_others engine p done ending s q out (λ here. none (sym saves ∙ here)))) s.run in
         let begins : IsPrefixOf s.run.out.took text = ⊎_elim (λ stop. leaves.1 s.settled s.fault s.position stop.promise)
         (λ unended. subst (λ (t : List ℕ). IsPrefixOf t text) (sym (leaves.0 unended.promise)) ([], append-nil text)) s.cause in
-        let rest : AreOthers p.to s.rest = saved_rest engine p durability done ending s p.to (λ here. apart (p.to, inr (inl (here, inl refl)))) in
-        let stands : s.outs ≡ entry p.to s.run.out.took ∷ [] → news p.to ≡ Some s.run.out.took = λ took.
-        put_since before.files after.files was is kept_was kept_is puts s.puts p.to s.run.out.took s.rest (ap (λ (x : List Entry). x ++ s.rest) took) rest in
-        ⊎_elim (λ none. inl (same puts s.puts p.to (others_then p.to s.outs s.rest (subst (λ (x : List Entry). AreOthers p.to x) (sym none) tt) rest)))
+        let rest : AreOthers to s.rest = saved_rest engine p done ending s to (λ here. apart (to, inr (inl (sym saves ∙ here, inl refl)))) in
+        let stands : s.outs ≡ entry to s.run.out.took ∷ [] → news to ≡ Some s.run.out.took = λ took.
+        put_since before.files after.files was is kept_was kept_is puts s.puts to s.run.out.took s.rest (ap (λ (x : List Entry). x ++ s.rest) took) rest in
+        ⊎_elim (λ none. inl (same puts s.puts to (others_then to s.outs s.rest (subst (λ (x : List Entry). AreOthers to x) (sym none) tt) rest)))
         (λ took. inr (s.run.out.took, stands took.0, begins)) s.out
 
-    kept : (asked : Request) → ((P : Engine → Paths → Type 0) → OfIts asked P → (engine : Engine) × P engine p × Writes engine)
+    kept : (asked : Request) → ((P : Engine → Paths → Type 0) → OfIts asked P → (engine : Engine) × P engine p × Writes engine × (engine.save ≡ save))
         → (r : Result (Unit {0}) Ending) → OnErr r (status ≡ 0 → ⊥) → DoneFor asked r → (IsTwice → IsErrAnd r IsUsage)
-        → KeepsOut (olds p.to) (news p.to) status text
+        → KeepsOut (olds p.to.now) (news p.to.now) status text
     kept asked of (Ok x) failed acts apart =
         let e = of _ acts.done in
         let ends = e.1 in
-        let puts = entry p.to ends.run.out.took ∷ [] in
-        let leaves = e.2 puts ends.puts (unread (λ twice. apart twice) puts (λ q out save. ((λ here. out (ap Some here)), tt))) ends.run in
-        let whole : news p.to ≡ Some text = put_since before.files after.files was is kept_was kept_is puts ends.puts p.to ends.run.out.took []
-        refl tt ∙ ap Some (leaves.0 ends.promise) in
+        let run = ends.leaves.run in
+        let puts = entry p.to.now run.out.took ∷ [] in
+        let leaves = e.2 puts ends.puts (unread (λ twice. apart twice) puts (λ q out save. ((λ here. out (ap Some here)), tt))) run in
+        let whole : news p.to.now ≡ Some text = put_since before.files after.files was is kept_was kept_is puts ends.puts p.to.now run.out.took []
+        refl tt ∙ ap Some (leaves.0 ends.leaves.promise) in
         record { safe = inr (text, whole, ([], append-nil text)); whole = λ zero. whole }
-    kept asked of (Err ending) failed acts apart = kept_stopped (olds p.to) (news p.to) status text failed
-        (⊎_elim (λ unbegun. inl (same [] unbegun.none p.to tt)) (λ stops.
+    kept asked of (Err ending) failed acts apart = kept_stopped (olds p.to.now) (news p.to.now) status text failed
+        (⊎_elim (λ unbegun. inl (same [] unbegun.none p.to.now tt)) (λ stops.
         let e = of _ stops in
-        stopped_out e.0 _ _ ending (λ twice. usage_no_fault e.1.fault ending e.1.reported (apart twice)) e.2 e.1) acts.stopped)
+        stopped_out e.0 _ ending e.3 (λ twice. usage_no_fault e.1.fault e.1.save ending e.1.reported (apart twice)) e.2 e.1) acts.stopped)
 
   decrypted : (text : List ℕ) (e : Decrypting) → IsWritersInput IsFromStart e olds text → (identity : Identity) → OpensOf since e identity
-      → Writes text (paths_of e) (option_text e.identity.pass) (option_text e.identity.shared) None None
-      (decrypt_engine IsPorts since (kept_for (option_text e.save)) identity None)
+      → Writes text e.paths (option_text e.identity.pass) (option_text e.identity.shared) None None (option_text e.save)
+      (decrypt_engine IsPorts since (option_text e.save) identity None)
   decrypted text e auth identity by puts grows others run =
       let input = input_was puts grows e None others run in
-      decrypts IsPorts since (paths_of e) after.files.ended run text identity (kept_for (option_text e.save)) (olds e.from.now) input.0 input.1
+      decrypts IsPorts since e.paths after.files.ended run text identity (option_text e.save) (olds e.paths.from.now) input.0 input.1
       (auth identity (opened puts grows e None others identity by))
 
   resumed : (text : List ℕ) (s : Resuming) → IsWritersResumption s olds text → (identity : Identity) → OpensOf since s.decrypting identity
       → (p : Position) → HasGivenAll early s.position.now (position_text p) → let d = s.decrypting in
-      Writes text (paths_of d) (option_text d.identity.pass) (option_text d.identity.shared) (Some s.position.now) (Some s.old.now)
-      (decrypt_engine IsPorts since (kept_for (option_text d.save)) identity (Some (record { position = p; name = s.old.now })))
+      Writes text d.paths (option_text d.identity.pass) (option_text d.identity.shared) (Some s.position.now) (Some s.old.now) (option_text d.save)
+      (decrypt_engine IsPorts since (option_text d.save) identity (Some (record { position = p; name = s.old.now })))
   resumed text s auth identity by p given puts grows others run =
       let d = s.decrypting in
       let at = first_was s.position.now (position_text p) given in
       let input = input_was puts grows d (Some s.old.now) others run in
-      resumes IsPorts since (paths_of d) after.files.ended run text identity (kept_for (option_text d.save)) (olds d.from.now) input.0 input.1
+      resumes IsPorts since d.paths after.files.ended run text identity (option_text d.save) (olds d.paths.from.now) input.0 input.1
       (record { position = p; name = s.old.now })
       (front_was puts grows p s.old.now text (others s.old.now (inr (inr (inr (inl refl))))) (auth.old_text p at))
       (auth.rest p at identity (opened puts grows d (Some s.old.now) others identity by))
@@ -409,7 +415,7 @@ module _ (words : List Text) (IsPorts : Ports → Type 0) (before after : World)
       → IsWritersInput Begins d olds text → IsWritersInput Begins e olds text
   same_input Begins rows e d text mine its auth identity opens run from read =
       auth identity (same_opens rows e.identity d.identity mine.identity its.identity olds identity opens) run from
-      (subst (λ (t : Text). IsRead identity (olds t) run) (same_text e.from.now d.from.now _ mine.from its.from) read)
+      (subst (λ (t : Text). IsRead identity (olds t) run) (same_text e.paths.from.now d.paths.from.now _ mine.paths.from its.paths.from) read)
 
   -- with no request nothing differs, and with status 0 help was asked for
   keeps_of : (text : List ℕ) (r : Result (Unit {0}) Ending) → OnErr r (status ≡ 0 → ⊥) → Obeyed r → (name : Text) (rows : List Row)
@@ -422,24 +428,24 @@ module _ (words : List Text) (IsPorts : Ports → Type 0) (before after : World)
   keeps_of text r failed (inr (inl o)) name rows asks to so = so o.asked o.acts (same_rows words o.asked name rows asks o.made)
 
   pub headline_of : (text : List ℕ) (r : Result (Unit {0}) Ending) → OnErr r (status ≡ 0 → ⊥) → Obeyed r → (d : Decrypting)
-      → Requests words (Decrypt d) → IsWritersInput IsFromStart d olds text → KeepsOut (olds d.to.now) (news d.to.now) status text
-  headline_of text r failed obeys d (name, rows, asks, is_asked) auth = keeps_of text r failed obeys name rows asks d.to.now go where
-    go : (asked : Request) → DoneFor asked r → IsRequest name rows asked → KeepsOut (olds d.to.now) (news d.to.now) status text
+      → Requests words (Decrypt d) → IsWritersInput IsFromStart d olds text → KeepsOut (olds d.paths.to.now) (news d.paths.to.now) status text
+  headline_of text r failed obeys d (name, rows, asks, is_asked) auth = keeps_of text r failed obeys name rows asks d.paths.to.now go where
+    go : (asked : Request) → DoneFor asked r → IsRequest name rows asked → KeepsOut (olds d.paths.to.now) (news d.paths.to.now) status text
     go (Decrypt e) acts (is_its, mine) =
         let its = is_asked.1 in
         let auth = same_input IsFromStart rows e d text mine its auth in
-        subst (λ (t : Text). KeepsOut (olds t) (news t) status text) (same_text e.to.now d.to.now _ mine.to its.to)
-        (kept text (paths_of e) (option_text e.identity.pass) (option_text e.identity.shared) None None (Decrypt e)
-        (λ P of. (_, of.2, decrypted text e auth of.0 of.1)) r failed acts (λ twice. (acts.apart twice).1))
+        subst (λ (t : Text). KeepsOut (olds t) (news t) status text) (same_text e.paths.to.now d.paths.to.now _ mine.paths.to its.paths.to)
+        (kept text e.paths (option_text e.identity.pass) (option_text e.identity.shared) None None (option_text e.save) (Decrypt e)
+        (λ P of. (_, of.2, decrypted text e auth of.0 of.1, refl)) r failed acts (λ twice. (acts.apart twice).1))
     go asked acts made = absurd (differs _ _ name is_asked.0 made.0 refl refl)
 
   pub resumed_headline_of : (text : List ℕ) (r : Result (Unit {0}) Ending) → OnErr r (status ≡ 0 → ⊥) → Obeyed r → (a : Resuming)
       → Requests words (Resume a) → IsWritersResumption a olds text
-      → KeepsOut (olds a.decrypting.to.now) (news a.decrypting.to.now) status text
+      → KeepsOut (olds a.decrypting.paths.to.now) (news a.decrypting.paths.to.now) status text
   resumed_headline_of text r failed obeys a (name, rows, asks, is_asked) auth =
-      keeps_of text r failed obeys name rows asks a.decrypting.to.now go where
+      keeps_of text r failed obeys name rows asks a.decrypting.paths.to.now go where
         go : (asked : Request) → DoneFor asked r → IsRequest name rows asked
-            → KeepsOut (olds a.decrypting.to.now) (news a.decrypting.to.now) status text
+            → KeepsOut (olds a.decrypting.paths.to.now) (news a.decrypting.paths.to.now) status text
         go (Resume s) acts made =
             let d = a.decrypting in
             let e = s.decrypting in
@@ -452,9 +458,9 @@ module _ (words : List Text) (IsPorts : Ports → Type 0) (before after : World)
                   (auth.old_text p (at p is_at));
               rest = λ p is_at. same_input (BeginsAt p) rows e d text mine its (auth.rest p (at p is_at));
             } in
-            subst (λ (t : Text). KeepsOut (olds t) (news t) status text) (same_text e.to.now d.to.now _ mine.to its.to)
-            (kept text (paths_of e) (option_text e.identity.pass) (option_text e.identity.shared) (Some s.position.now) (Some s.old.now) (Resume s)
-            (λ P of. (_, of.4, resumed text s mine_all of.0 of.1 of.2 of.3)) r failed acts (λ twice. (acts.apart twice).1))
+            subst (λ (t : Text). KeepsOut (olds t) (news t) status text) (same_text e.paths.to.now d.paths.to.now _ mine.paths.to its.paths.to)
+            (kept text e.paths (option_text e.identity.pass) (option_text e.identity.shared) (Some s.position.now) (Some s.old.now) (option_text e.save)
+            (Resume s) (λ P of. (_, of.4, resumed text s mine_all of.0 of.1 of.2 of.3, refl)) r failed acts (λ twice. (acts.apart twice).1))
         go asked acts made = absurd (differs _ _ name is_asked.0 made.0 refl refl)
 
   -- ---- What an encryption leaves.
@@ -468,26 +474,27 @@ module _ (words : List Text) (IsPorts : Ports → Type 0) (before after : World)
 
   encrypted : (e : Encrypting) → DoneFor (Encrypt e) (Ok tt)
       → (secret : SecretView) × MakesSecret e (olds e.pass.now) (olds (random_name (option_text e.random))) secret
-      × (text : List ℕ) × (file : List ℕ) × (olds e.from.now ≡ Some text) × AgeFile secret text file × (news e.to.now ≡ Some file)
+      × (text : List ℕ) × (file : List ℕ) × (olds e.paths.from.now ≡ Some text) × AgeFile secret text file × (news e.paths.to.now ≡ Some file)
   encrypted e acts =
       let of = acts.done in
       let secret = of.0 in
       let made = of.1 in
       let ends = of.2 in
-      let done = ends.promise.1 in
+      let done = ends.leaves.promise.1 in
+      let ran = ends.leaves.run in
       let random = random_name (option_text e.random) in
-      let puts = entry e.to.now ends.run.out.took ∷ [] in
-      let others = unread [] (paths_to_encrypt e) (Some e.pass.now) (Some random) None None (λ twice. (acts.apart twice).1) puts
+      let puts = entry e.paths.to.now ran.out.took ∷ [] in
+      let others = unread [] e.paths (Some e.pass.now) (Some random) None None None (λ twice. (acts.apart twice).1) puts
       (λ q out save. ((λ here. out (ap Some here)), tt)) in
-      let found = found_was before.files after.files was is kept_was kept_is e.from.now ends.run.before.source.supply.left ends.run.input.size
-      ends.run.input.found (earlier puts ends.puts e.from.now _ (others e.from.now (inl refl)) ends.run.input.found) in
+      let found = found_was before.files after.files was is kept_was kept_is e.paths.from.now ran.before.source.supply.left ran.input.size
+      ran.input.found (earlier puts ends.puts e.paths.from.now _ (others e.paths.from.now (inl refl)) ran.input.found) in
       let pass = gave_all_was before.files after.files was is kept_was kept_is e.pass.now made.pass made.pass_given
       (earlier puts ends.puts e.pass.now _ (others e.pass.now (inr (inl refl))) made.pass_given.gave.found) in
       let rand = given_was puts ends.puts random made.random made.random_given (others random (inr (inr (inl refl)))) in
       let in_random = made.makes.random_is in
-      let read = read_from ends.run.before.source.supply.left ends.run.after.source.supply.left done.text found.0 done.read.left in
+      let read = read_from ran.before.source.supply.left ran.after.source.supply.left done.text found.0 done.read.left in
       let rest = read.2 done.at_end.1 in
-      let took : ends.run.out.took ≡ done.file = ends.run.took ∙ (done.wrote.bytes ∙ ap (λ (l : List ℕ). l ++ done.file) ends.run.new.taken) in (
+      let took : ran.out.took ≡ done.file = ran.took ∙ (done.wrote.bytes ∙ ap (λ (l : List ℕ). l ++ done.file) ran.new.taken) in (
         secret,
         record {
           passphrase = subst (λ (h : Option (List ℕ)). IsPassphraseIn h secret.pass) (sym pass) made.makes.passphrase;
@@ -506,7 +513,7 @@ module _ (words : List Text) (IsPorts : Ports → Type 0) (before after : World)
         done.file,
         sym found.1 ∙ (read.1 ∙ ap Some (ap (λ (l : List ℕ). done.text ++ l) rest ∙ append-nil done.text)),
         done.is,
-        put_since before.files after.files was is kept_was kept_is puts ends.puts e.to.now ends.run.out.took [] refl tt ∙ ap Some took,
+        put_since before.files after.files was is kept_was kept_is puts ends.puts e.paths.to.now ran.out.took [] refl tt ∙ ap Some took,
       )
 
   pub encrypted_of : (r : Result (Unit {0}) Ending) → OnErr r (status ≡ 0 → ⊥) → Obeyed r → EncryptLeavesOut words olds news status
@@ -516,7 +523,7 @@ module _ (words : List Text) (IsPorts : Ports → Type 0) (before after : World)
   encrypted_of (Ok tt) failed (inr (inl o)) e (name, rows, asks, is_asked) zero = go o.asked o.acts (same_rows words o.asked name rows asks o.made) where
     go : (asked : Request) → DoneFor asked (Ok tt) → IsRequest name rows asked
         → (secret : SecretView) × MakesSecret e (olds e.pass.now) (olds (random_name (option_text e.random))) secret
-        × (text : List ℕ) × (file : List ℕ) × (olds e.from.now ≡ Some text) × AgeFile secret text file × (news e.to.now ≡ Some file)
+        × (text : List ℕ) × (file : List ℕ) × (olds e.paths.from.now ≡ Some text) × AgeFile secret text file × (news e.paths.to.now ≡ Some file)
     go (Encrypt f) acts (is_its, mine) =
         let its = is_asked.1 in
         let w = encrypted f acts in
@@ -530,31 +537,31 @@ module _ (words : List Text) (IsPorts : Ports → Type 0) (before after : World)
           },
           w.2,
           w.3,
-          subst (λ (t : Text). olds t ≡ Some w.2) (same_text f.from.now e.from.now _ mine.from its.from) w.4,
+          subst (λ (t : Text). olds t ≡ Some w.2) (same_text f.paths.from.now e.paths.from.now _ mine.paths.from its.paths.from) w.4,
           w.5,
-          subst (λ (t : Text). news t ≡ Some w.3) (same_text f.to.now e.to.now _ mine.to its.to) w.6,
+          subst (λ (t : Text). news t ≡ Some w.3) (same_text f.paths.to.now e.paths.to.now _ mine.paths.to its.paths.to) w.6,
         )
     go asked acts mine = absurd (differs _ _ name is_asked.0 mine.0 refl refl)
 
   -- what is so if an engine ran for what is asked, with its names; otherwise nothing was put
   by_engine : (asked : Request) (P : Engine → Paths → Type 0) (r : Result (Unit {0}) Ending) → OfIts asked P
       → DoesOther words IsPorts before after Unread Unprinted Unshown Progress r asked → (q : Text)
-      → ((engine : Engine) (p : Paths) → P engine p → out_of asked ≡ Some p.to → save_of asked ≡ p.save → news q ≡ olds q) → news q ≡ olds q
+      → ((engine : Engine) (p : Paths) → P engine p → out_of asked ≡ Some p.to.now → save_of asked ≡ engine.save → news q ≡ olds q) → news q ≡ olds q
   by_engine (Encrypt e) P r of other q so = so _ _ of.2 refl refl
   by_engine (Decrypt e) P r of other q so = so _ _ of.2 refl refl
   by_engine (Resume e) P r of other q so = so _ _ of.4 refl refl
   by_engine (Inspect None) P r of other q so = same_if other.1 q
   by_engine (Inspect (Some name)) P r of other q so = same [] (grows_by _ before.files after.files other.2) q tt
-  by_engine (Drill e) P r of other q so = same [] (grows_by _ before.files after.files other.4.did) q tt
+  by_engine (Drill e) P r of other q so = same [] (grows_by _ before.files after.files other.4.1) q tt
 
   spared : (asked : Request) (r : Result (Unit {0}) Ending) → DoneFor asked r
       → DoesOther words IsPorts before after Unread Unprinted Unshown Progress r asked
       → (q : Text) → (out_of asked ≡ Some q → ⊥) → (save_of asked ≡ Some q → ⊥) → news q ≡ olds q
   spared asked (Ok x) acts other q out save = by_engine asked _ (Ok x) acts.done other q
-      (λ engine p h is_out is_save. same (entry p.to h.run.out.took ∷ []) h.puts q ((λ here. out (is_out ∙ ap Some here)), tt))
+      (λ engine p h is_out is_save. same (entry p.to.now h.leaves.run.out.took ∷ []) h.puts q ((λ here. out (is_out ∙ ap Some here)), tt))
   spared asked (Err ending) acts other q out save = ⊎_elim (λ unbegun. same [] unbegun.none q tt)
       (λ stops. by_engine asked _ (Err ending) stops other q (λ engine p s is_out is_save. same (s.outs ++ s.rest) s.puts q
-      (left_others engine p _ _ ending s q (λ here. out (is_out ∙ here)) (λ here. save (is_save ∙ here))))) acts.stopped
+      (left_others engine p _ ending s q (λ here. out (is_out ∙ here)) (λ here. save (is_save ∙ here))))) acts.stopped
 
   pub spares_asked : (r : Result (Unit {0}) Ending) → Obeyed r → (asked : Request) → Requests words asked
       → (q : Text) → (out_of asked ≡ Some q → ⊥) → (save_of asked ≡ Some q → ⊥) → news q ≡ olds q
@@ -572,7 +579,7 @@ module _ (words : List Text) (IsPorts : Ports → Type 0) (before after : World)
   spares_done (Ok x) failed (inr (inr o)) asked made zero q out = same_if o.untouched q
   spares_done (Ok x) failed (inr (inl o)) asked (name, rows, asks, is_asked) zero q out =
       let mine = same_names name rows asked o.asked is_asked (same_rows words o.asked name rows asks o.made) in
-      by_engine o.asked _ (Ok x) o.acts.done o.answers q (λ engine p h is_out is_save. same (entry p.to h.run.out.took ∷ []) h.puts q
+      by_engine o.asked _ (Ok x) o.acts.done o.answers q (λ engine p h is_out is_save. same (entry p.to.now h.leaves.run.out.took ∷ []) h.puts q
       ((λ here. out (mine.0 ∙ (is_out ∙ ap Some here))), tt))
 
   -- and nothing was put if the words are refused
@@ -581,4 +588,4 @@ module _ (words : List Text) (IsPorts : Ports → Type 0) (before after : World)
   spares_refused r (inr (inr o)) usage q = same_if o.untouched q
   spares_refused (Ok x) (inr (inl o)) usage q = absurd usage
   spares_refused (Err ending) (inr (inl o)) usage q = ⊎_elim (λ unbegun. same [] unbegun.none q tt) (λ stops. by_engine o.asked _ (Err ending) stops
-      o.answers q (λ engine p s is_out is_save. absurd (usage_no_fault s.fault ending s.reported usage))) o.acts.stopped
+      o.answers q (λ engine p s is_out is_save. absurd (usage_no_fault s.fault s.save ending s.reported usage))) o.acts.stopped

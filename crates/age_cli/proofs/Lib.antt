@@ -20,3 +20,5 @@ unfoldable pub use PutLemmas.*
 unfoldable pub use ReadLemmas.*
 unfoldable pub use DecryptionLemmas.*
 unfoldable pub use TextLemmas.*
+pub use Rattle.age_command.proofs.ChoiceLemmas.{pass_only}
+pub use Rattle.age_command.proofs.FileLemmas.{came_did, did_came, holds_as, unread_as}

@@ -10,10 +10,10 @@ use Rattle.clap.specs.Words.{Text}
 use Rattle.age_fileset.specs.{FilesView, Outcome, CameSince, Alike, alike_as, noted_if, with_outcomes}
 use Rattle.age_fileset.proofs.{alike_plain, does_none, does_then, noted_came, noted_does}
 use Rattle.age_cli_args.specs.{option_text}
-use Rattle.age_command.specs.Orders.{Apart, AreApart, apart_from}
+use Rattle.age_command.specs.Orders.{AreApart}
 use Rattle.age_cli.specs.{AreSame}
 use Rattle.age_cli.specs.inner.{Compares}
-use Rattle.age_cli.proofs.OpeningLemmas.{did_came}
+use Rattle.age_command.proofs.FileLemmas.{did_came}
 
 abbrev pub Pairs : Type 1
 Pairs = Text → Text → Type 0
@@ -68,19 +68,19 @@ module _ {old mid new : FilesView} {answer : Bool} {A B C : Pairs} where
   }
 
 -- a name that has to differ from others doesn't, which is enough, or it does
-pub first_name : {old new : FilesView} {answer : Bool} (a : Apart) (more : List Apart) → answer ≡ true → Compares old new answer (AreApart (a ∷ []))
+pub first_name : {old new : FilesView} {answer : Bool} (a : Option Text × List (Option Text)) (more : List (Option Text × List (Option Text))) → answer ≡ true → Compares old new answer (AreApart (a ∷ []))
     → Compares old new true (AreApart (a ∷ more))
 first_name a more holds c =
     rw (sym holds) (names_as {A = AreApart (a ∷ [])} {C = AreApart (a ∷ more)} (λ one other p. elim p [ inl here ↦ inl here | inr never ↦ absurd never ]) (λ name p. inl holds) c)
 
-pub next_name : {old mid new : FilesView} {first answer : Bool} (a : Apart) (more : List Apart) → first ≡ false → Compares old mid first (AreApart (a ∷ []))
+pub next_name : {old mid new : FilesView} {first answer : Bool} (a : Option Text × List (Option Text)) (more : List (Option Text × List (Option Text))) → first ≡ false → Compares old mid first (AreApart (a ∷ []))
     → Compares mid new answer (AreApart more) → Compares old new answer (AreApart (a ∷ more))
 next_name a more isnt c d = then_names {A = AreApart (a ∷ [])} {B = AreApart more} {C = AreApart (a ∷ more)} isnt (λ one other p. inr p)
     (λ name p. elim p [ inl here ↦ inl (inl here) | inr rest ↦ inr rest ]) c d
 
 -- of others, from this place on, and at it
 abbrev pub FromPlace : Option Text → List (Option (Bor Text)) → ℕ → Pairs
-FromPlace name others i = AreApart (apart_from name (map option_text (drop i others)) ∷ [])
+FromPlace name others i = AreApart ((name, map option_text (drop i others)) ∷ [])
 
 abbrev AtPlace : Option Text → List (Option (Bor Text)) → ℕ → Option (Bor Text) → Pairs
 AtPlace name others i d one other = (name ≡ Some one) × (option_text (get_or others i d) ≡ Some other)

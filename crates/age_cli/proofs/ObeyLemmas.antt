@@ -17,20 +17,21 @@ use Rattle.age_io.proofs.{Appends-trans}
 use Rattle.age_fault.specs.{HasRisen}
 use Rattle.age_fault.specs.declared.fault.FileFault.{FileFault}
 use Rattle.age_cli_args.specs.{IsForHelp, refusals}
-use Rattle.age_cli_args.specs.declared.request.ProgressOption.TheVariants.{Shown, Silent}
 use Rattle.age_cli_args.specs.declared.request.Request.{Request}
 use Rattle.age_cli_args.specs.declared.request.Request.TheVariants.{Inspect, Drill}
 use Rattle.age_cli_args.specs.Requests.{Requests}
 use Rattle.age_cli_args.specs.declared.request.Drilling.{Drilling}
 use Rattle.age_file.specs.{Ports, IsReport}
-use Rattle.age_fileset.specs.{FilesView, Does}
+use Rattle.age_fileset.specs.{CameSince, FilesView, Does}
 use Rattle.age_fileset.proofs.{did_events}
-use Rattle.age_command.specs.{Announces, ReportsEnding, ReportsRest, TakesLine, fault_line, Begins, order_asked}
+use Rattle.age_command.specs.{Announces, ReportsEnding, ReportsRest, TakesLine, fault_line, Follows, order_asked}
 use Rattle.age_command.specs.declared.ending.Announcement.TheVariants.{Unmade, Made, Failed}
 use Rattle.age_command.specs.declared.ending.Ending.{Ending}
 use Rattle.age_command.specs.declared.ending.Ending.TheVariants.{Words, Fault, Unsaved, Usage}
 use Rattle.age_command.specs.declared.ending.Announcement.{Announcement}
-use Rattle.age_command.proofs.{begun, follows_by}
+use Rattle.age_command.proofs.{followed}
+use Rattle.age_drill.specs.{DrillEnds, RefusesDrill}
+use Rattle.age_drill.proofs.DrillLemmas.{ends_refused}
 use Rattle.age_cli.specs.Acts.{Acts}
 use Rattle.age_cli.specs.{IsUsage, FailsReport, DoesOther, FailsWriting, IsRefusal, Obeys, World}
 use Rattle.age_cli.specs.inner.{IsForOutput, IsInspected}
@@ -87,26 +88,20 @@ every_fault : {A : Type 0} (r : Result A Ending) (P : Ending → Type 0) → ((e
 every_fault (Ok x) P h = tt
 every_fault (Err e) P h = h e
 
-shown_not_silent : Silent ≡ Shown → ⊥
-shown_not_silent is = cc
-
-module _ (IsPorts : Ports → Type 0) (before after : FilesView) (Unshown : Type 0) (Progress : Option (List ℕ) → Result (Unit {0}) Ending → Type 0)
+module _ (IsPorts : Ports → Type 0) (before after : FilesView) (Unshown : Type 0) (Progress : Text → Result (Unit {0}) Ending → Type 0)
     (r : Result (Unit {0}) Ending) (silent : Unshown) where
-  pub drill_acts : (d : Drilling) → Begins (order_asked (Drill d)).whole before after → OnOk r (Does (order_asked (Drill d)).done before after)
-      → Acts IsPorts (Drill d) before after Unshown Progress r
-  drill_acts d whole finished =
-      let follows = follows_by (order_asked (Drill d)).whole before after whole in
+  pub drill_acts : (U P : Type 0) (was is : SinkView) (d : Drilling) → Follows (order_asked (Drill d)).whole before.events after.events → OnOk r (Does (order_asked (Drill d)).done before after)
+      → DrillEnds U (RefusesDrill (CameSince before after) d) P was is r → Acts IsPorts (Drill d) before after Unshown Progress r
+  drill_acts U P was is d follows finished ended =
       record {
         done = always_ok r _ tt;
         stopped = every_fault r _ (λ e. inr tt);
-        blamed = every_fault r _ (λ e usage. inr (inl tt));
+        blamed = IfErr-weaker r _ _ (λ e why usage. inr (inr (why usage).0, follows)) (ends_refused U P (RefusesDrill (CameSince before after) d) was is r ended);
         order = follows;
         order_done = on_ok_weaker r (λ did. did_events (order_asked (Drill d)).done before after did) finished;
-        order_judged = every_fault r _ (λ e usage. inl follows);
         apart = λ twice. absurd twice.1;
-        silent = λ asked. silent;
         progress = inl silent;
-        shown = always_ok r _ (λ asked. absurd (shown_not_silent asked));
+        shown = always_ok r _ tt;
       }
 
   -- a file is opened, or none, and no fault is one of the words
@@ -119,17 +114,15 @@ module _ (IsPorts : Ports → Type 0) (before after : FilesView) (Unshown : Type
         done = always_ok r _ tt;
         stopped = every_fault r _ (λ e. inr tt);
         blamed = impossible _;
-        order = follows_by (order_asked (Inspect file)).whole before after (begun (order_asked (Inspect file)).whole before after did);
+        order = followed before.events after.events (order_asked (Inspect file)).whole (did_events (order_asked (Inspect file)).whole before after did);
         order_done = always_ok r _ (did_events (order_asked (Inspect file)).done before after did);
-        order_judged = impossible _;
         apart = λ twice. absurd twice.1;
-        silent = λ asked. silent;
         progress = inl silent;
-        shown = always_ok r _ (λ asked. absurd (shown_not_silent asked));
+        shown = always_ok r _ tt;
       }
 
 pub obeyed : (words : List Text) (IsPorts : Ports → Type 0) (before after : World) (Unread Unprinted Unshown : Type 0)
-    (Progress : Option Text → Result (Unit {0}) Ending → Type 0) (ended : Result (Unit {0}) Ending) (asked : Request) → Requests words asked
+    (Progress : Text → Result (Unit {0}) Ending → Type 0) (ended : Result (Unit {0}) Ending) (asked : Request) → Requests words asked
     → Acts IsPorts asked before.files after.files Unshown Progress ended
     → DoesOther words IsPorts before after Unread Unprinted Unshown Progress ended asked
     → Obeys words IsPorts before after Unread Unprinted Unshown Progress ended

@@ -5,18 +5,19 @@ use Rattle.clap.specs.Words.{Text}
 use Rattle.age_io.specs.{SinkView}
 use Rattle.age_fault.specs.declared.fault.FileFault.{FileFault}
 use Rattle.age_fault.specs.declared.fault.FileFault.TheVariants.{Read, Write, Memory, BadPosition}
-use Rattle.age_fileset.specs.{IsMemoryOr, OpenFails, Event, Outcome, FilesView, CameSince, Does, PutsOnly, InUse, Terminal, Unread, Unwritten, Gave, Opened}
+use Rattle.age_fileset.specs.{IsMemoryOr, OpenFails, Event, Outcome, FilesView, CameSince, Does, PutsOnly, InUse, Terminal, Unread, Unwritten, Open}
 use Rattle.age_fileset.specs.{puts_in, refused_as, with_event, with_outcomes, Entry}
 use Rattle.age_fileset.specs.declared.files.OpenFault.{OpenFault}
-use Rattle.age_fileset.proofs.{all_as, came_one, came_then, did_ended, did_events, given_as, grows_by, grows_then, then_came, puts_then, unwritten_puts, does_only}
+use Rattle.age_fileset.proofs.{came_one, came_then, did_ended, did_events, grows_by, grows_then, then_came, puts_then, unwritten_puts, does_only}
 use Rattle.age_fileset.proofs.OutcomeLemmas.{does_so, unread_puts}
-use Rattle.age_command.specs.{EndsEarly, is_usage, HasReason, HoldsOnly, IsUnreadable}
+use Rattle.age_cli_args.specs.declared.request.Request.{Request}
+use Rattle.age_command.specs.{is_usage, IsUnreadable}
 use Rattle.age_command.specs.declared.ending.Ending.{Ending}
 use Rattle.age_command.specs.declared.ending.Ending.TheVariants.{Fault, Usage}
 use Rattle.age_command.specs.declared.ending.Usage.TheVariants.{SameFile}
 use Rattle.age_command.specs.inner.{ending_of}
-use Rattle.age_command.proofs.{followed, longer, then_follows, no_value, this_error}
-use Rattle.age_cli.specs.{IsUnusable, CameFirst, SparesOut}
+use Rattle.age_command.proofs.{did_came, followed, longer, then_follows, no_value, this_error, unread_as}
+use Rattle.age_cli.specs.{EndsBefore, IsUnusable, CameFirst, SparesOut}
 use Rattle.age_cli.specs.inner.{EndsBy, FailsEarly, IsUnopened, OpensFiles}
 use Rattle.std.proofs.lemmas.List.{append_cancel_left}
 use Rattle.age_machine.specs.{EndedFile, Discards, IsUntouched, OutFile}
@@ -38,26 +39,10 @@ spared_then first middle last same (inr spared) = inr spared
 
 -- ---- What came in a part of a command came in the whole.
 
-module _ {a : List Event} {old mid new : FilesView} where
-  pub did_came : Does a old mid → (o : Outcome) → CameSince mid new o → CameSince old new o
-  did_came did o came = then_came [] old mid new (grows_by a old mid did) o came
-
-  pub came_did : Does a mid new → (o : Outcome) → CameSince old mid o → CameSince old new o
-  came_did did o came = came_then [] old mid new (grows_by a mid new did) o came
-
 pub same_events : {old new : FilesView} → Does [] old new → new.events ≡ old.events
 same_events {old = old} {new = new} did = did_events [] old new did ∙ append-nil old.events
 
 module _ {Came Later : Outcome → Type 0} (so : (o : Outcome) → Came o → Later o) where
-  pub unread_as : IsUnreadable Came → IsUnreadable Later
-  unread_as (inl (name, came)) = inl (name, so (Unread name) came)
-  unread_as (inr (r, gave, failing)) = inr (r, so (Gave r) gave, failing)
-
-  -- what a file holds, also in other words
-  pub holds_as : {name : Text} {P Q : List ℕ → Type 0} → ((bytes : List ℕ) → P bytes → Q bytes) → HoldsOnly Came name P → HoldsOnly Later name Q
-  holds_as {name = name} then (bytes, inl (all, p)) = (bytes, inl (all_as Came Later so name bytes all, then bytes p))
-  holds_as {name = name} then (bytes, inr (given, p)) = (bytes, inr (given_as Came Later so name bytes given, (λ rest. then _ (p rest))))
-
   -- whatever output may be no terminal
   pub taken_as : (to : Option Text) (e : Ending) → IsUnusable Came None e → IsUnusable Later to e
   taken_as to e (inl (is, (name, came))) = inl (is, (name, so (InUse name) came))
@@ -70,7 +55,7 @@ module _ {Came Later : Outcome → Type 0} (so : (o : Outcome) → Came o → La
 
   pub ends_as : {Bad Bad' : Type 0} {Blame Blame' : Ending → Type 0} → (Bad → Bad') → ((e : Ending) → Blame e → Blame' e) → (e : Ending)
       → EndsBy Came Bad Blame e → EndsBy Later Bad' Blame' e
-  ends_as bad blame (Fault Read) by = record { cause = unread_as by.cause }
+  ends_as bad blame (Fault Read) by = record { cause = unread_as so by.cause }
   ends_as bad blame (Fault Write) by = record { cause = (by.cause.0, so (Unwritten by.cause.0) by.cause.1) }
   ends_as bad blame (Fault Memory) by = record { cause = tt }
   ends_as bad blame (Fault BadPosition) by = record { cause = bad by.cause }
@@ -86,19 +71,13 @@ module _ {Came Later : Outcome → Type 0} (so : (o : Outcome) → Came o → La
 -- ---- What a cause says.
 
 module _ {Came : Outcome → Type 0} {Bad : Type 0} {Blame : Ending → Type 0} where
-  pub ends_early : (P : Type 0) (e : Ending) → EndsBy Came Bad Blame e → (EndsEarly e → P) → (e ≡ Fault BadPosition → Bad → P) → P
-  ends_early P (Fault Read) by early bad = early (inl refl)
-  ends_early P (Fault Write) by early bad = early (inr (inl refl))
-  ends_early P (Fault Memory) by early bad = early (inr (inr refl))
-  ends_early P (Fault BadPosition) by early bad = bad refl by.cause
-  ends_early P (Usage usage) by early bad = early tt
-  ends_early P e by early bad = absurd by.cause
-
-  pub ends_reason : (e : Ending) → EndsBy Came Bad Blame e → HasReason Came e
-  ends_reason (Fault Read) by = by.cause
-  ends_reason (Fault Write) by = by.cause
-  ends_reason (Fault other) by = tt
-  ends_reason e by = tt
+  pub ends_before : (asked : Request) (e : Ending) → EndsBy Came Bad Blame e → (Bad → EndsBefore Came (Fault BadPosition) asked) → EndsBefore Came e asked
+  ends_before asked (Fault Read) by bad = by.cause
+  ends_before asked (Fault Write) by bad = by.cause
+  ends_before asked (Fault Memory) by bad = tt
+  ends_before asked (Fault BadPosition) by bad = bad by.cause
+  ends_before asked (Usage usage) by bad = refl
+  ends_before asked e by bad = absurd by.cause
 
   pub ends_blame : (e : Ending) → EndsBy Came Bad Blame e → is_usage e ≡ true → Blame e
   ends_blame (Usage usage) by blamed = by.cause
@@ -178,9 +157,9 @@ module _ (name : Text) {old new : FilesView} (f : OpenFault) where
   refused_came o g one noted same =
       came_one old new o (noted ∙ ap (λ x. old.outcomes ++ refused_as name x) same ∙ ap (λ l. old.outcomes ++ l) one)
 
-  pub opened_fails : new ≡ with_event (Opened name) (refused_as name f) old → OpenFails Read f → FailsEarly (Opened name ∷ []) ⊥ (IsUnopened None) old new (ending_of f)
+  pub opened_fails : new ≡ with_event (Open name) (refused_as name f) old → OpenFails Read f → FailsEarly (Open name ∷ []) ⊥ (IsUnopened None) old new (ending_of f)
   opened_fails noted fails =
-      fails_all (does_so old new (Opened name) (refused_as name f) noted (unread_puts name f fails)) (λ no. absurd no)
+      fails_all (does_so old new (Open name) (refused_as name f) noted (unread_puts name f fails)) (λ no. absurd no)
       (fault_why Read f fails (λ same. inl (refl, (name, refused_came (InUse name) refuse.SameFile refl (ap (λ v. v.outcomes) noted) same)))
       (λ is. record { cause = inl (name, refused_came (Unread name) (refuse.Fault Read) refl (ap (λ v. v.outcomes) noted) is) }))
 

@@ -1,6 +1,7 @@
 -- What was put of an output, and of the file of a position.
 use Rattle.std.proofs.Common.{◌≡◌, ◌∙◌, ◌⊎◌, ⊎_elim, ◌++◌, ◌∷◌, [], ℕ, List, inl, inr, refl, ap, sym, subst, true, false, true≢false, Option, Some, None}
 use Rattle.std.proofs.Common.{Result, Ok, Err, OnOk, IfErr, append-nil}
+use Rattle.std.proofs.lemmas.Result.{IfErr-weaker}
 use Rattle.std.specs.Prelude.{IsOk, IsOkUnless, IsSomeAnd, is_some, ◌≤◌, ◌*◌, OnErr, IfSome, ◌<◌}
 use Rattle.clap.specs.Words.{Text}
 use Rattle.age_chunk.specs.{chunk_length}
@@ -13,15 +14,16 @@ use Rattle.age_file.specs.{position_text}
 use Rattle.age_file.specs.declared.position.Position.{Position}
 use Rattle.age_machine.specs.{Closes, Discards, EndedFile, OutFile, SavedFile, IsThere, IsOnDisk}
 use Rattle.age_machine.specs.Saved.{Saves}
-use Rattle.age_fileset.specs.{Unwritten, Entry, entry, FilesView, Closed, Does, PutsOnly, CameSince, IsMemoryOr, Outcome, Put, refused_as, written_as, puts_in}
+use Rattle.age_fileset.specs.{Unwritten, Entry, entry, FilesView, Close, Does, PutsOnly, CameSince, IsMemoryOr, Outcome, Put, refused_as, written_as, puts_in}
 use Rattle.age_fileset.proofs.{came_one, none_plain, grows_then, grows_by, then_came, did_events, unwritten_puts}
 use Rattle.age_command.proofs.{followed, longer, then_follows}
 use Rattle.age_command.specs.{Follows, is_usage, replacing}
 use Rattle.age_command.specs.declared.ending.Ending.{Ending}
-use Rattle.age_command.specs.declared.ending.Ending.TheVariants.{Fault, Unsaved}
-use Rattle.age_cli.specs.{IsThereUnlessFailed, IsEndingOf, IsLost, IsNotDue, IsStored, IsUnsavable, LacksOne, Interruption}
-use Rattle.age_cli.specs.inner.{ClosesOut, Concludes, IsLeft, IsPut, LeavesOut, SavesStop}
-use Rattle.age_cli.proofs.OpeningLemmas.{did_came, same_events}
+use Rattle.age_command.specs.declared.ending.Ending.TheVariants.{Fault}
+use Rattle.age_cli.specs.{IsThereUnlessFailed, IsSaved, Interruption, stop_ending}
+use Rattle.age_cli.specs.inner.{ClosesOut, Concludes, IsLeft, IsPut, IsUnsavable, LacksOne, LeavesOut, PutsRest, SavesStop}
+use Rattle.age_cli.proofs.OpeningLemmas.{same_events}
+use Rattle.age_command.proofs.FileLemmas.{did_came}
 use Rattle.age_fileset.specs.declared.files.OpenFault.TheVariants as refusal
 
 -- nothing was put
@@ -73,94 +75,107 @@ Saved durability save settled position old new r = ((new ≡ old) × OnOk r (Lac
     Saves (position_text p) durability r new.saved × (p.index * chunk_length ≤ settled)
     × IsSomeAnd save (λ to. new.outcomes ≡ old.outcomes ++ written_as to (position_text p) r))
 
-abbrev pub PutsRest : Durability → Option Text → ℕ → Option Position → (old new : FilesView) → Ending → Type 0
-PutsRest durability save settled position old new e = (rest : List Entry) × PutsOnly rest old new
-    × (((rest ≡ []) × (new.events ≡ old.events) × IsNotDue settled e save position)
-    ⊎ IsStored (CameSince old new) durability save settled position e rest new.saved)
-
-pub saved_well : (durability : Durability) (save : Option Text) (settled : ℕ) (position : Option Position) (old new : FilesView) (fault : FileFault)
-    → Saved durability save settled position old new (Ok tt) → PutsRest durability save settled position old new (Fault fault)
-saved_well durability save settled position old new fault (inl (same, lacks, none)) =
-    ([], grows_kept old new (ap (λ v. v.outcomes) same), inl (refl, ap (λ v. v.events) same, lacks))
-saved_well durability save settled None old new fault (inr saved) = absurd saved
-saved_well durability None settled (Some p) old new fault (inr saved) = absurd saved.2
-saved_well durability (Some to) settled (Some p) old new fault (inr saved) =
-    (entry to (position_text p) ∷ [], grows_put to (position_text p) old new saved.2, inr (record { put = saved.0; is = (refl, saved.1); lost = tt }))
+abbrev WhySaved : Option Text → Option Position → Result (Unit {0}) FileFault → Type 0
+WhySaved save position r = IfErr r (λ second. IsMemoryOr Write second × (is_some save ≡ true) × (is_some position ≡ true))
 
 lost_so : (name : Text) (second : FileFault) (old new : FilesView) → new.outcomes ≡ old.outcomes ++ refused_as name (refusal.Fault second) → IsMemoryOr Write second
     → (second ≡ Memory) ⊎ ((second ≡ Write) × CameSince old new (Unwritten name))
 lost_so name second old new is (inl write) = inr (write, lost_came name second old new is write)
 lost_so name second old new is (inr memory) = inl memory
 
-lost_as : (Came Later : Outcome → Type 0) → ((o : Outcome) → Came o → Later o) → (e : Ending) (save : Option Text) → IsLost Came e save → IsLost Later e save
-lost_as Came Later so (Unsaved fault second) (Some name) (inl memory) = inl memory
-lost_as Came Later so (Unsaved fault second) (Some name) (inr (write, came)) = inr (write, so (Unwritten name) came)
-lost_as Came Later so e save lost = tt
+module _ (durability : Durability) (old new : FilesView) where
+  abbrev PutsSo : ℕ → Option Text → Option Position → Result (Unit {0}) FileFault → Type 0
+  PutsSo settled save position how = (rest : List Entry) × PutsOnly rest old new
+      × IsSaved (CameSince old new) durability settled position save how rest new.saved (new.events ≡ old.events)
+
+  puts_none : new ≡ old → PutsOnly [] old new
+  puts_none same = grows_kept old new (ap (λ v. v.outcomes) same)
+
+  puts_so : (settled : ℕ) (save : Option Text) (position : Option Position) (how : Result (Unit {0}) FileFault) → Saved durability save settled position old new how
+      → WhySaved save position how → PutsSo settled save position how
+  puts_so settled (Some name) (Some p) (Ok done) (inl (same, lacks, none)) why = absurd lacks
+  puts_so settled (Some name) (Some p) (Err second) (inl (same, lacks, unsavable)) why = ([], puts_none same, inl (unsavable, refl, ap (λ v. v.events) same))
+  puts_so settled (Some name) (Some p) (Ok done) (inr saved) why =
+      (entry name (position_text p) ∷ [], grows_put name (position_text p) old new saved.2, inr (saved.1, record { put = saved.0; stands = refl; lost = tt }))
+  puts_so settled (Some name) (Some p) (Err second) (inr saved) why = (
+    [],
+    grows_lost name second old new saved.2 why.0,
+    inr (saved.1, record { put = saved.0; stands = tt; lost = (refl, lost_so name second old new saved.2 why.0) }),
+  )
+  puts_so settled save None (Ok done) (inl (same, lacks, none)) why = ([], puts_none same, (refl, refl, ap (λ v. v.events) same))
+  puts_so settled None (Some p) (Ok done) (inl (same, lacks, none)) why = ([], puts_none same, (refl, refl, ap (λ v. v.events) same))
+  puts_so settled save None (Ok done) (inr saved) why = absurd saved
+  puts_so settled None (Some p) (Ok done) (inr saved) why = absurd saved.2
+  puts_so settled save None (Err second) saved why = absurd (true≢false (sym why.2))
+  puts_so settled None (Some p) (Err second) saved why = absurd (true≢false (sym why.1))
+
+  pub puts_rest : (save : Option Text) (stop : Interruption) (how : Result (Unit {0}) FileFault) → Saved durability save stop.settled stop.position old new how
+      → WhySaved save stop.position how → PutsRest durability save stop old new (stop_ending stop.fault how)
+  puts_rest save stop how saved why =
+      let so = puts_so stop.settled save stop.position how saved why in
+      record { how = how; reported = refl; rest = so.0; puts = so.1; saved = so.2 }
 
 -- what was said by then
-pub stored_as : (Came Later : Outcome → Type 0) → ((o : Outcome) → Came o → Later o) → (durability : Durability) (save : Option Text) (settled : ℕ) (position : Option Position)
-    (e : Ending) (rest : List Entry) (saved : SavedFile) → IsStored Came durability save settled position e rest saved → IsStored Later durability save settled position e rest saved
-stored_as Came Later so durability save settled position e rest saved stored = record { put = stored.put; is = stored.is; lost = lost_as Came Later so e save stored.lost }
-
-due_so : (save : Option Text) (settled : ℕ) (position : Option Position) (fault second : FileFault) → IsSomeAnd position (λ p. IsUnsavable settled p second)
-    → is_some save ≡ true → IsNotDue settled (Unsaved fault second) save position
-due_so (Some name) settled (Some p) fault second why named = why
-due_so (Some name) settled None fault second why named = absurd why
-due_so None settled position fault second why named = absurd (true≢false (sym named))
-
-pub saved_badly : (durability : Durability) (save : Option Text) (settled : ℕ) (position : Option Position) (old new : FilesView) (fault second : FileFault)
-    → Saved durability save settled position old new (Err second) → IsMemoryOr Write second × (is_some save ≡ true) × (is_some position ≡ true)
-    → PutsRest durability save settled position old new (Unsaved fault second)
-saved_badly durability save settled position old new fault second (inl (same, lacks, unsavable)) why =
-    ([], grows_kept old new (ap (λ v. v.outcomes) same), inl (refl, ap (λ v. v.events) same, due_so save settled position fault second unsavable why.1))
-saved_badly durability save settled None old new fault second (inr saved) why = absurd saved
-saved_badly durability None settled (Some p) old new fault second (inr saved) why = absurd saved.2
-saved_badly durability (Some to) settled (Some p) old new fault second (inr saved) why =
-    ([], grows_lost to second old new saved.2 why.0, inr (record { put = saved.0; is = (refl, saved.1); lost = lost_so to second old new saved.2 why.0 }))
+pub saved_as : (Came Later : Outcome → Type 0) {Untried Untried' : Type 0} → ((o : Outcome) → Came o → Later o) → (Untried → Untried') → (durability : Durability) (settled : ℕ)
+    (position : Option Position) (save : Option Text) (how : Result (Unit {0}) FileFault) (rest : List Entry) (saved : SavedFile)
+    → IsSaved Came durability settled position save how rest saved Untried → IsSaved Later durability settled position save how rest saved Untried'
+saved_as Came Later so then durability settled (Some p) (Some name) how rest saved (inl (failed, none, untried)) = inl (failed, none, then untried)
+saved_as Came Later so then durability settled (Some p) (Some name) how rest saved (inr (within, stored)) = inr (
+  within,
+  record {
+    put = stored.put;
+    stands = stored.stands;
+    lost = IfErr-weaker how _ _ (λ second why. (why.0, ⊎_elim (λ memory. inl memory) (λ lost. inr (lost.0, so (Unwritten name) lost.1)) why.1)) stored.lost;
+  },
+)
+saved_as Came Later so then durability settled (Some p) None how rest saved (well, none, untried) = (well, none, then untried)
+saved_as Came Later so then durability settled None save how rest saved (well, none, untried) = (well, none, then untried)
 
 -- ---- How an output was ended.
 
-module _ {save : Option Text} {durability : Durability} {sink : SinkView} {settled : ℕ} {stop : Interruption} {old mid new : FilesView} {e : Ending} where
+module _ {save : Option Text} {durability : Durability} {sink : SinkView} {stop : Interruption} {old mid new : FilesView} {e : Ending} where
   -- it was left, and then the position of the stop was saved, or not
-  pub saves_stop : LeavesOut durability sink old mid → new.ended ≡ mid.ended → IsEndingOf stop.fault e → Follows (replacing save durability) mid.events new.events
-      → PutsRest durability save settled stop.position mid new e → SavesStop save durability sink settled stop old new e
-  saves_stop left same reported order (rest, more, by) = record {
-    reported = reported;
+  pub saves_stop : LeavesOut durability sink old mid → new.ended ≡ mid.ended → Follows (replacing save durability) mid.events new.events
+      → PutsRest durability save stop mid new e → SavesStop save durability sink stop old new e
+  saves_stop left same order by = record {
+    how = by.how;
+    reported = by.reported;
     ended = subst (λ (o : Option EndedFile). IsSomeAnd o (IsLeft durability sink)) (sym same) left.ended;
-    order = then_follows old.events mid.events new.events (Closed durability ∷ []) (replacing save durability) left.noted order;
+    order = then_follows old.events mid.events new.events (Close durability ∷ []) (replacing save durability) left.noted order;
     outs = left.outs;
-    rest = rest;
-    puts_only = grows_then left.outs rest old mid new left.puts_only more;
+    rest = by.rest;
+    puts_only = grows_then left.outs by.rest old mid new left.puts_only by.puts;
     out = left.out;
-    saved = ⊎_elim (λ due. inl (due.1 ∙ left.noted, due.0, due.2))
-        (λ stored. inr (stored_as (CameSince mid new) (CameSince old new) (then_came left.outs old mid new left.puts_only) durability save settled stop.position e rest new.saved stored)) by;
+    saved = saved_as (CameSince mid new) (CameSince old new) (then_came left.outs old mid new left.puts_only) (λ kept. kept ∙ left.noted) durability stop.settled stop.position save
+        by.how by.rest new.saved by.saved;
   }
 
   -- the same from before something else was done
-  pub saves_from : Does [] old mid → SavesStop save durability sink settled stop mid new e → SavesStop save durability sink settled stop old new e
+  pub saves_from : Does [] old mid → SavesStop save durability sink stop mid new e → SavesStop save durability sink stop old new e
   saves_from did s = record {
+    how = s.how;
     reported = s.reported;
     ended = s.ended;
-    order = then_follows old.events mid.events new.events [] (Closed durability ∷ replacing save durability) (did_events [] old mid did) s.order;
+    order = then_follows old.events mid.events new.events [] (Close durability ∷ replacing save durability) (did_events [] old mid did) s.order;
     outs = s.outs;
     rest = s.rest;
     puts_only = grows_then [] (s.outs ++ s.rest) old mid new (grows_by [] old mid did) s.puts_only;
     out = s.out;
-    saved = ⊎_elim (λ due. inl (due.0 ∙ ap (λ es. es ++ Closed durability ∷ []) (same_events did), due.1, due.2))
-        (λ stored. inr (stored_as (CameSince mid new) (CameSince old new) (did_came did) durability save settled stop.position e s.rest new.saved stored)) s.saved;
+    saved = saved_as (CameSince mid new) (CameSince old new) (did_came did) (λ noted. noted ∙ ap (λ es. es ++ Close durability ∷ []) (same_events did)) durability stop.settled
+        stop.position save s.how s.rest new.saved s.saved;
   }
 
-module _ (save : Option Text) (durability : Durability) (sink : SinkView) (settled : ℕ) (old mid new : FilesView) (did : Does [] old mid) where
+module _ (save : Option Text) (durability : Durability) (sink : SinkView) (old mid new : FilesView) (did : Does [] old mid) where
   closes_from : (puts : List Entry) (r : Result (Unit {0}) FileFault) → ClosesOut durability sink puts mid new r → ClosesOut durability sink puts old new r
   closes_from puts r c = record {
     file = c.file;
     ended = c.ended;
-    noted = c.noted ∙ ap (λ es. es ++ Closed durability ∷ []) (same_events did);
+    noted = c.noted ∙ ap (λ es. es ++ Close durability ∷ []) (same_events did);
     puts_only = grows_then [] puts old mid new (grows_by [] old mid did) c.puts_only;
   }
 
-  pub concludes_from : (engine : Result (Unit {0}) Interruption) (r : Result (Unit {0}) Ending) → Concludes save durability sink settled engine mid new r
-      → Concludes save durability sink settled engine old new r
+  pub concludes_from : (engine : Result (Unit {0}) Interruption) (r : Result (Unit {0}) Ending) → Concludes save durability sink engine mid new r
+      → Concludes save durability sink engine old new r
   concludes_from (Ok x) (Ok y) c = closes_from _ _ c
   concludes_from (Ok x) (Err (Fault f)) c = (closes_from [] (Err f) c.0, c.1, did_came did (Unwritten sink.taken.label) c.2)
   concludes_from (Err s) (Err e) c = saves_from did c
@@ -173,30 +188,29 @@ pub record Concluded (save : Option Text) (durability : Durability) (engine : Re
   pub puts : List Entry
   pub grows : PutsOnly puts old new
   pub fault : IfErr r (λ e. is_usage e ≡ false)
-  pub order : Follows (Closed durability ∷ replacing save durability) old.events new.events
-  pub done : OnOk r (IsOk engine × (new.events ≡ old.events ++ Closed durability ∷ []))
+  pub order : Follows (Close durability ∷ replacing save durability) old.events new.events
+  pub done : OnOk r (IsOk engine × (new.events ≡ old.events ++ Close durability ∷ []))
 
-no_usage : (f : FileFault) (e : Ending) → IsEndingOf f e → is_usage e ≡ false
-no_usage f (Fault x) is = refl
-no_usage f (Unsaved x second) is = refl
-no_usage f e is = absurd is
+pub no_usage : (f : FileFault) (how : Result (Unit {0}) FileFault) → is_usage (stop_ending f how) ≡ false
+no_usage f (Ok done) = refl
+no_usage f (Err second) = refl
 
-pub concluded : (save : Option Text) (durability : Durability) (sink : SinkView) (settled : ℕ) (engine : Result (Unit {0}) Interruption) (old new : FilesView)
-    (r : Result (Unit {0}) Ending) → Concludes save durability sink settled engine old new r → Concluded save durability engine old new r
-concluded save durability sink settled (Ok x) old new (Ok y) c = record {
+pub concluded : (save : Option Text) (durability : Durability) (sink : SinkView) (engine : Result (Unit {0}) Interruption) (old new : FilesView)
+    (r : Result (Unit {0}) Ending) → Concludes save durability sink engine old new r → Concluded save durability engine old new r
+concluded save durability sink (Ok x) old new (Ok y) c = record {
   puts = _;
   grows = c.puts_only;
   fault = tt;
-  order = longer (Closed durability ∷ []) (replacing save durability) old.events new.events (followed old.events new.events (Closed durability ∷ []) c.noted);
+  order = longer (Close durability ∷ []) (replacing save durability) old.events new.events (followed old.events new.events (Close durability ∷ []) c.noted);
   done = (refl, c.noted);
 }
-concluded save durability sink settled (Ok x) old new (Err (Fault f)) c = record {
+concluded save durability sink (Ok x) old new (Err (Fault f)) c = record {
   puts = [];
   grows = c.0.puts_only;
   fault = refl;
-  order = longer (Closed durability ∷ []) (replacing save durability) old.events new.events (followed old.events new.events (Closed durability ∷ []) c.0.noted);
+  order = longer (Close durability ∷ []) (replacing save durability) old.events new.events (followed old.events new.events (Close durability ∷ []) c.0.noted);
   done = tt;
 }
-concluded save durability sink settled (Err s) old new (Err e) c = record { puts = c.outs ++ c.rest; grows = c.puts_only; fault = no_usage s.fault e c.reported; order = c.order; done = tt }
-concluded save durability sink settled (Ok x) old new (Err e) c = absurd c
-concluded save durability sink settled (Err s) old new (Ok y) c = absurd c
+concluded save durability sink (Err s) old new (Err e) c = record { puts = c.outs ++ c.rest; grows = c.puts_only; fault = ap is_usage c.reported ∙ no_usage s.fault c.how; order = c.order; done = tt }
+concluded save durability sink (Ok x) old new (Err e) c = absurd c
+concluded save durability sink (Err s) old new (Ok y) c = absurd c

@@ -8,18 +8,17 @@ use Rattle.age_command.specs.declared.ending.Ending.TheVariants.{Fault}
 use Rattle.age_io.specs.{SourceView}
 use Rattle.age_fileset.specs.{Event, FilesView, Outcome, Gave, CameSince, Does, reading_of, with_outcomes}
 use Rattle.age_fileset.proofs.{does_only, does_then, came_one, came_then, then_came, grows_by, gave_puts, all_as}
-use Rattle.age_command.specs.{HoldsOnly, IsEnough, IsPassphraseIn, Makes, Chooses, IsSecretGiven, MakesBy, MakesNone, file_of, identity_file}
+use Rattle.age_command.specs.{HoldsOnly, IsEnough, Makes, Chooses, IsSecretGiven, MakesBy, MakesNone, file_of, identity_file}
 use Rattle.age_command.specs.declared.choice.Choice.TheVariants.{PassphraseFile, FileKey, SharedFile}
 use Rattle.age_command.specs.declared.identity.Identity.{Identity}
 use Rattle.age_command.specs.declared.identity.Identity.TheVariants.{ByPassphrase, ByFileKey, ByShared}
 use Rattle.age_command.specs.declared.ending.Ending.{Ending}
 use Rattle.std.proofs.lemmas.List.{length-append}
-use Rattle.std.specs.Borrow.{Bor}
-use Rattle.age_keys.specs.{IsAllowed, PassphraseIdentity}
-use Rattle.age_cli.specs.{IsUnusable, WasRead, HoldsNoPassphrase, HoldsNoRandom, HoldsNoPosition, OpensOf}
+use Rattle.age_cli.specs.{IsUnusable, WasRead, HoldsNoRandom, HoldsNoPosition, OpensOf}
 use Rattle.age_cli.specs.inner.{EndsBy, IsBlamedBy, IsUnplaced, age_file_in}
 use Rattle.age_cli.specs.declared.output.Writing.{Writing}
-use Rattle.age_cli.proofs.OpeningLemmas.{ends_as, holds_as, taken_as}
+use Rattle.age_cli.proofs.OpeningLemmas.{ends_as, taken_as}
+use Rattle.age_command.proofs.FileLemmas.{holds_as}
 use Rattle.age_cli_args.specs.declared.request.Decrypting.{Decrypting}
 use Rattle.age_cli_args.specs.declared.request.IdentityOptions.{IdentityOptions}
 use Rattle.age_command.specs.declared.choice.Choice.{Choice}
@@ -41,21 +40,6 @@ module _ (How : Option (List ℕ) → Option ℕ → Outcome) (name : Text) (e :
     over = then_came [] old mid new (grows_by (e ∷ []) old mid did) (Gave (reading_of name last)) (came_one mid new (Gave (reading_of name last)) (ap (λ v. v.outcomes) over));
   }
 
--- the property of a passphrase's file
-module _ (name : Bor Text) (log : ℕ) where
-  no_words : (held : Option (List ℕ)) → ((w : PassphraseIdentity) → IsPassphraseIn held w.pass → w.max_log ≡ log → IsAllowed w.pass w.max_log → ⊥)
-      → (i : Identity) → Makes (PassphraseFile name log) held i → ⊥
-  no_words held none (ByPassphrase words) makes = none words makes.0 makes.1 makes.2
-  no_words held none (ByFileKey key) makes = makes
-  no_words held none (ByShared s) makes = makes
-
-  so_words : (bytes : List ℕ) → ((i : Identity) → Makes (PassphraseFile name log) (Some bytes) i → ⊥) → HoldsNoPassphrase log bytes
-  so_words bytes none pass held allowed = none (ByPassphrase (record { pass = pass; max_log = log })) (held, refl, allowed)
-
-  pub pass_only : (Came : Outcome → Type 0) (held : Option (List ℕ)) → IsEnough Came (PassphraseFile name log) held
-      → ((w : PassphraseIdentity) → IsPassphraseIn held w.pass → w.max_log ≡ log → IsAllowed w.pass w.max_log → ⊥) → HoldsOnly Came name.now (HoldsNoPassphrase log)
-  pass_only Came held enough none = holds_as (λ o came. came) so_words (enough (no_words held none))
-
 -- a file with random bytes has 48 of them
 pub too_few : (bytes : List ℕ) → length bytes < 48 → HoldsNoRandom bytes
 too_few bytes few s is = absurd (omega (
@@ -76,7 +60,7 @@ too_few bytes few s is = absurd (omega (
 -- a file doesn't hold what it has to, or a name is in use
 pub blamed_for : {Came Later : Outcome → Type 0} {Own GivesNone : Ending → Type 0} (w : Writing) → ((o : Outcome) → Came o → Later o)
     → ((e : Ending) → Own e → GivesNone e) → (e : Ending) → EndsBy Came ⊥ (λ x. Own x ⊎ IsUnusable Came None x) e → EndsBy Later ⊥ (IsBlamedBy Later w GivesNone) e
-blamed_for w so own e by = ends_as so (λ no. no) (λ x. ⊎_elim (λ mine. inr (inl (own x mine))) (λ used. inr (inr (taken_as so (age_file_in w.content w.to.now) x used)))) e by
+blamed_for w so own e by = ends_as so (λ no. no) (λ x. ⊎_elim (λ mine. inr (inl (own x mine))) (λ used. inr (inr (taken_as so (age_file_in w.content w.paths.to.now) x used)))) e by
 
 -- what a part found, and what the whole found of it
 pub some_name : {Came Later : Outcome → Type 0} {How : Text → Outcome} → ((o : Outcome) → Came o → Later o) → (file : Option Text) → IsSomeAnd file (λ name. Came (How name))

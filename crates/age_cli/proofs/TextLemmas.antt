@@ -6,36 +6,36 @@ use Rattle.std.specs.Prelude.{IsSomeAnd, OnOk, IfErr, IsErrAnd}
 use Rattle.age_fault.specs.declared.fault.FileFault.{FileFault}
 use Rattle.age_fault.specs.declared.fault.FileFault.TheVariants.{Head, Key, NonceCut, OtherFile, PositionForged}
 use Rattle.age_file.proofs.GivenLemmas.{gave_text}
-use Rattle.age_file.specs.{SecretView, DecryptStops, InOldFails, InSkippedFails, Ports, Run, PayloadFails, Resumption, from_either, resumption}
+use Rattle.age_file.specs.{HeadFails, NoHeadFault, SecretView, DecryptStops, InOldFails, InSkippedFails, Ports, Run, PayloadFails, Resumption, from_either, resumption}
 use Rattle.age_file.specs.declared.decryption.Stopped.{Stopped}
 use Rattle.age_file.specs.declared.position.Position.{Position}
 use Rattle.age_file.specs.declared.position.PositionPolicy.{PositionPolicy}
 use Rattle.age_io.specs.{SinkView}
-use Rattle.age_io.specs.declared.durability.Durability.{Durability}
 use Rattle.age_io.specs.Taken.{Appends}
 use Rattle.age_fileset.specs.{Event, FilesView, Outcome, CameSince}
 use Rattle.clap.specs.Words.{Text}
 use Rattle.age_stanza.specs.declared.fault.HeadFault.{HeadFault}
 use Rattle.age_keys.specs.declared.fault.KeyFault.{KeyFault}
 use Rattle.age_machine.specs.{EndedFile, TouchesItself, IsUntouched}
-use Rattle.age_command.specs.{allows_by, refuses_by, order_asked, is_usage}
+use Rattle.age_command.specs.{allows_by, refuses_by, order_asked, is_usage, IsUnreadable}
 use Rattle.age_command.specs.declared.ending.Ending.{Ending}
-use Rattle.age_command.specs.declared.ending.Ending.TheVariants.{Fault, Unsaved}
 use Rattle.age_command.specs.declared.identity.Identity.{Identity}
-use Rattle.age_cli.specs.{CameFirst, Earlier, Engine, decrypt_engine, durability_of, HasEngineEnded, HasEngineStopped, HasNotBegun, OfEngine, IsEndingOf}
-use Rattle.age_cli.specs.{Paths, Returned, SparesOut, IsUsage, FailsFile, FailsInput, FailsReport, World, Obeys, DoesOther, FailsWriting, IsRefusal}
+use Rattle.age_cli.specs.{CameFirst, Earlier, decrypt_engine, HasEngineStopped, HasNotBegun, OfEngine, IsEndingOf, stop_ending}
+use Rattle.age_cli.specs.{Returned, SparesOut, IsUsage, FailsFile, FailsReport, World, Obeys, DoesOther, FailsWriting, IsRefusal}
 use Rattle.age_cli.specs.Acts.{Acts}
-use Rattle.age_cli.specs.{encrypt_engine, GivesText, GivesFile, GivesRest, IsBeforeText, IsForText, LeavesOf, LeavesText, kept_for, paths_of, paths_to_encrypt}
+use Rattle.age_cli.specs.{encrypt_engine, GivesText, GivesFile, GivesRest, IsBeforeText, IsForText, LeavesText, LeavesOf, kept_for}
 use Rattle.age_cli_args.specs.{IsForHelp, option_text}
 use Rattle.age_cli_args.specs.Requests.{Requests}
 use Rattle.age_fileset.proofs.{all_as}
+use Rattle.age_cli_args.specs.declared.request.Paths.{Paths}
 use Rattle.age_cli_args.specs.declared.request.Request.{Request}
+use Rattle.age_drill.specs.{RefusesDrill}
+use Rattle.age_drill.proofs.DrillLemmas.{ends_refused}
 use Rattle.age_cli_args.specs.declared.request.Request.TheVariants.{Encrypt, Decrypt, Resume, Inspect, Drill}
 
-same_fault : (f g : FileFault) (e : Ending) → IsEndingOf f e → IsEndingOf g e → f ≡ g
-same_fault f g (Fault x) is was = sym is ∙ was
-same_fault f g (Unsaved x second) is was = sym is ∙ was
-same_fault f g e is was = absurd is
+same_fault : (f g : FileFault) (save : Result (Unit {0}) FileFault) → IsEndingOf f (stop_ending g save) → f ≡ g
+same_fault f g (Ok done) is = sym is
+same_fault f g (Err second) is = sym is
 
 -- what comes later isn't such a fault
 module _ (Fails : FileFault → Type 0) (none : Fails NonceCut → ⊥) (other : Fails OtherFile → ⊥) (forged : Fails PositionForged → ⊥)
@@ -53,43 +53,38 @@ in_payload Never old new r f early = not_later (PayloadFails Never old new r) (�
 
 -- ---- An encryption, or a decryption, that is done.
 
-module _ (IsPorts : Ports → Type 0) (Came : Outcome → Type 0) (p : Paths) (durability : Durability) (before after : FilesView) where
-  leaves : (Gives : Ports → Ports → List ℕ → Type 0) (engine : Engine) (e : HasEngineEnded IsPorts Came engine p durability before after)
-      (text : List ℕ) → Gives e.run.before e.run.after text → Appends e.run.before.sink.taken e.run.after.sink.taken text
-      → LeavesText IsPorts Came Gives p durability after.ended
-  leaves Gives engine e text gave wrote = record {
-    run = e.run;
-    text = text;
-    gave = gave;
-    took = e.run.took ∙ (wrote.bytes ∙ ap (λ (l : List ℕ). l ++ text) e.run.new.taken);
-    closed = e.closed;
-    there = e.there;
-    safe = e.safe;
+module _ (IsPorts : Ports → Type 0) (Came : Outcome → Type 0) (p : Paths) (ended : Option EndedFile) where
+  leaves : (Gives Promise : Ports → Ports → List ℕ → Type 0) (l : LeavesText IsPorts Came Promise p ended) (text : List ℕ)
+      → Gives l.run.before l.run.after text → Appends l.run.before.sink.taken l.run.after.sink.taken text → LeavesText IsPorts Came Gives p ended
+  leaves Gives Promise l text gave wrote = record {
+    run = l.run;
+    promise = subst (λ (t : List ℕ). Gives l.run.before l.run.after t) (sym (l.run.took ∙ (wrote.bytes ∙ ap (λ (b : List ℕ). b ++ text) l.run.new.taken))) gave;
+    closed = l.closed;
+    there = l.there;
+    safe = l.safe;
   }
 
-  pub leaves_file : (secret : SecretView) → HasEngineEnded IsPorts Came (encrypt_engine secret) p durability before after
-      → LeavesText IsPorts Came (GivesText secret) p durability after.ended
-  leaves_file secret e =
-      let done = e.promise.1 in
-      leaves (GivesText secret) (encrypt_engine secret) e done.file (done.text, done.read, done.at_end, done.is) done.wrote
+  pub leaves_file : (secret : SecretView) → LeavesText IsPorts Came (λ old new took. (encrypt_engine secret).ends old new) p ended
+      → LeavesText IsPorts Came (GivesText secret) p ended
+  leaves_file secret l =
+      let done = l.promise.1 in
+      leaves (GivesText secret) _ l done.file (done.text, done.read, done.at_end, done.is) done.wrote
 
-module _ (IsPorts : Ports → Type 0) (Came : Outcome → Type 0) (p : Paths) (identity : Identity) (keep : PositionPolicy) (durability : Durability)
-    (before after : FilesView) where
-  pub leaves_text : HasEngineEnded IsPorts Came (decrypt_engine IsPorts Came keep identity None) p durability before after
-      → LeavesText IsPorts Came (GivesFile identity) p durability after.ended
-  leaves_text e =
-      let h = e.promise in
-      let gave = gave_text keep (allows_by identity) (refuses_by identity) e.run.before e.run.after None h.0 h.1 h.2 in
-      leaves IsPorts Came p durability before after (GivesFile identity) (decrypt_engine IsPorts Came keep identity None) e gave.0 gave.1 gave.2.0
+  module _ (save : Option Text) (identity : Identity) where
+    pub leaves_text : LeavesText IsPorts Came (λ old new took. (decrypt_engine IsPorts Came save identity None).ends old new) p ended
+        → LeavesText IsPorts Came (GivesFile identity) p ended
+    leaves_text l =
+        let h = l.promise in
+        let gave = gave_text (kept_for save) (allows_by identity) (refuses_by identity) l.run.before l.run.after None h.0 h.1 h.2 in
+        leaves (GivesFile identity) _ l gave.0 gave.1 gave.2.0
 
-  pub leaves_resumed : (go : Earlier) → HasEngineEnded IsPorts Came (decrypt_engine IsPorts Came keep identity (Some go)) p durability before after
-      → LeavesText IsPorts Came (GivesRest IsPorts Came go.name identity go.position) p durability after.ended
-  leaves_resumed go e =
-      let h = e.promise in
-      let gave = gave_text keep (allows_by identity) (refuses_by identity) e.run.before e.run.after (Some (resumption go.position h.0 h.1))
-      h.5.0 h.5.1 h.5.2 in
-      leaves IsPorts Came p durability before after (GivesRest IsPorts Came go.name identity go.position)
-      (decrypt_engine IsPorts Came keep identity (Some go)) e gave.0 (h.0, h.1, h.2, h.4, gave.1.0, gave.1.1) gave.2.0
+    pub leaves_resumed : (go : Earlier) → LeavesText IsPorts Came (λ old new took. (decrypt_engine IsPorts Came save identity (Some go)).ends old new) p ended
+        → LeavesText IsPorts Came (GivesRest IsPorts Came go.name identity go.position) p ended
+    leaves_resumed go l =
+        let h = l.promise in
+        let gave = gave_text (kept_for save) (allows_by identity) (refuses_by identity) l.run.before l.run.after (Some (resumption go.position h.0 h.1))
+        h.5.0 h.5.1 h.5.2 in
+        leaves (GivesRest IsPorts Came go.name identity go.position) _ l gave.0 (h.0, h.1, h.2, h.4, gave.1.0, gave.1.1) gave.2.0
 
 -- ---- One that stopped before it wrote.
 
@@ -121,12 +116,12 @@ module _ (IsPorts : Ports → Type 0) (Came : Outcome → Type 0) (p : Paths) (o
   spares_run identity from policy None stop so early stops = spares_early identity from stop so early stops
   spares_run identity from policy (Some r) stop so early stops = absurd (in_payload _ run.before run.after r stop.fault early stops.1.why)
 
-  spares_engine : (identity : Identity) (keep : PositionPolicy) (earlier : Option Earlier) (settled : ℕ) (fault : FileFault) (position : Option Position)
-      → Untouched → IsBeforeText fault → (decrypt_engine IsPorts Came keep identity earlier).stops settled fault position run.before run.after → SparesOut old ended
-  spares_engine identity keep None settled fault position so early (r, stop, is, stops, placed) =
-      spares_run identity None keep r stop so (subst IsBeforeText (sym is) early) stops
-  spares_engine identity keep (Some e) settled fault position so early (first, last, first_is, last_is, read, (r, stop, is, stops, placed)) =
-      spares_run identity (Some (resumption e.position first last)) keep r stop so (subst IsBeforeText (sym is) early) stops
+  spares_engine : (identity : Identity) (save : Option Text) (earlier : Option Earlier) (settled : ℕ) (fault : FileFault) (position : Option Position)
+      → Untouched → IsBeforeText fault → (decrypt_engine IsPorts Came save identity earlier).stops settled fault position run.before run.after → SparesOut old ended
+  spares_engine identity save None settled fault position so early (r, stop, is, stops, placed) =
+      spares_run identity None (kept_for save) r stop so (subst IsBeforeText (sym is) early) stops
+  spares_engine identity save (Some e) settled fault position so early (first, last, first_is, last_is, read, (r, stop, is, stops, placed)) =
+      spares_run identity (Some (resumption e.position first last)) (kept_for save) r stop so (subst IsBeforeText (sym is) early) stops
 
 -- of what was asked
 module _ (IsPorts : Ports → Type 0) (before after : FilesView) (ending : Ending) (fault : FileFault) (is : IsEndingOf fault ending)
@@ -134,22 +129,21 @@ module _ (IsPorts : Ports → Type 0) (before after : FilesView) (ending : Endin
   abbrev since : Outcome → Type 0
   since = CameSince before after
 
-  spares_stop : (p : Paths) (identity : Identity) (keep : PositionPolicy) (earlier : Option Earlier) (durability : Durability) (done : List Event)
-      → HasEngineStopped IsPorts since (decrypt_engine IsPorts since keep identity earlier) p durability done ending before after
-      → SparesOut before.ended after.ended
-  spares_stop p identity keep earlier durability done s =
-      let mine : IsBeforeText s.fault = subst IsBeforeText (same_fault fault s.fault ending is s.reported) early in
-      ⊎_elim (λ stop. spares_engine IsPorts since p before.ended after.ended s.run identity keep earlier s.settled s.fault s.position
+  spares_stop : (p : Paths) (identity : Identity) (save : Option Text) (earlier : Option Earlier) (done : List Event)
+      → HasEngineStopped IsPorts since (decrypt_engine IsPorts since save identity earlier) p done ending before after → SparesOut before.ended after.ended
+  spares_stop p identity save earlier done s =
+      let mine : IsBeforeText s.fault = subst IsBeforeText (same_fault fault s.fault s.save (subst (IsEndingOf fault) s.reported is)) early in
+      ⊎_elim (λ stop. spares_engine IsPorts since p before.ended after.ended s.run identity save earlier s.settled s.fault s.position
       stop.untouched mine stop.promise) (λ unended. absurd (subst IsBeforeText unended.is.0 mine)) s.cause
 
   pub spares_of_request : (asked : Request) → IsForText asked
       → HasNotBegun asked ending before after ⊎ OfEngine IsPorts since (CameFirst before after) asked
-      (λ engine paths. HasEngineStopped IsPorts since engine paths (durability_of asked) (order_asked asked).done ending before after)
+      (λ engine paths. HasEngineStopped IsPorts since engine paths (order_asked asked).done ending before after)
       → SparesOut before.ended after.ended
   spares_of_request asked text (inl unbegun) = unbegun.spared
-  spares_of_request (Decrypt d) text (inr stop) = spares_stop (paths_of d) stop.0 (kept_for (option_text d.save)) None _ _ stop.2
-  spares_of_request (Resume r) text (inr stop) = spares_stop (paths_of r.decrypting) stop.0 (kept_for (option_text r.decrypting.save))
-      (Some (record { position = stop.2; name = r.old.now })) _ _ stop.4
+  spares_of_request (Decrypt d) text (inr stop) = spares_stop d.paths stop.0 (option_text d.save) None _ stop.2
+  spares_of_request (Resume r) text (inr stop) =
+      spares_stop r.decrypting.paths stop.0 (option_text r.decrypting.save) (Some (record { position = stop.2; name = r.old.now })) _ stop.4
   spares_of_request asked text (inr stop) = absurd text
 
 -- ---- What is refused writes nothing.
@@ -167,7 +161,7 @@ no_help (Err e) Help Printed Unprinted old new done (inl refused) unasked = refu
 no_help (Err e) Help Printed Unprinted old new done (inr (help, writing)) unasked = absurd (unasked help)
 
 module _ (words : List Text) (IsPorts : Ports → Type 0) (before after : World) (Unread Unprinted Unshown : Type 0)
-    (Progress : Option Text → Result (Unit {0}) Ending → Type 0) where
+    (Progress : Text → Result (Unit {0}) Ending → Type 0) where
   abbrev IsSilent : Result (Unit {0}) Ending → Type 0
   IsSilent r = IfErr r (λ e. IsUsage e → Unprinted)
 
@@ -181,34 +175,26 @@ module _ (words : List Text) (IsPorts : Ports → Type 0) (before after : World)
 
   answered : (r : Result (Unit {0}) Ending) (asked : Request) → DoesOther words IsPorts before after Unread Unprinted Unshown Progress r asked
       → IsSilent r
-  answered r (Inspect None) a = unblamed r (FailsInput before.input after.input) before.output after.output a.0.stops
+  answered r (Inspect None) a = unblamed r (HeadFails NoHeadFault before.input after.input) before.output after.output a.0.stops
   answered r (Inspect (Some name)) a = unblamed r (FailsFile before.files after.files name.now) before.output after.output a.1.stops
-  answered r (Drill d) a = a.2
+  answered r (Drill d) a = IfErr-weaker r _ _ (λ e refused usage. (refused usage).1) (ends_refused (IsUnreadable (CameSince before.files after.files)) Unprinted (RefusesDrill (CameSince before.files after.files) d) before.output after.output r a.1)
   answered r asked a = unprinted r a.1
 
   -- a run that refuses its words writes nothing
   pub refused_silently : (r : Result (Unit {0}) Ending) → Obeys words IsPorts before after Unread Unprinted Unshown Progress r → IsSilent r
-  refused_silently r (inl report) = unblamed r (FailsInput before.input after.input) before.output after.output report.report.stops
+  refused_silently r (inl report) = unblamed r (HeadFails NoHeadFault before.input after.input) before.output after.output report.report.stops
   refused_silently r (inr (inl did)) = answered r did.asked did.answers
   refused_silently r (inr (inr declined)) = IfErr-weaker r _ _ (λ e. ⊎_elim (λ refused usage. refused.1)
       (λ help usage. absurd (true≢false (sym usage ∙ ap is_usage help.1.0)))) declined.stops
 
 -- ---- What status 0 says.
 
-leaves_asked : (IsPorts : Ports → Type 0) (before after : FilesView) (Unshown : Type 0) (Progress : Option Text → Result (Unit {0}) Ending → Type 0)
+leaves_asked : (IsPorts : Ports → Type 0) (before after : FilesView) (Unshown : Type 0) (Progress : Text → Result (Unit {0}) Ending → Type 0)
     (asked : Request) → Acts IsPorts asked before after Unshown Progress (Ok tt) → LeavesOf IsPorts (CameSince before after) after.ended asked
 leaves_asked IsPorts before after Unshown Progress (Encrypt e) did =
-    let done = did.done in (
-      done.0,
-      done.1,
-      leaves_file IsPorts (CameSince before after) (paths_to_encrypt e) e.durability before after done.0 done.2,
-    )
+    let done = did.done in (done.0, done.1, leaves_file IsPorts (CameSince before after) e.paths after.ended done.0 done.2.leaves)
 leaves_asked IsPorts before after Unshown Progress (Decrypt d) did =
-    let done = did.done in (
-      done.0,
-      done.1,
-      leaves_text IsPorts (CameSince before after) (paths_of d) done.0 (kept_for (option_text d.save)) d.durability before after done.2,
-    )
+    let done = did.done in (done.0, done.1, leaves_text IsPorts (CameSince before after) d.paths after.ended (option_text d.save) done.0 done.2.leaves)
 leaves_asked IsPorts before after Unshown Progress (Resume r) did =
     let done = did.done in
     let d = r.decrypting in (
@@ -216,12 +202,12 @@ leaves_asked IsPorts before after Unshown Progress (Resume r) did =
       done.1,
       done.2,
       all_as (CameFirst before after) (CameSince before after) (λ o first. first.came) _ _ done.3,
-      leaves_resumed IsPorts (CameSince before after) (paths_of d) done.0 (kept_for (option_text d.save)) d.durability before after _ done.4,
+      leaves_resumed IsPorts (CameSince before after) d.paths after.ended (option_text d.save) done.0 _ done.4.leaves,
     )
 leaves_asked IsPorts before after Unshown Progress other did = tt
 
 pub zero_leaves : (words : List Text) (IsPorts : Ports → Type 0) (before after : World) (Unread Unprinted Unshown : Type 0)
-    (Progress : Option Text → Result (Unit {0}) Ending → Type 0) → Obeys words IsPorts before after Unread Unprinted Unshown Progress (Ok tt)
+    (Progress : Text → Result (Unit {0}) Ending → Type 0) → Obeys words IsPorts before after Unread Unprinted Unshown Progress (Ok tt)
     → (words ≡ []) ⊎ (IsForHelp words ⊎ ((asked : Request) × Requests words asked × LeavesOf IsPorts (CameSince before.files after.files) after.files.ended asked))
 zero_leaves words IsPorts before after Unread Unprinted Unshown Progress (inl o) = inl o.none
 zero_leaves words IsPorts before after Unread Unprinted Unshown Progress (inr (inl o)) =

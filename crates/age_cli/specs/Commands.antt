@@ -5,7 +5,6 @@ use Rattle.std.specs.List.{flat_map}
 use Rattle.std.specs.Fmt.{decimal}
 use Rattle.age_io.specs.{SourceView, SinkView}
 use Rattle.age_io.specs.Supply.{Supply}
-use Rattle.age_io.specs.Taken.{Taken, Appends}
 use Rattle.age_keys.specs.{IsAllowed}
 use Rattle.age_fault.specs.{HasRisen}
 use Rattle.age_fault.specs.declared.fault.FileFault.{FileFault}
@@ -63,10 +62,7 @@ pub record HasSecret (Came : Outcome → Type 0) (asked : Encrypting) (secret : 
   pub random_given : HasGiven Came (random_name (option_text asked.random)) random
   pub makes : MakesSecret asked (Some pass) (Some random) secret
 
--- these bytes hold no passphrase that may be used with this work factor, and no random bytes
-abbrev pub HoldsNoPassphrase : ℕ → List ℕ → Type 0
-HoldsNoPassphrase log held = (pass : List ℕ) → IsPassphraseIn (Some held) pass → IsAllowed pass log → ⊥
-
+-- these bytes hold no random bytes
 abbrev pub HoldsNoRandom : List ℕ → Type 0
 HoldsNoRandom held = (secret : SecretView) → IsRandomIn (Some held) secret → ⊥
 
@@ -102,12 +98,6 @@ report_text r = codes "version age-encryption.org/v1\nheader " ++ decimal r.head
 
 -- ---- What `inspect` did.
 
--- the input was read to its end, and its report was written
-abbrev pub Reports : Supply → Supply → Taken → Taken → Type 0
-Reports input_old input_new output_old output_new =
-    (r : Report) × file.Inspects input_old input_new r
-    × Appends output_old output_new (report_text r)
-
 -- how long an input is, if that can be believed: a file of no length may give bytes, as in /proc
 abbrev pub believed : Option ℕ → Option ℕ
 believed None = None
@@ -118,29 +108,22 @@ abbrev pub ReportsAs : Option ℕ → Supply → Supply → Report → Type 0
 ReportsAs None old new r = file.Inspects old new r
 ReportsAs (Some size) old new r = file.InspectsFront size old new r
 
--- A report was written: that of what the file of this name gave, or of its header and of how long it is
--- by the set of files; and of all that it had to give, if contracts see that.
-pub record ReportsFile (Came : Outcome → Type 0) (name : Text) (output_old output_new : Taken)
-    : Type 0 where
-  pub r : Report
+-- The report of what the file of this name gave, or of its header and of how long it is by the set of
+-- files; and of all that it had to give, if contracts see that.
+pub record ReportsFile (Came : Outcome → Type 0) (name : Text) (r : Report) : Type 0 where
   pub first : SourceView
   pub last : SourceView
   pub reading : WasRead Came (Found name) name first last
   pub whole : IfSome first.supply.left (λ bytes. IsReport bytes r)
   pub reports : ReportsAs (believed reading.size) first.supply last.supply r
-  pub wrote : Appends output_old output_new (report_text r)
 
--- reading an input fails with this fault: that of the header that came; or 26 or 29, and what came has
--- no fault of its own
-abbrev pub FailsInput : (old new : SourceView) → FileFault → Type 0
-FailsInput = HeadFails NoHeadFault
-
--- the same of the file of this name; or 26, since it couldn't be opened or is in use
+-- Reading the file of this name fails with this fault: that of the header that came; or 26 or 29, and what
+-- came has no fault of its own; or 26, since it couldn't be opened or is in use.
 abbrev pub FailsFile : (old new : FilesView) → Text → FileFault → Type 0
 FailsFile old new name fault = ((fault ≡ Read)
     × (CameSince old new (Unread name) ⊎ (new.outcomes ≡ old.outcomes ++ InUse name ∷ [])))
     ⊎ ((first : SourceView) × (last : SourceView)
-    × WasRead (CameSince old new) (Found name) name first last × FailsInput first last fault)
+    × WasRead (CameSince old new) (Found name) name first last × HeadFails NoHeadFault first last fault)
 
 -- how a report fails: its output couldn't be written; memory was refused; or as reading its input does
 abbrev pub FailsReport : (Fails : FileFault → Type 0) → (old new : SinkView) → Ending → Type 0

@@ -1,12 +1,10 @@
 -- When OUT holds nothing but what the file's writer wrote: the headline at the command line.
 use Rattle.std.specs.Prelude.{◌≡◌, ◌⊎◌, ℕ, ◌*◌, ◌≤◌, true, List, [], ◌++◌, length, take, Option, Some, None}
-use Rattle.std.specs.Prelude.{Result, Err, IfErr, IsErrAnd}
+use Rattle.std.specs.Prelude.{Result, Err, IfErr, IsErrAnd, option_map}
 use Rattle.clap.specs.Words.{Text}
 use Rattle.age_stanza.specs.{HeadText}
 use Rattle.age_chunk.specs.{chunk_count, chunk_length, block_length, chunk_limit}
 use Rattle.age_io.specs.{Shown, SourceView, SinkView, Consumes, IsAtEnd}
-use Rattle.age_io.specs.declared.durability.Durability.{Durability}
-use Rattle.age_io.specs.declared.durability.Durability.TheVariants.{Synced}
 use Rattle.age_stream.specs.{IsPrefixOf}
 use Rattle.age_keys.specs.{Opens}
 use Rattle.age_file.specs.{Ports, ports, Run, IsFromStart, IsTexts, BelongsTo}
@@ -23,15 +21,15 @@ use Rattle.age_cli_args.specs.declared.request.Request.{Request}
 use Rattle.age_command.specs.{allows_by, identity_file, MakesBy, random_name}
 use Rattle.age_command.specs.declared.identity.Identity.{Identity}
 use Rattle.age_command.specs.declared.ending.Ending.{Ending}
+use Rattle.age_command.specs.declared.ending.Ending.TheVariants.{Fault, Unsaved}
 use Rattle.age_fault.specs.declared.fault.FileFault.{FileFault}
 use Rattle.age_fault.specs.declared.fault.FileFault.TheVariants.{Stream, BadPosition, ShortText, Read}
 use Rattle.age_fault.specs.declared.fault.FileFault.TheVariants.{Write, Memory, ReadNeverEnds}
 use Rattle.age_fault.specs.declared.fault.FileFault.TheVariants.{OldTextDiffers}
 use Rattle.age_fileset.specs.{Files, FilesView, Outcome, CameSince, HasGivenAll, Shelf, seen_in, entry_of}
 use Rattle.age_cli.specs.Commands.{WasRead, old_found, FailsReport, HasSecret, MakesSecret}
-use Rattle.age_machine.specs.{EndedFile, IsThere, IsOnDisk}
-use Rattle.age_cli.specs.Acts.{Acts, IsEndingOf, OpensOf, Paths, paths_of, Returned, ShowsProgress, SparesOut}
-use Rattle.age_cli.specs.Acts.{IsUsage}
+use Rattle.age_machine.specs.{EndedFile}
+use Rattle.age_cli.specs.Acts.{Acts, OpensOf, paths_of, LeavesText, ShowsProgress, SparesOut, IsUsage}
 use Rattle.age_cli.specs.Runs.{World, Runs, Declines, Obeys, IsRefusal}
 
 -- ---- What the options and the files make, in memory.
@@ -68,7 +66,7 @@ pub record IsRead (identity : Identity) (input : Option (List ℕ)) (r : Run) : 
 abbrev pub IsWritersInput : (Begins : Run → Type 0) → Decrypting → Files → List ℕ → Type 0
 IsWritersInput Begins d old text =
     (identity : Identity) → OpensBy old d.identity identity → (r : Run) → Begins r
-    → IsRead identity (old d.from.now) r → (chunk_count chunk_length text ≤ chunk_limit) × IsTexts text r
+    → IsRead identity (old d.paths.from.now) r → (chunk_count chunk_length text ≤ chunk_limit) × IsTexts text r
 
 -- whatever the status, OUT is as it was or holds a beginning of the text; with status 0, all of it
 pub record KeepsOut (old new : Option (List ℕ)) (status : ℕ) (text : List ℕ) : Type 0 where
@@ -101,7 +99,7 @@ pub record IsWritersResumption (asked : Resuming) (old : Files) (text : List ℕ
 abbrev pub DecryptKeepsOut : List Text → (old new : Files) → ℕ → Type 0
 DecryptKeepsOut words old new status =
     (d : Decrypting) (text : List ℕ) → Requests words (Decrypt d) → IsWritersInput IsFromStart d old text
-    → KeepsOut (old d.to.now) (new d.to.now) status text
+    → KeepsOut (old d.paths.to.now) (new d.paths.to.now) status text
 
 -- Whatever the status, `resume` leaves OUT as it was or with a beginning of the plaintext, while no
 -- block of IN opens except as its writer sealed it and the old text begins with the chunks of the
@@ -109,22 +107,19 @@ DecryptKeepsOut words old new status =
 abbrev pub ResumeKeepsOut : List Text → (old new : Files) → ℕ → Type 0
 ResumeKeepsOut words old new status =
     (r : Resuming) (text : List ℕ) → Requests words (Resume r) → IsWritersResumption r old text
-    → KeepsOut (old r.decrypting.to.now) (new r.decrypting.to.now) status text
+    → let to = r.decrypting.paths.to.now in KeepsOut (old to) (new to) status text
 
 -- After 0 of `encrypt` OUT holds the age file of all that IN held, for the passphrase and the random bytes
 -- in the files that are named.
 abbrev pub EncryptLeavesOut : List Text → (old new : Files) → ℕ → Type 0
 EncryptLeavesOut words old new status = (e : Encrypting) → Requests words (Encrypt e) → status ≡ 0
     → (secret : SecretView) × MakesSecret e (old e.pass.now) (old (random_name (option_text e.random))) secret
-    × (text : List ℕ) × (file : List ℕ) × (old e.from.now ≡ Some text) × AgeFile secret text file
-    × (new e.to.now ≡ Some file)
+    × (text : List ℕ) × (file : List ℕ) × (old e.paths.from.now ≡ Some text) × AgeFile secret text file
+    × (new e.paths.to.now ≡ Some file)
 
 -- OUT and the file of `--save`, if what is asked has them
 abbrev pub out_of : Request → Option Text
-out_of (Encrypt e) = Some e.to.now
-out_of (Decrypt d) = Some d.to.now
-out_of (Resume r) = Some r.decrypting.to.now
-out_of other = None
+out_of asked = option_map (λ p. p.to.now) (paths_of asked)
 
 abbrev pub save_of : Request → Option Text
 save_of (Decrypt d) = option_text d.save
@@ -200,39 +195,20 @@ GivesText secret before after file = (text : List ℕ)
     × Consumes before.source.supply after.source.supply text × IsAtEnd after.source.supply
     × AgeFile secret text file
 
--- the names of an encryption
-abbrev pub paths_to_encrypt : Encrypting → Paths
-paths_to_encrypt e = record { from = e.from.now; to = e.to.now; save = None; clobber = e.clobber }
-
--- What was read gave a text. OUT was closed with just that: it is at its path, and on the disk, if that
--- was to be waited for.
-pub record LeavesText (IsPorts : Ports → Type 0) (Came : Outcome → Type 0)
-    (Gave : Ports → Ports → List ℕ → Type 0) (p : Paths) (durability : Durability)
-    (ended : Option EndedFile) : Type 0 where
-  pub run : Returned IsPorts Came p ended
-  pub text : List ℕ
-  pub gave : Gave run.before run.after text
-  pub took : run.out.took ≡ text
-  pub closed : run.out.is_closed ≡ true
-  pub there : IsThere run.out
-  pub safe : durability ≡ Synced → IsOnDisk run.out
-
 -- ---- What status 0 says, of the words and of what the set of files notes: read this first.
 
 -- Of a decryption that is done: what opens IN is what the options say; IN gave the age file of a text, or,
 -- if it was resumed, the earlier output gave that text's chunks before the position, and IN the rest of
 -- its payload; and OUT is just that text. Of an encryption: OUT is the age file of the text that IN gave
 -- to its end, for the passphrase and the random bytes that the named files gave.
-abbrev pub LeavesOf : (Ports → Type 0) → (Came : Outcome → Type 0) → (ended : Option EndedFile) → Request
-    → Type 0
+abbrev pub LeavesOf : (Ports → Type 0) → (Outcome → Type 0) → Option EndedFile → Request → Type 0
 LeavesOf IsPorts Came ended (Encrypt e) = (secret : SecretView) × HasSecret Came e secret
-    × LeavesText IsPorts Came (GivesText secret) (paths_to_encrypt e) e.durability ended
+    × LeavesText IsPorts Came (GivesText secret) e.paths ended
 LeavesOf IsPorts Came ended (Decrypt d) = (identity : Identity) × OpensOf Came d identity
-    × LeavesText IsPorts Came (GivesFile identity) (paths_of d) d.durability ended
+    × LeavesText IsPorts Came (GivesFile identity) d.paths ended
 LeavesOf IsPorts Came ended (Resume r) = (identity : Identity) × OpensOf Came r.decrypting identity
     × (from : Position) × HasGivenAll Came r.position.now (position_text from)
-    × LeavesText IsPorts Came (GivesRest IsPorts Came r.old.now identity from) (paths_of r.decrypting)
-    r.decrypting.durability ended
+    × LeavesText IsPorts Came (GivesRest IsPorts Came r.old.now identity from) r.decrypting.paths ended
 LeavesOf IsPorts Came ended other = Unit {0}
 
 -- Status 0: there were no words, or help was asked for; or what the words ask for was done.
@@ -240,6 +216,12 @@ abbrev pub ZeroLeaves : List Text → (Ports → Type 0) → (before after : Fil
 ZeroLeaves words IsPorts before after status = status ≡ 0 → (words ≡ []) ⊎ (IsForHelp words
     ⊎ ((asked : Request) × Requests words asked
     × LeavesOf IsPorts (CameSince before after) after.ended asked))
+
+-- a command stopped with this fault, which it reports, perhaps with that of a save
+abbrev pub IsEndingOf : FileFault → Ending → Type 0
+IsEndingOf fault (Fault f) = f ≡ fault
+IsEndingOf fault (Unsaved f second) = f ≡ fault
+IsEndingOf fault other = ⊥
 
 -- a fault that comes before OUT is written, also of a wrong passphrase: all but these
 abbrev pub IsBeforeText : FileFault → Type 0

@@ -1,5 +1,5 @@
 -- What a run does with its words, its files and its streams, and what its status says.
-use Rattle.std.specs.Prelude.{◌≡◌, ◌⊎◌, ◌∷◌, ℕ, true, List, [], Option, Some, None, is_some, Result, OnOk}
+use Rattle.std.specs.Prelude.{◌≡◌, ◌⊎◌, ◌∷◌, ℕ, true, List, [], Some, None, is_some, Result, OnOk}
 use Rattle.std.specs.Prelude.{IfErr, IsErrAnd}
 use Rattle.age_io.specs.Taken.{Appends}
 use Rattle.clap.specs.Words.{Text}
@@ -7,19 +7,22 @@ use Rattle.age_io.specs.{SourceView, SinkView}
 use Rattle.age_fault.specs.{HasRisen}
 use Rattle.age_fault.specs.declared.fault.FileFault.{FileFault}
 use Rattle.age_fault.specs.declared.fault.FileFault.TheVariants.{Write, Memory}
-use Rattle.age_file.specs.{Ports}
-use Rattle.age_fileset.specs.{FilesView, CameSince, Does, Opened}
+use Rattle.age_file.specs.{HeadFails, NoHeadFault, Ports}
+use Rattle.age_file.specs.Reports.{Inspects}
+use Rattle.age_file.specs.declared.report.Report.{Report}
+use Rattle.age_fileset.specs.{Event, FilesView, CameSince, Does, Gave, Open, Reading}
 use Rattle.age_cli_args.specs.{IsForHelp, option_text}
 use Rattle.age_cli_args.specs.declared.request.Request.{Request}
 use Rattle.age_cli_args.specs.declared.request.Request.TheVariants.{Inspect, Drill}
 use Rattle.age_cli_args.specs.Requests.{Requests}
 use Rattle.age_command.specs.{ReportsEnding}
 use Rattle.age_command.specs.declared.ending.Ending.{Ending}
-use Rattle.age_command.specs.declared.ending.Ending.TheVariants.{Words, Fault, Unsaved, Usage}
+use Rattle.age_command.specs.declared.ending.Ending.TheVariants.{Words, Fault, Usage}
 use Rattle.age_command.specs.declared.ending.Usage.TheVariants as why
-use Rattle.age_command.specs.{Begins, order_asked}
+use Rattle.age_command.specs.{IsUnreadable}
+use Rattle.age_drill.specs.{DrillEnds, RefusesDrill}
 use Rattle.age_cli.specs.Acts.{Acts, IsUsage, status_by}
-use Rattle.age_cli.specs.Commands.{Reports, ReportsFile, FailsReport, FailsInput, FailsFile}
+use Rattle.age_cli.specs.Commands.{ReportsFile, FailsReport, FailsFile, report_text}
 
 -- ---- What a run does of what its words ask for.
 
@@ -35,9 +38,7 @@ world files input output = record { files = files; input = input; output = outpu
 -- words are refused, or no request could be read of them; or memory was refused meanwhile
 abbrev pub IsRefusal : Ending → Type 0
 IsRefusal (Words text) = Unit {0}
-IsRefusal (Usage usage) = usage ≡ why.Unread
-IsRefusal (Fault fault) = fault ≡ Memory
-IsRefusal (Unsaved fault second) = ⊥
+IsRefusal ending = (ending ≡ Usage why.Unread) ⊎ (ending ≡ Fault Memory)
 
 -- writing to the output failed, as it says itself
 abbrev pub FailsWriting : (old new : SinkView) → Ending → Type 0
@@ -45,12 +46,13 @@ FailsWriting old new ending = (ending ≡ Fault Write) × HasRisen old.failed ne
 
 -- a text was put to the output, and sent on
 abbrev pub Prints : (old new : SinkView) → Type 0
-Prints old new = (text : List ℕ) × Appends old.taken new.taken text × (new.settled ≡ true)
+Prints old new = (text : List ℕ) × Appends old.taken new.taken text × (new.flushed ≡ true)
 
--- a report was written, and sent on; or it failed so, and nothing was written, unless writing failed
-pub record Reported (ended : Result (Unit {0}) Ending) (Report Unprinted : Type 0)
+-- such a report was written, and sent on; or it failed so, and nothing was written, unless writing failed
+pub record Reported (ended : Result (Unit {0}) Ending) (Reports : Report → Type 0) (Unprinted : Type 0)
     (Fails : FileFault → Type 0) (output_old output_new : SinkView) : Type 0 where
-  pub done : OnOk ended (Report × (output_new.settled ≡ true))
+  pub done : OnOk ended (((r : Report) × Reports r
+      × Appends output_old.taken output_new.taken (report_text r)) × (output_new.flushed ≡ true))
   pub stops : IfErr ended (FailsReport Fails output_old output_new)
   pub unprinted : IfErr ended (λ e. FailsWriting output_old output_new e ⊎ Unprinted)
 
@@ -59,12 +61,11 @@ pub record Reported (ended : Result (Unit {0}) Ending) (Report Unprinted : Type 
 -- name of IN and by how the run ended.
 module _ (words : List Text) (IsPorts : Ports → Type 0) (before after : World)
     (Unread Unprinted Unshown : Type 0)
-    (Progress : Option Text → Result (Unit {0}) Ending → Type 0) (ended : Result (Unit {0}) Ending) where
+    (Progress : Text → Result (Unit {0}) Ending → Type 0) (ended : Result (Unit {0}) Ending) where
   -- the input was read to its end, and its report was written
   abbrev pub ReportedInput : Type 0
-  ReportedInput = Reported ended (Reports before.input.supply after.input.supply
-      before.output.taken after.output.taken) Unprinted (FailsInput before.input after.input)
-      before.output after.output
+  ReportedInput = Reported ended (Inspects before.input.supply after.input.supply) Unprinted
+      (HeadFails NoHeadFault before.input after.input) before.output after.output
 
   -- Without words the input is reported.
   pub record ReportsInput : Type 0 where
@@ -75,21 +76,23 @@ module _ (words : List Text) (IsPorts : Ports → Type 0) (before after : World)
     -- No progress was shown.
     pub silent : Unshown
 
-  -- `inspect` reported the input, or its file. A drill sent on what it wrote, and wrote nothing if it
-  -- is refused, which it is before a file is opened if both or neither of `--clear` and `--pass` are
+  -- `inspect` reported the input, or its file. A drill printed lines, and IN's reading is over if all
+  -- was done; it is refused before a file is opened if both or neither of `--clear` and `--pass` are
   -- given. Neither command puts anything under a name. Other commands write nothing to the output. Only
   -- `inspect` without a file reads the input.
   abbrev pub DoesOther : Request → Type 0
   DoesOther (Inspect None) = ReportedInput × (after.files ≡ before.files)
-  DoesOther (Inspect (Some name)) =
+  DoesOther (Inspect (Some name)) = Unread
+      × Reported ended (ReportsFile (CameSince before.files after.files) name.now) Unprinted
+      (FailsFile before.files after.files name.now) before.output after.output
+      × Does (Open name.now ∷ []) before.files after.files
+  DoesOther (Drill d) =
       let Came = CameSince before.files after.files in
-      Unread × Reported ended (ReportsFile Came name.now before.output.taken after.output.taken)
-      Unprinted (FailsFile before.files after.files name.now) before.output after.output
-      × Does (Opened name.now ∷ []) before.files after.files
-  DoesOther (Drill d) = Unread × OnOk ended (after.output.settled ≡ true)
-      × IfErr ended (λ e. IsUsage e → Unprinted) × (d.clear ≡ is_some (option_text d.pass)
+      Unread × DrillEnds (IsUnreadable Came) (RefusesDrill Came d) Unprinted before.output after.output ended
+      × OnOk ended ((reading : Reading) × Came (Gave reading) × (reading.name ≡ d.from.now))
+      × (d.clear ≡ is_some (option_text d.pass)
       → (after.files.events ≡ before.files.events) × IsErrAnd ended IsUsage)
-      × Begins (order_asked (Drill d)).whole before.files after.files
+      × ((did : List Event) × Does did before.files after.files)
   DoesOther other = Unread × Unprinted
 
   -- Words that make a request are obeyed.
@@ -129,7 +132,7 @@ module _ (words : List Text) (IsPorts : Ports → Type 0) (before after : World)
 -- are as they were, and `Progress` what was shown of the progress.
 pub record Runs (words : List Text) (IsPorts : Ports → Type 0) (before after : World)
     (faults_old faults_new : SinkView) (Quiet Unread Unprinted Unshown : Type 0)
-    (Progress : Option Text → Result (Unit {0}) Ending → Type 0) (status : ℕ) : Type 0 where
+    (Progress : Text → Result (Unit {0}) Ending → Type 0) (status : ℕ) : Type 0 where
   -- How it ended, which the status says: 0 means that all was done, 2 that the words are refused,
   -- and 1 that it stopped.
   pub ended : Result (Unit {0}) Ending

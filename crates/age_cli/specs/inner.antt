@@ -1,42 +1,44 @@
 -- What only private code cites: how a part of the program ended, and the files of a command.
 use Rattle.std.specs.Prelude.{◌≡◌, ◌≢◌, ◌⊎◌, ℕ, ◌++◌, ◌∷◌, [], List, Option, None, Result, Ok, Err, IsErrAnd}
-use Rattle.std.specs.Prelude.{true, IsSomeAnd, length, Some, IfSome, Bool, is_some, IsErr, OnOk, IfErr}
-use Rattle.std.specs.Prelude.{if◌then◌else◌, IfOk}
+use Rattle.std.specs.Prelude.{true, IsSomeAnd, length, Some, IfSome, Bool, is_some, OnOk, IfErr}
+use Rattle.std.specs.Prelude.{if◌then◌else◌, IfOk, ◌<◌, ◌*◌}
 use Rattle.clap.specs.Words.{Text}
 use Rattle.clap.specs.declared.error.kind.ErrorKind.{ErrorKind}
 use Rattle.clap.specs.declared.error.kind.ErrorKind.TheVariants.{DisplayHelp, DisplayVersion}
-use Rattle.age_io.specs.{SinkView, SourceView, Origin, Named}
+use Rattle.age_io.specs.{SinkView, SourceView, Origin, Named, IsAtEnd}
 use Rattle.age_io.specs.declared.durability.Durability.{Durability}
 use Rattle.age_fault.specs.declared.fault.FileFault.{FileFault}
 use Rattle.age_fault.specs.declared.fault.FileFault.TheVariants.{Write, Read, Memory, BadPosition}
 use Rattle.age_file.specs.declared.decryption.Done.{Done}
 use Rattle.age_file.specs.declared.decryption.Stopped.{Stopped}
 use Rattle.age_file.specs.declared.encryption.Written.{Written}
-use Rattle.age_fileset.specs.{Closed, Unwritten, Entry, entry, FilesView, PutsOnly, CameSince, Outcome, Found}
+use Rattle.age_fileset.specs.{Close, Unwritten, Entry, entry, FilesView, PutsOnly, CameSince, Outcome, Found}
 use Rattle.age_fileset.specs.{Gave, Settled, reading_of, Event, HasGiven, HasGivenAll, Does, FoundOrEmpty}
 use Rattle.age_fileset.specs.{Absent}
-use Rattle.age_command.specs.{Follows, replacing, is_usage, Order, HoldsOnly, IsUnreadable, without_line_feed}
+use Rattle.age_command.specs.{Follows, replacing, is_usage, Order, HoldsNoPassphrase, HoldsOnly, IsUnreadable}
+use Rattle.age_command.specs.{without_line_feed}
 use Rattle.age_keys.specs.{IsAllowed, PassphraseIdentity}
 use Rattle.age_command.specs.declared.ending.Ending.{Ending}
 use Rattle.age_command.specs.declared.ending.Ending.TheVariants.{Fault, Usage}
 use Rattle.age_machine.specs.{Closes, EndedFile, OutFile, TouchesItself, IsUntouched}
-use Rattle.age_cli.specs.Acts.{IsEndingOf, IsNotDue, IsStored, Engine, Paths}
+use Rattle.age_cli.specs.Acts.{stop_ending, Earlier, IsSaved, Engine}
 use Rattle.age_cli.specs.Acts.{AreNew, SparesOut, AreSame, IsUnusable, NamesOne, IsThereUnlessFailed}
 use Rattle.age_cli.specs.declared.interruption.Interruption.{Interruption}
 use Rattle.age_io.specs.Supply.{Supply}
-use Rattle.age_file.specs.{IsMarked, IsReport, MarksView, Ports, ports, SecretView}
+use Rattle.age_chunk.specs.{chunk_length}
+use Rattle.age_file.specs.{IsMarked, IsReport, MarksView, Ports, ports, Resumption, resumption, SecretView}
 use Rattle.age_file.specs.declared.report.Report.{Report}
-use Rattle.age_cli.specs.Commands.{ReportsAs, HoldsNoPassphrase, HoldsNoRandom, HoldsNoPosition, MakesSecret}
+use Rattle.age_cli.specs.Commands.{ReportsAs, old_found, HoldsNoRandom, HoldsNoPosition, MakesSecret}
 use Rattle.age_file.specs.declared.position.Position.{Position}
 use Rattle.age_cli_args.specs.{option_text}
 use Rattle.age_cli_args.specs.declared.request.ClobberOption.TheVariants.{Refused}
-use Rattle.age_cli_args.specs.declared.request.Decrypting.{Decrypting}
-use Rattle.age_cli_args.specs.declared.request.ProgressOption.{ProgressOption}
+use Rattle.age_cli_args.specs.declared.request.Paths.{Paths}
 use Rattle.age_cli_args.specs.declared.request.ProgressOption.TheVariants.{Silent, Shown}
 use Rattle.age_keys.specs.declared.random.FileRandom.{FileRandom}
 use Rattle.age_cli_args.specs.declared.request.Encrypting.{Encrypting}
 use Rattle.age_command.specs.declared.ending.Usage.TheVariants.{SameFile, BadPassphraseFile, BadRandomFile}
 use Rattle.age_command.specs.Orders.{writing_order}
+use Rattle.age_cli.specs.declared.decrypt_command.OldText.{OldText}
 use Rattle.age_cli.specs.declared.encrypt_command.Material.{Material}
 use Rattle.age_cli.specs.declared.output.Content.{Content}
 use Rattle.age_cli.specs.declared.output.Content.TheVariants.{Plaintext, AgeFile}
@@ -51,7 +53,7 @@ IsForOutput kind = (kind ≡ DisplayHelp) ⊎ (kind ≡ DisplayVersion)
 -- how an engine ended: an encryption has no position
 abbrev pub sealing_end : Result Written FileFault → Result (Unit {0}) Interruption
 sealing_end (Ok written) = Ok tt
-sealing_end (Err fault) = Err (record { fault = fault; position = None })
+sealing_end (Err fault) = Err (record { fault = fault; position = None; settled = 0 })
 
 -- what was put of an output, whose sink is this: nothing, or all that it took
 abbrev pub IsPut : SinkView → List Entry → Type 0
@@ -71,7 +73,7 @@ pub record LeavesOut (durability : Durability) (sink : SinkView) (old new : File
   pub outs : List Entry
   pub puts_only : PutsOnly outs old new
   pub out : IsPut sink outs
-  pub noted : new.events ≡ old.events ++ Closed durability ∷ []
+  pub noted : new.events ≡ old.events ++ Close durability ∷ []
   pub ended : IsSomeAnd new.ended (IsLeft durability sink)
 
 -- OUT was closed, whose sink is this, with this result, and these were put
@@ -79,25 +81,46 @@ pub record ClosesOut (durability : Durability) (sink : SinkView) (puts : List En
     (result : Result (Unit {0}) FileFault) : Type 0 where
   pub file : Option OutFile
   pub ended : IsSomeAnd new.ended (Closes durability file sink result)
-  pub noted : new.events ≡ old.events ++ Closed durability ∷ []
+  pub noted : new.events ≡ old.events ++ Close durability ∷ []
   pub puts_only : PutsOnly puts old new
 
+-- a name and a position aren't both there
+abbrev pub LacksOne : Option Text → Option Position → Type 0
+LacksOne (Some name) (Some p) = ⊥
+LacksOne save position = Unit {0}
+
+-- why a position isn't even put to its file: memory was refused, or it stands beyond what OUT holds for
+-- certain
+abbrev pub IsUnsavable : (settled : ℕ) → Position → (second : FileFault) → Type 0
+IsUnsavable settled p second =
+    (second ≡ Memory) ⊎ ((second ≡ Write) × (settled < p.index * chunk_length))
+
+-- the position of a stop was saved, or not, and its ending says how that went
+pub record PutsRest (durability : Durability) (save : Option Text) (stop : Interruption)
+    (old new : FilesView) (ending : Ending) : Type 0 where
+  pub how : Result (Unit {0}) FileFault
+  pub reported : ending ≡ stop_ending stop.fault how
+  pub rest : List Entry
+  pub puts : PutsOnly rest old new
+  pub saved : IsSaved (CameSince old new) durability stop.settled stop.position save how rest new.saved
+      (new.events ≡ old.events)
+
 -- OUT was left as a stop leaves it, whose sink is this, and its position was saved, if there is one and a
--- file for it, and if it isn't beyond these bytes
-pub record SavesStop (save : Option Text) (durability : Durability) (sink : SinkView) (settled : ℕ)
-    (stop : Interruption) (old new : FilesView) (ending : Ending) : Type 0 where
-  pub reported : IsEndingOf stop.fault ending
+-- file for it, and if it isn't beyond what is certain
+pub record SavesStop (save : Option Text) (durability : Durability) (sink : SinkView) (stop : Interruption)
+    (old new : FilesView) (ending : Ending) : Type 0 where
+  pub how : Result (Unit {0}) FileFault
+  pub reported : ending ≡ stop_ending stop.fault how
   pub ended : IsSomeAnd new.ended (IsLeft durability sink)
   -- OUT is closed, and the file of the position replaced, if at all.
-  pub order : Follows (Closed durability ∷ replacing save durability) old.events new.events
+  pub order : Follows (Close durability ∷ replacing save durability) old.events new.events
   -- What was put of the output comes first.
   pub outs : List Entry
   pub rest : List Entry
   pub puts_only : PutsOnly (outs ++ rest) old new
   pub out : IsPut sink outs
-  pub saved : ((new.events ≡ old.events ++ Closed durability ∷ []) × (rest ≡ [])
-      × IsNotDue settled ending save stop.position)
-      ⊎ IsStored (CameSince old new) durability save settled stop.position ending rest new.saved
+  pub saved : IsSaved (CameSince old new) durability stop.settled stop.position save how rest new.saved
+      (new.events ≡ old.events ++ Close durability ∷ [])
 
 -- it was closed whole, or it couldn't be, as the set of files said
 abbrev pub ClosesAll : Durability → SinkView → (old new : FilesView) → Result (Unit {0}) Ending → Type 0
@@ -109,11 +132,11 @@ ClosesAll durability sink old new (Err (Fault fault)) =
 ClosesAll durability sink old new other = ⊥
 
 -- OUT was ended once its engine returned
-abbrev pub Concludes : Option Text → Durability → SinkView → (settled : ℕ)
-    → (engine : Result (Unit {0}) Interruption) → (old new : FilesView) → Result (Unit {0}) Ending → Type 0
-Concludes save durability sink settled (Ok done) old new result = ClosesAll durability sink old new result
-Concludes save durability sink settled (Err stop) old new result =
-    IsErrAnd result (SavesStop save durability sink settled stop old new)
+abbrev pub Concludes : Option Text → Durability → SinkView → (engine : Result (Unit {0}) Interruption)
+    → (old new : FilesView) → Result (Unit {0}) Ending → Type 0
+Concludes save durability sink (Ok done) old new result = ClosesAll durability sink old new result
+Concludes save durability sink (Err stop) old new result =
+    IsErrAnd result (SavesStop save durability sink stop old new)
 
 -- the report of an input, which was read to its end, or whose length is this
 pub record IsInspected (size : Option ℕ) (old new : Supply) (r : Report) : Type 0 where
@@ -133,45 +156,57 @@ abbrev pub PlacesEnd : Option MarksView → (settled : ℕ) → Result Done Stop
 PlacesEnd marks settled (Ok done) engine = engine ≡ Ok tt
 PlacesEnd marks settled (Err s) engine = (position : Option Position)
     × IsPlacedBy marks settled s.position position
-    × (engine ≡ Err (record { fault = s.fault; position = position }))
-
--- OUT was ended after a decryption that ended so, and the position of a stop was saved. `IsCertain`
--- says that the sink holds so many bytes for certain.
-pub record ConcludesDecryption (IsCertain : ℕ → Type 0) (d : Decrypting) (sink : SinkView)
-    (end : Result Done Stopped) (marks : Option MarksView) (old new : FilesView)
-    (result : Result (Unit {0}) Ending) : Type 0 where
-  pub settled : ℕ
-  pub engine : Result (Unit {0}) Interruption
-  pub places : PlacesEnd marks settled end engine
-  pub concludes : Concludes (option_text d.save) d.durability sink settled engine old new result
-  pub certain : IsErr end → is_some (option_text d.save) ≡ true → IsCertain settled
+    × (engine ≡ Err (record { fault = s.fault; position = position; settled = settled }))
 
 -- An engine ran over a source and a sink of the files, and OUT was ended. `end` is how it ended; of a
--- stop, it has the position that is saved, of which `settled` bytes are certain.
+-- stop, it has the position that is saved, and how many bytes are certain.
 pub record RunsEngine (IsPorts : Ports → Type 0) (Came : Outcome → Type 0) (engine : Engine) (p : Paths)
-    (durability : Durability) (progress : ProgressOption) (before : Ports) (old new : FilesView)
-    (Unshown : Type 0) (IsShown : Supply → Supply → Result (Unit {0}) Ending → Type 0)
+    (before : Ports) (old new : FilesView) (Unshown : Type 0) (IsShown : Supply → Supply → Type 0)
     (result : Result (Unit {0}) Ending) : Type 0 where
   pub after : Ports
   pub after_is : IsPorts after
-  pub over : Came (Gave (reading_of p.from after.source))
+  pub over : Came (Gave (reading_of p.from.now after.source))
   pub end : Result (Unit {0}) Interruption
-  pub settled : ℕ
   pub ends : OnOk end (engine.ends before after × (after.sink.failed ≡ before.sink.failed))
-  pub stops : IfErr end (λ s. engine.stops settled s.fault s.position before after)
+  pub stops : IfErr end (λ s. engine.stops s.settled s.fault s.position before after)
   pub named : after.sink.taken.label ≡ before.sink.taken.label
-  pub certain : IsErr end → is_some p.save ≡ true
-      → Came (Settled durability after.sink.taken.bytes settled)
-  pub concludes : Concludes p.save durability after.sink settled end old new result
-  pub silent : progress ≡ Silent → Unshown
-  pub shown : progress ≡ Shown → IsShown before.source.supply after.source.supply result
+  pub certain : IfErr end (λ s. is_some engine.save ≡ true
+      → Came (Settled p.durability after.sink.taken.bytes s.settled))
+  pub concludes : Concludes engine.save p.durability after.sink end old new result
+  pub silent : p.progress ≡ Silent → Unshown
+  pub shown : p.progress ≡ Shown → IsShown before.source.supply after.source.supply
+  pub whole : OnOk result (IsAtEnd after.source.supply)
+
+-- ---- Where a decryption goes on.
+
+-- by what was seen of the earlier output before and after
+abbrev pub goes_on : {In : Type 0} → (In → SourceView) → (old new : Option (OldText In)) → Option Resumption
+goes_on read (Some o) (Some n) = Some (resumption o.position (read o.source) (read n.source))
+goes_on read old new = None
+
+-- the earlier output is the same, and so is how its source began
+abbrev pub IsSameOld : {In : Type 0} → (In → Origin → Type 0) → (old new : Option (OldText In)) → Type 0
+IsSameOld began (Some o) (Some n) =
+    (n.name.now ≡ o.name.now) × ((from : Origin) → began o.source from → began n.source from)
+IsSameOld began None None = Unit {0}
+IsSameOld began old new = ⊥
+
+-- its position and its name
+abbrev pub earlier_of : {In : Type 0} → OldText In → Earlier
+earlier_of e = record { position = e.position; name = e.name.now }
+
+-- it was found for the position, and nothing was read of it so far
+abbrev pub IsNewOld : {In : Type 0} → (In → SourceView) → (In → Option ℕ) → (Came : Outcome → Type 0)
+    → OldText In → Type 0
+IsNewOld read size Came e = ((read e.source).supply.given ≡ [])
+    × Came (old_found e.position e.name.now (read e.source).supply.left (size e.source))
 
 -- ---- The names of a command.
 
 -- the order of a command that writes
 abbrev pub order_in : Writing → Order
 order_in w = writing_order (option_text w.first) (option_text w.second) (option_text w.position)
-    (option_text w.old) (Some w.from.now) w.clobber (Some w.to.now) (option_text w.save) w.durability
+    (option_text w.old) (option_text w.save) w.paths
 
 -- these pairs of names were compared: two are the same, or they aren't
 pub record Compares (old new : FilesView) (answer : Bool) (IsPair : Text → Text → Type 0)
@@ -223,11 +258,11 @@ pub record OpensFiles {A : Type 0} (order whole : List Event) (IsTwice : Type 0)
 
 -- IN and OUT are new, and were found and made as is asked
 abbrev pub IsNewBy : {In Out : Type 0} → (In → SourceView) → (Out → SinkView) → (In → Origin → Type 0)
-    → (In → Option ℕ) → (Came : Outcome → Type 0) → Writing → In → Out → Type 0
-IsNewBy read wrote began size Came w source out = AreNew (ports (read source) (wrote out))
-    × began source (Named w.from.now) × ((wrote out).taken.label ≡ w.to.now)
-    × Came (Found w.from.now (read source).supply.left (size source))
-    × (w.clobber ≡ Refused → Came (Absent w.to.now))
+    → (In → Option ℕ) → (Came : Outcome → Type 0) → Paths → In → Out → Type 0
+IsNewBy read wrote began size Came p source out = AreNew (ports (read source) (wrote out))
+    × began source (Named p.from.now) × ((wrote out).taken.label ≡ p.to.now)
+    × Came (Found p.from.now (read source).supply.left (size source))
+    × (p.clobber ≡ Refused → Came (Absent p.to.now))
 
 -- a file is found, or one that isn't there counts as empty
 abbrev pub found_by : Bool → Text → Option (List ℕ) → Option ℕ → Outcome
@@ -242,7 +277,7 @@ age_file_in Plaintext name = None
 -- what a name leads to
 abbrev pub IsBlamedBy : (Came : Outcome → Type 0) → Writing → (GivesNone : Ending → Type 0) → Ending → Type 0
 IsBlamedBy Came w GivesNone ending = ((ending ≡ Usage SameFile) × NamesOne Came (order_in w))
-    ⊎ (GivesNone ending ⊎ IsUnusable Came (age_file_in w.content w.to.now) ending)
+    ⊎ (GivesNone ending ⊎ IsUnusable Came (age_file_in w.content w.paths.to.now) ending)
 
 -- ---- The random parts of an age file in bytes.
 

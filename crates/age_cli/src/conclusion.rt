@@ -1,17 +1,14 @@
-//! How a decryption ends: its input, its output, and the position of a stop.
+//! How a decryption ends, and the position of a stop.
 
-ghost use Rattle.std.specs.Prelude.{◌≡◌};
+ghost use Rattle.std.specs.Prelude.{◌≡◌, [], IfSome};
 ghost use Rattle.age_io.specs.{Named};
-ghost use Rattle.age_fileset.specs.{CameSince, Gave, Settled, reading_of};
+ghost use Rattle.age_fileset.specs.{CameSince, Does, Gave, reading_of};
 ghost use Rattle.age_cli_args.specs.{option_text};
-ghost use Rattle.age_command.specs.{Tells};
 ghost use Rattle.age_cli.specs.{kept_for};
-ghost use Rattle.age_cli.specs.inner.{ConcludesDecryption, IsPlacedBy, PlacesEnd};
+ghost use Rattle.age_cli.specs.inner.{IsPlacedBy, PlacesEnd};
 
+use crate::decrypt_command::OldText;
 use crate::interruption::Interruption;
-use crate::output::{end_output, settle_end};
-use age_cli_args::Decrypting;
-use age_command::{Announcement, Ending};
 use age_file::{Done, Marks, Position, PositionPolicy, Stopped};
 use age_fileset::FileSet;
 use age_io::{Sink, Source};
@@ -28,12 +25,14 @@ pub(crate) fn positions_for(save: Option<&str>) -> PositionPolicy
 }
 
 /// How a decryption ended, with its marks, if it came to its payload and positions are kept, and with
-/// the input.
+/// its files.
 #[derive(Drop)]
-pub(crate) struct Decrypted<S: Source> {
+pub(crate) struct Decrypted<'w, S: Source, O: Sink> {
     pub(crate) end: Result<Done, Stopped>,
     pub(crate) marks: Option<Marks>,
+    pub(crate) earlier: Option<OldText<'w, S>>,
     pub(crate) source: S,
+    pub(crate) out: O,
 }
 
 /// The position to save of a stop: by its marks the last one within what OUT holds for certain, or
@@ -48,7 +47,7 @@ fn place_of(stopped: &Stopped, marks: &Option<Marks>, settled: u64) -> Option<Po
 }
 
 /// How a decryption ended, of whose output so many bytes are certain.
-fn placed_end(
+pub(crate) fn placed_end(
     end: Result<Done, Stopped>,
     marks: &Option<Marks>,
     settled: u64,
@@ -62,44 +61,20 @@ fn placed_end(
             Err(Interruption {
                 fault: stopped.fault,
                 position,
+                settled,
             })
         }
     }
 }
 
-/// Ends the input and the output of a decryption, and saves the position of a stop, at no more than
-/// what the output holds for certain.
-pub(crate) fn end_decryption<F: FileSet, E: Sink>(
-    alloc: Global,
-    files: &mut F,
-    mut out: F::Out,
-    asked: &Decrypting<'_>,
-    opened: Decrypted<F::In>,
-    faults: &mut E,
-    announced: &mut Announcement,
-) -> Result<(), Ending>
-    requires input { F.In.began opened.source (Named asked.now.from.now) }
-    ensures over { CameSince (F.view files.old) (F.view files.new)
-        (Gave (reading_of asked.now.from.now (F.In.view opened.source))) }
-    ensures announced { Tells announced.new result (E.view faults.old) (E.view faults.new)
-        (faults.new ≡ faults.old) }
-    ensures concludes { ConcludesDecryption (λ settled. CameSince (F.view files.old)
-        (F.view files.new) (Settled asked.now.durability (F.Out.view out).taken.bytes settled)) asked.now
-        (F.Out.view out) opened.end opened.marks (F.view files.old) (F.view files.new) result }
+/// Ends the reading of the earlier output, if there is one.
+pub(crate) fn finish_old<'w, F: FileSet<'w>>(files: &mut F, earlier: Option<OldText<'w, F::In>>)
+    requires { IfSome earlier (λ e. F.In.began e.source (Named e.name.now)) }
+    ensures does { Does [] (F.view files.old) (F.view files.new) }
+    ensures over { IfSome earlier.entry (λ e. CameSince (F.view files.old) (F.view files.new)
+        (Gave (reading_of e.name.now (F.In.view e.source)))) }
 {
-    let Decrypted { end, marks, source } = opened;
-    files.finish(source);
-    let settled = settle_end(files, &mut out, asked.save, asked.durability, end.is_err());
-    let engine = placed_end(end, &marks, settled);
-    end_output(
-        alloc,
-        files,
-        out,
-        asked.save,
-        asked.durability,
-        faults,
-        announced,
-        engine,
-        settled,
-    )
+    if let Some(old) = earlier {
+        files.finish(old.source);
+    }
 }

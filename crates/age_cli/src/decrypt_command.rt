@@ -1,35 +1,38 @@
-//! The command that decrypts a file.
+//! How a file is decrypted, from its start or from a position, and the command that begins at its start.
 
-ghost use Rattle.std.specs.Prelude.{◌≡◌, ℕ, List, None};
-ghost use Rattle.age_file.specs.{DecryptsMarked, from_start, ports};
+ghost use Rattle.std.specs.Prelude.{◌≡◌, ℕ, List, IfSome, option_map};
+ghost use Rattle.age_file.specs.{DecryptsMarked, from_either, ports};
 ghost use Rattle.age_cli_args.specs.{option_text};
 ghost use Rattle.age_cli_args.specs.declared.request.ProgressOption.TheVariants.{Silent, Shown};
 ghost use Rattle.age_cli_args.specs.declared.request.Request.TheVariants.{Decrypt};
 ghost use Rattle.age_command.specs.{NamesTwice, Tells, allows_by, identity_order, refuses_by};
-ghost use Rattle.age_io.specs.{Named};
+ghost use Rattle.age_io.specs.{Named, Origin};
 ghost use Rattle.age_fileset.specs.{CameSince, FilesView, Outcome};
 ghost use Rattle.age_cli.specs.Acts.{Acts};
-ghost use Rattle.age_cli.specs.{PortsOf, ShowsProgress, ShowsReadings, ShowsRun, decrypt_engine, kept_for};
-ghost use Rattle.age_cli.specs.{OpensNone, OpensOf, paths_of};
-ghost use Rattle.age_cli.specs.inner.{EndsBy, IsBlamedBy, OpensFiles, RunsEngine, order_in};
+ghost use Rattle.age_cli.specs.{OpensNone, OpensOf, PortsOf, ShowsProgress, ShowsRun, decrypt_engine};
+ghost use Rattle.age_cli.specs.{kept_for};
+ghost use Rattle.age_cli.specs.inner.{EndsBy, IsBlamedBy, IsNewOld, IsSameOld, OpensFiles, RunsEngine};
+ghost use Rattle.age_cli.specs.inner.{earlier_of, goes_on, order_in};
 
-use crate::conclusion::{Decrypted, end_decryption, positions_for};
-use crate::output::{Content, Writing, begin_meter, check_names, end_meter, open_both};
+use crate::conclusion::{Decrypted, finish_old, placed_end, positions_for};
+use crate::output::{
+    Content, Writing, begin_meter, check_names, end_meter, end_output, open_both, settle_end,
+};
 use age_cli_args::{Decrypting, ProgressOption};
 use age_command::{Announcement, Choice, Ending, Identity};
-use age_file::{PositionPolicy, decrypt_marked};
+use age_file::{Done, Marks, Position, PositionPolicy, Stopped, decrypt_marked, resume_marked};
 use age_fileset::FileSet;
-use age_io::{Meter, Metered, Sink};
+use age_io::{Meter, Metered, Sink, Source};
 use std::alloc::Global;
 
 /// What opens the input, by the options and the file that they name. Before it reads that, refuses
 /// two names that must differ and are one file, and two names of what is read that stand for one
 /// stream.
-pub(crate) fn identify<F: FileSet>(
+pub(crate) fn identify<'w, F: FileSet<'w>>(
     alloc: Global,
     files: &mut F,
-    asked: &Decrypting<'_>,
-    writing: &Writing<'_>,
+    asked: &Decrypting<'w>,
+    writing: &Writing<'w>,
 ) -> Result<Identity, Ending>
     ensures { OpensFiles (identity_order (option_text asked.now.identity.pass)
         (option_text asked.now.identity.shared))
@@ -45,31 +48,93 @@ pub(crate) fn identify<F: FileSet>(
     Ok(choice.identity(secret)?)
 }
 
-/// Decrypts the input into the output.
-fn open_text<F: FileSet, P: Meter>(
+/// Where a decryption goes on: at a position, after the earlier output of this name.
+#[derive(Drop)]
+pub(crate) struct OldText<'w, S: Source> {
+    pub(crate) position: Position,
+    pub(crate) name: &'w str,
+    pub(crate) source: S,
+}
+
+/// What a decryption is made with: what opens the input, where it goes on, and the files.
+#[derive(Drop)]
+pub(crate) struct Ready<'w, S: Source, O: Sink> {
+    pub(crate) identity: Identity,
+    pub(crate) earlier: Option<OldText<'w, S>>,
+    pub(crate) source: S,
+    pub(crate) out: O,
+}
+
+/// Decrypts a source into the output, from its start or after an earlier output.
+fn run_engine<S: Source, L: Source, O: Sink>(
     alloc: Global,
-    files: &F,
-    asked: &Decrypting<'_>,
     positions: PositionPolicy,
     identity: Identity,
-    mut source: F::In,
-    out: &mut F::Out,
-    progress: &mut P,
-) -> Decrypted<F::In>
-    ensures opened { DecryptsMarked positions (allows_by identity)
-        (from_start (allows_by identity) (refuses_by identity))
-        (ports (F.In.view source) (F.Out.view out.old))
-        (ports (F.In.view result.source) (F.Out.view out.new)) result.end result.marks }
-    ensures began { (name : List ℕ) → F.In.began source (Named name)
-        → F.In.began result.source (Named name) }
-    ensures silent { asked.now.progress ≡ Silent → progress.new ≡ progress.old }
-    ensures shown { asked.now.progress ≡ Shown → ShowsRun (F.size source) (F.In.view source).supply
-        (F.In.view result.source).supply (P.shown progress.old) (P.shown progress.new) }
+    earlier: &mut Option<OldText<'_, L>>,
+    source: &mut S,
+    out: &mut O,
+) -> (Result<Done, Stopped>, Option<Marks>)
+    ensures decrypts { DecryptsMarked positions (allows_by identity) (from_either (allows_by identity)
+        (refuses_by identity) (goes_on L.view earlier.old earlier.new))
+        (ports (S.view source.old) (O.view out.old)) (ports (S.view source.new) (O.view out.new))
+        result.0 result.1 }
+    ensures began { (from : Origin) → S.began source.old from → S.began source.new from }
+    ensures old { IsSameOld L.began earlier.old earlier.new }
 {
-    match asked.progress {
+    match earlier {
+        None => decrypt_marked(alloc, positions, identity, source, out),
+        Some(old) => {
+            let text = &mut old.source;
+            resume_marked(alloc, positions, identity, &old.position, source, text, out)
+        }
+    }
+}
+
+/// Decrypts the input into the output.
+fn decrypt_text<'w, F: FileSet<'w>, P: Meter>(
+    alloc: Global,
+    files: &F,
+    writing: &Writing<'w>,
+    ready: Ready<'w, F::In, F::Out>,
+    progress: &mut P,
+) -> Decrypted<'w, F::In, F::Out>
+    ensures decrypts { DecryptsMarked (kept_for (option_text writing.now.save))
+        (allows_by ready.entry.identity) (from_either (allows_by ready.entry.identity)
+        (refuses_by ready.entry.identity) (goes_on F.In.view ready.entry.earlier result.earlier))
+        (ports (F.In.view ready.entry.source) (F.Out.view ready.entry.out))
+        (ports (F.In.view result.source) (F.Out.view result.out)) result.end result.marks }
+    ensures began { (name : List ℕ) → F.In.began ready.entry.source (Named name)
+        → F.In.began result.source (Named name) }
+    ensures old { IsSameOld F.In.began ready.entry.earlier result.earlier }
+    ensures silent { writing.now.paths.progress ≡ Silent → progress.new ≡ progress.old }
+    ensures shown { writing.now.paths.progress ≡ Shown → ShowsRun (F.size ready.entry.source)
+        (F.In.view ready.entry.source).supply (F.In.view result.source).supply (P.shown progress.old)
+        (P.shown progress.new) }
+{
+    let Ready {
+        identity,
+        mut earlier,
+        mut source,
+        mut out,
+    } = ready;
+    let positions = positions_for(writing.save);
+    match writing.paths.progress {
         ProgressOption::Silent => {
-            let (end, marks) = decrypt_marked(alloc, positions, identity, &mut source, out);
-            Decrypted { end, marks, source }
+            let (end, marks) = run_engine(
+                alloc,
+                positions,
+                identity,
+                &mut earlier,
+                &mut source,
+                &mut out,
+            );
+            Decrypted {
+                end,
+                marks,
+                earlier,
+                source,
+                out,
+            }
         }
         ProgressOption::Shown => {
             begin_meter(files, &source, &mut *progress);
@@ -77,62 +142,77 @@ fn open_text<F: FileSet, P: Meter>(
                 source,
                 meter: &mut *progress,
             };
-            let (end, marks) = decrypt_marked(alloc, positions, identity, &mut metered, out);
+            let (end, marks) = run_engine(
+                alloc,
+                positions,
+                identity,
+                &mut earlier,
+                &mut metered,
+                &mut out,
+            );
             let Metered {
                 source,
                 meter: _meter,
             } = metered;
             end_meter(&mut *progress);
-            Decrypted { end, marks, source }
+            Decrypted {
+                end,
+                marks,
+                earlier,
+                source,
+                out,
+            }
         }
     }
 }
 
-/// Decrypts the input into the output, ends that, and saves the position of a stop.
-fn decrypt_opened<F: FileSet, E: Sink, P: Meter>(
+/// Decrypts the input into the output, ends both, and saves the position of a stop, at no more than
+/// what the output holds for certain.
+pub(crate) fn decrypt_ready<'w, F: FileSet<'w>, E: Sink, P: Meter>(
     alloc: Global,
     files: &mut F,
-    asked: &Decrypting<'_>,
-    identity: Identity,
-    source: F::In,
-    mut out: F::Out,
+    writing: &Writing<'w>,
+    ready: Ready<'w, F::In, F::Out>,
     faults: &mut E,
     announced: &mut Announcement,
     progress: &mut P,
 ) -> Result<(), Ending>
-    requires { F.In.began source (Named asked.now.from.now) }
+    requires input { F.In.began ready.source (Named writing.now.paths.from.now) }
+    requires old { IfSome ready.earlier (λ e. F.In.began e.source (Named e.name.now)) }
     ensures announced { Tells announced.new result (E.view faults.old) (E.view faults.new)
         (faults.new ≡ faults.old) }
-    ensures opened { (first : FilesView)
+    ensures runs { (first : FilesView)
         → ((o : Outcome) → CameSince (F.view files.old) (F.view files.new) o
         → CameSince first (F.view files.new) o)
+        → IfSome ready.entry.earlier (IsNewOld F.In.view F.size (CameSince first (F.view files.old)))
         → RunsEngine (PortsOf F.In.view F.Out.view) (CameSince first (F.view files.new))
         (decrypt_engine (PortsOf F.In.view F.Out.view) (CameSince first (F.view files.new))
-        (kept_for (option_text asked.now.save)) identity None)
-        (paths_of asked.now) asked.now.durability asked.now.progress
-        (ports (F.In.view source) (F.Out.view out)) (F.view files.old) (F.view files.new)
-        (progress.new ≡ progress.old) (λ coming left ended. ShowsReadings (F.size source) coming left
-        (P.shown progress.old) (P.shown progress.new) ended) result }
+        (option_text writing.now.save) ready.entry.identity (option_map earlier_of ready.entry.earlier))
+        writing.now.paths (ports (F.In.view ready.entry.source) (F.Out.view ready.entry.out)) (F.view files.old)
+        (F.view files.new) (progress.new ≡ progress.old) (λ coming left.
+        ShowsRun (F.size ready.entry.source) coming left (P.shown progress.old) (P.shown progress.new))
+        result }
 {
-    let opened = open_text(
-        alloc,
-        files,
-        asked,
-        positions_for(asked.save),
-        identity,
+    let Decrypted {
+        end,
+        marks,
+        earlier,
         source,
-        &mut out,
-        progress,
-    );
-    end_decryption(alloc, files, out, asked, opened, faults, announced)
+        mut out,
+    } = decrypt_text(alloc, files, writing, ready, progress);
+    finish_old(files, earlier);
+    files.finish(source);
+    let settled = settle_end(files, &mut out, writing, end.is_err());
+    let engine = placed_end(end, &marks, settled);
+    end_output(alloc, files, out, writing, faults, announced, engine)
 }
 
 /// Decrypts a file as asked. If it stops, the line of its fault is put to `faults`, and then its
 /// position is saved. What `announced` says isn't reported is left to `report_ending`.
-pub fn decrypt_file<F: FileSet, E: Sink, P: Meter>(
+pub fn decrypt_file<'w, F: FileSet<'w>, E: Sink, P: Meter>(
     alloc: Global,
     files: &mut F,
-    asked: &Decrypting<'_>,
+    asked: &Decrypting<'w>,
     faults: &mut E,
     announced: &mut Announcement,
     progress: &mut P,
@@ -150,16 +230,17 @@ pub fn decrypt_file<F: FileSet, E: Sink, P: Meter>(
         second: asked.identity.shared,
         position: None,
         old: None,
-        from: asked.from,
-        to: asked.to,
-        clobber: asked.clobber,
         save: asked.save,
-        durability: asked.durability,
+        paths: asked.paths,
         content: Content::Plaintext,
     };
     let identity = identify(alloc, files, asked, &writing)?;
     let (source, out) = open_both(alloc, files, &writing)?;
-    decrypt_opened(
-        alloc, files, asked, identity, source, out, faults, announced, progress,
-    )
+    let ready = Ready {
+        identity,
+        earlier: None,
+        source,
+        out,
+    };
+    decrypt_ready(alloc, files, &writing, ready, faults, announced, progress)
 }

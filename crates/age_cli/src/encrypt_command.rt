@@ -4,17 +4,18 @@ ghost use Rattle.std.specs.Prelude.{◌≡◌, ◌⊎◌, ◌<◌, [], ◌∷◌
 ghost use Rattle.std.specs.Prelude.{IfSome, IfNone, Some, None};
 ghost use Rattle.age_io.specs.{Named};
 ghost use Rattle.age_fault.specs.declared.fault.FileFault.TheVariants.{Memory};
-ghost use Rattle.age_fileset.specs.{Opened, CameSince, HasGiven};
+ghost use Rattle.age_fileset.specs.{Open, CameSince, HasGiven};
 ghost use Rattle.age_cli_args.specs.{option_text};
 ghost use Rattle.age_cli_args.specs.declared.request.Request.TheVariants.{Encrypt};
 ghost use Rattle.age_cli_args.specs.declared.request.ProgressOption.TheVariants.{Silent, Shown};
-ghost use Rattle.age_command.specs.{Tells, HoldsOnly, NamesTwice, creating, making, random_name};
+ghost use Rattle.age_command.specs.{Tells, HoldsNoPassphrase, HoldsOnly, NamesTwice, creating, making};
+ghost use Rattle.age_command.specs.{random_name};
 ghost use Rattle.age_command.specs.declared.ending.Usage.TheVariants.{BadPassphraseFile, BadRandomFile};
 ghost use Rattle.age_file.specs.Encrypts.{Encrypts};
 ghost use Rattle.age_file.specs.{EncryptsFront, IsFrontOf, SecretView, ports};
 ghost use Rattle.age_command.specs.declared.ending.Ending.TheVariants.{Usage as UsageEnding};
 ghost use Rattle.age_cli.specs.Acts.{Acts, IsUnusable, PortsOf, ShowsProgress, ShowsRun};
-ghost use Rattle.age_cli.specs.Commands.{HoldsNoPassphrase, HoldsNoRandom};
+ghost use Rattle.age_cli.specs.Commands.{HoldsNoRandom};
 ghost use Rattle.age_cli.specs.inner.{EndsBy, GivesPassphrase, IsBlamedBy, IsMaterialGiven, IsNewBy};
 ghost use Rattle.age_cli.specs.inner.{IsRandom, IsUnopened, LacksMaterial, OpensFiles, age_file_in};
 ghost use Rattle.age_cli.specs.inner.{order_in, secret_of};
@@ -45,8 +46,12 @@ fn random_of(bytes: &[u8]) -> Option<FileRandom>
 }
 
 /// The random parts, from the first 48 bytes of a file.
-fn read_random<F: FileSet>(alloc: Global, files: &mut F, name: &str) -> Result<FileRandom, Ending>
-    ensures { OpensFiles (Opened name.now ∷ []) (Opened name.now ∷ []) ⊥ (λ Came. EndsBy Came ⊥
+fn read_random<'w, F: FileSet<'w>>(
+    alloc: Global,
+    files: &mut F,
+    name: &'w str,
+) -> Result<FileRandom, Ending>
+    ensures { OpensFiles (Open name.now ∷ []) (Open name.now ∷ []) ⊥ (λ Came. EndsBy Came ⊥
         (λ e. ((e ≡ UsageEnding BadRandomFile) × HoldsOnly Came name.now HoldsNoRandom)
         ⊎ IsUnusable Came None e)) (F.view files.old) (F.view files.new)
         (λ r. (bytes : List ℕ) × HasGiven (CameSince (F.view files.old) (F.view files.new))
@@ -63,12 +68,12 @@ fn read_random<F: FileSet>(alloc: Global, files: &mut F, name: &str) -> Result<F
 }
 
 /// The passphrase in its file. Refuses a file that holds none for this work factor.
-fn read_pass<F: FileSet>(
+fn read_pass<'w, F: FileSet<'w>>(
     alloc: Global,
     files: &mut F,
-    asked: &Encrypting<'_>,
+    asked: &Encrypting<'w>,
 ) -> Result<OwnPassphrase, Ending>
-    ensures { OpensFiles (Opened asked.now.pass.now ∷ []) (Opened asked.now.pass.now ∷ []) ⊥
+    ensures { OpensFiles (Open asked.now.pass.now ∷ []) (Open asked.now.pass.now ∷ []) ⊥
         (λ Came. EndsBy Came ⊥ (λ e. ((e ≡ UsageEnding BadPassphraseFile)
         × HoldsOnly Came asked.now.pass.now (HoldsNoPassphrase asked.now.log))
         ⊎ IsUnusable Came None e)) (F.view files.old) (F.view files.new)
@@ -101,15 +106,15 @@ fn random_name<'a>(asked: &Encrypting<'a>) -> &'a str
 
 /// What the secret is made of, from the files of the passphrase and of random bytes. These aren't
 /// read if the output is one of the files that are, or a stream would be read twice.
-fn read_material<F: FileSet>(
+fn read_material<'w, F: FileSet<'w>>(
     alloc: Global,
     files: &mut F,
-    asked: &Encrypting<'_>,
-    random_name: &str,
-    writing: &Writing<'_>,
+    asked: &Encrypting<'w>,
+    random_name: &'w str,
+    writing: &Writing<'w>,
 ) -> Result<Material, Ending>
-    ensures { OpensFiles (Opened asked.now.pass.now ∷ Opened random_name.now ∷ [])
-        (Opened asked.now.pass.now ∷ Opened random_name.now ∷ [])
+    ensures { OpensFiles (Open asked.now.pass.now ∷ Open random_name.now ∷ [])
+        (Open asked.now.pass.now ∷ Open random_name.now ∷ [])
         (NamesTwice (order_in writing.now).apart) (λ Came. EndsBy Came ⊥ (IsBlamedBy Came
         writing.now (LacksMaterial Came asked.now random_name.now)))
         (F.view files.old) (F.view files.new)
@@ -144,23 +149,23 @@ fn front_of(alloc: Global, material: Material) -> Result<Front, FileFault>
 /// Opens the input, derives the key, and opens the output only then: a run that is killed meanwhile
 /// leaves no empty file, and one for which memory is refused has made none. An output that has to
 /// be new is refused before that.
-fn open_sealing<F: FileSet>(
+fn open_sealing<'w, F: FileSet<'w>>(
     alloc: Global,
     files: &mut F,
-    writing: &Writing<'_>,
+    writing: &Writing<'w>,
     material: Material,
 ) -> Result<(F::In, F::Out, Front), Ending>
-    ensures { OpensFiles (Opened writing.now.from.now
-        ∷ creating writing.now.clobber writing.now.to.now ∷ [])
-        (Opened writing.now.from.now
-        ∷ making writing.now.clobber (Some writing.now.to.now) writing.now.durability) ⊥
-        (IsUnopened (age_file_in writing.now.content writing.now.to.now))
+    ensures { OpensFiles (Open writing.now.paths.from.now
+        ∷ creating writing.now.paths.clobber writing.now.paths.to.now ∷ [])
+        (Open writing.now.paths.from.now
+        ∷ making writing.now.paths.clobber writing.now.paths.to.now writing.now.paths.durability) ⊥
+        (IsUnopened (age_file_in writing.now.content writing.now.paths.to.now))
         (F.view files.old) (F.view files.new)
         (λ r. IsFrontOf (secret_of material) r.2 × IsNewBy F.In.view F.Out.view F.In.began F.size
-        (CameSince (F.view files.old) (F.view files.new)) writing.now r.0 r.1) result }
+        (CameSince (F.view files.old) (F.view files.new)) writing.now.paths r.0 r.1) result }
 {
-    let source = open_in(alloc, files, writing.from, false)?;
-    check_new(files, writing)?;
+    let source = open_in(alloc, files, writing.paths.from, false)?;
+    check_new(files, &writing.paths)?;
     let front = front_of(alloc, material)?;
     let out = create_out(alloc, files, writing)?;
     Ok((source, out, front))
@@ -174,9 +179,9 @@ struct Sealed<S: Source> {
 }
 
 /// Encrypts the input into the output.
-fn seal_text<F: FileSet, P: Meter>(
+fn seal_text<'w, F: FileSet<'w>, P: Meter>(
     files: &F,
-    asked: &Encrypting<'_>,
+    asked: &Encrypting<'w>,
     front: Front,
     mut source: F::In,
     out: &mut F::Out,
@@ -190,11 +195,11 @@ fn seal_text<F: FileSet, P: Meter>(
         (ports (F.In.view result.source) (F.Out.view out.new))) }
     ensures began { (name : List ℕ) → F.In.began source (Named name)
         → F.In.began result.source (Named name) }
-    ensures silent { asked.now.progress ≡ Silent → progress.new ≡ progress.old }
-    ensures shown { asked.now.progress ≡ Shown → ShowsRun (F.size source) (F.In.view source).supply
+    ensures silent { asked.now.paths.progress ≡ Silent → progress.new ≡ progress.old }
+    ensures shown { asked.now.paths.progress ≡ Shown → ShowsRun (F.size source) (F.In.view source).supply
         (F.In.view result.source).supply (P.shown progress.old) (P.shown progress.new) }
 {
-    match asked.progress {
+    match asked.paths.progress {
         ProgressOption::Silent => {
             let end = encrypt_after(front, &mut source, out);
             Sealed { end, source }
@@ -218,10 +223,10 @@ fn seal_text<F: FileSet, P: Meter>(
 
 /// Encrypts a file as asked. If it stops, the line of its fault is put to `faults`. What
 /// `announced` says isn't reported is left to `report_ending`.
-pub fn encrypt_file<F: FileSet, E: Sink, P: Meter>(
+pub fn encrypt_file<'w, F: FileSet<'w>, E: Sink, P: Meter>(
     alloc: Global,
     files: &mut F,
-    asked: &Encrypting<'_>,
+    asked: &Encrypting<'w>,
     faults: &mut E,
     announced: &mut Announcement,
     progress: &mut P,
@@ -240,11 +245,8 @@ pub fn encrypt_file<F: FileSet, E: Sink, P: Meter>(
         second: Some(random_name),
         position: None,
         old: None,
-        from: asked.from,
-        to: asked.to,
-        clobber: asked.clobber,
         save: None,
-        durability: asked.durability,
+        paths: asked.paths,
         content: Content::AgeFile,
     };
     let material = read_material(alloc, files, asked, random_name, &writing)?;
@@ -255,11 +257,9 @@ pub fn encrypt_file<F: FileSet, E: Sink, P: Meter>(
         alloc,
         files,
         out,
-        None,
-        asked.durability,
+        &writing,
         faults,
         announced,
         sealing_end(end),
-        0,
     )
 }

@@ -5,8 +5,10 @@ ghost use Rattle.age_io.specs.Taken.{Appends};
 ghost use Rattle.age_file.specs.declared.report.Report.{Report};
 ghost use Rattle.age_command.specs.declared.ending.Ending.TheVariants.{Fault};
 ghost use Rattle.age_io.specs.{Origin};
-ghost use Rattle.age_fileset.specs.{Opened, Does, CameSince};
-ghost use Rattle.age_cli.specs.{Reports, ReportsFile, FailsReport, FailsInput, FailsFile, report_text};
+ghost use Rattle.age_fileset.specs.{Open, Does, CameSince};
+ghost use Rattle.age_file.specs.{HeadFails, NoHeadFault};
+ghost use Rattle.age_file.specs.Reports.{Inspects};
+ghost use Rattle.age_cli.specs.{ReportsFile, FailsReport, FailsFile, report_text};
 ghost use Rattle.age_cli.specs.{believed, FailsWriting};
 ghost use Rattle.age_cli.specs.inner.{IsInspected};
 
@@ -24,7 +26,7 @@ fn inspect_as<I: Source>(
 ) -> Result<Report, FileFault>
     ensures ok { IfOk result (IsInspected length (I.view input.old).supply
         (I.view input.new).supply) }
-    ensures fails { IfErr result (FailsInput (I.view input.old) (I.view input.new)) }
+    ensures fails { IfErr result (HeadFails NoHeadFault (I.view input.old) (I.view input.new)) }
     ensures began { (from : Origin) → I.began input.old from → I.began input.new from }
 {
     match length {
@@ -43,9 +45,9 @@ fn write_report<I: Source, O: Sink>(
     ensures done { OnOk result ((r : Report)
         × IsInspected length (I.view input.old).supply (I.view input.new).supply r
         × Appends (O.view output.old).taken (O.view output.new).taken (report_text r)) }
-    ensures fails { IfErr result (λ f. FailsReport (FailsInput (I.view input.old) (I.view input.new))
+    ensures fails { IfErr result (λ f. FailsReport (HeadFails NoHeadFault (I.view input.old) (I.view input.new))
         (O.view output.old) (O.view output.new) (Fault f)) }
-    ensures sent { OnOk result ((O.view output.new).settled ≡ true) }
+    ensures sent { OnOk result ((O.view output.new).flushed ≡ true) }
     ensures began { (from : Origin) → I.began input.old from → I.began input.new from }
     ensures unprinted { IfErr result (λ f.
         FailsWriting (O.view output.old) (O.view output.new) (Fault f)
@@ -67,10 +69,10 @@ fn report_as<I: Source, O: Sink>(
     ensures done { OnOk result ((r : Report)
         × IsInspected length (I.view input.old).supply (I.view input.new).supply r
         × Appends (O.view output.old).taken (O.view output.new).taken (report_text r)) }
-    ensures fails { IfErr result (FailsReport (FailsInput (I.view input.old) (I.view input.new))
+    ensures fails { IfErr result (FailsReport (HeadFails NoHeadFault (I.view input.old) (I.view input.new))
         (O.view output.old) (O.view output.new)) }
     ensures began { (from : Origin) → I.began input.old from → I.began input.new from }
-    ensures sent { OnOk result ((O.view output.new).settled ≡ true) }
+    ensures sent { OnOk result ((O.view output.new).flushed ≡ true) }
     ensures unprinted { IfErr result (λ e. FailsWriting (O.view output.old) (O.view output.new) e
         ⊎ (output.new ≡ output.old)) }
 {
@@ -83,13 +85,13 @@ pub(crate) fn report<I: Source, O: Sink>(
     input: &mut I,
     output: &mut O,
 ) -> Result<(), Ending>
-    ensures done { OnOk result
-        (Reports (I.view input.old).supply (I.view input.new).supply (O.view output.old).taken
-        (O.view output.new).taken) }
-    ensures fails { IfErr result (FailsReport (FailsInput (I.view input.old) (I.view input.new))
+    ensures done { OnOk result ((r : Report)
+        × Inspects (I.view input.old).supply (I.view input.new).supply r
+        × Appends (O.view output.old).taken (O.view output.new).taken (report_text r)) }
+    ensures fails { IfErr result (FailsReport (HeadFails NoHeadFault (I.view input.old) (I.view input.new))
         (O.view output.old) (O.view output.new)) }
     ensures began { (from : Origin) → I.began input.old from → I.began input.new from }
-    ensures sent { OnOk result ((O.view output.new).settled ≡ true) }
+    ensures sent { OnOk result ((O.view output.new).flushed ≡ true) }
     ensures unprinted { IfErr result (λ e. FailsWriting (O.view output.old) (O.view output.new) e
         ⊎ (output.new ≡ output.old)) }
 {
@@ -97,7 +99,7 @@ pub(crate) fn report<I: Source, O: Sink>(
 }
 
 /// How long an input is, if that can be believed: a file of no length may give bytes, as in /proc.
-fn known_length<F: FileSet>(files: &F, source: &F::In) -> Option<u64>
+fn known_length<'w, F: FileSet<'w>>(files: &F, source: &F::In) -> Option<u64>
     ensures is { result ≡ believed (F.size source.now) }
     ensures seen { IfSome (F.In.view source.now).supply.left
         (λ bytes. IfSome result (λ n. n ≡ length bytes)) }
@@ -110,19 +112,20 @@ fn known_length<F: FileSet>(files: &F, source: &F::In) -> Option<u64>
 
 /// Writes the report on the file of this name. If its length is known, nothing is read once its
 /// header has come.
-pub(crate) fn report_file<F: FileSet, O: Sink>(
+pub(crate) fn report_file<'w, F: FileSet<'w>, O: Sink>(
     alloc: Global,
     files: &mut F,
-    name: &str,
+    name: &'w str,
     output: &mut O,
 ) -> Result<(), Ending>
-    ensures does { Does (Opened name.now ∷ []) (F.view files.old) (F.view files.new) }
-    ensures done { OnOk result (ReportsFile (CameSince (F.view files.old) (F.view files.new)) name.now
-        (O.view output.old).taken (O.view output.new).taken) }
+    ensures does { Does (Open name.now ∷ []) (F.view files.old) (F.view files.new) }
+    ensures done { OnOk result ((r : Report)
+        × ReportsFile (CameSince (F.view files.old) (F.view files.new)) name.now r
+        × Appends (O.view output.old).taken (O.view output.new).taken (report_text r)) }
     ensures fails { IfErr result
         (FailsReport (FailsFile (F.view files.old) (F.view files.new) name.now)
         (O.view output.old) (O.view output.new)) }
-    ensures sent { OnOk result ((O.view output.new).settled ≡ true) }
+    ensures sent { OnOk result ((O.view output.new).flushed ≡ true) }
     ensures unprinted { IfErr result (λ e. FailsWriting (O.view output.old) (O.view output.new) e
         ⊎ (output.new ≡ output.old)) }
 {

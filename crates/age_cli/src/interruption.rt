@@ -1,17 +1,17 @@
 //! How a command that writes a text stops, and where its position goes.
 
-ghost use Rattle.std.specs.Prelude.{◌≡◌, ◌⊎◌, ◌++◌, [], ◌≤◌, ◌*◌, List, true, false, None, OnOk, IfErr};
+ghost use Rattle.std.specs.Prelude.{◌≡◌, ◌⊎◌, ◌++◌, ◌≤◌, ◌*◌, true, None, OnOk, IfErr};
 ghost use Rattle.std.specs.Prelude.{IsSomeAnd, is_some};
 ghost use Rattle.age_chunk.specs.{chunk_length};
 ghost use Rattle.age_fault.specs.declared.fault.FileFault.TheVariants.{Write};
-ghost use Rattle.age_fileset.specs.{Entry, PutsOnly, CameSince, IsMemoryOr, written_as};
+ghost use Rattle.age_fileset.specs.{IsMemoryOr, written_as};
 ghost use Rattle.age_cli_args.specs.{option_text};
-ghost use Rattle.age_command.specs.{is_usage, Announces, Follows, replacing};
-ghost use Rattle.age_cli.specs.Acts.{IsEndingOf, IsNotDue, IsStored, IsUnsavable, LacksOne};
-ghost use Rattle.age_cli.specs.inner.{sealing_end};
+ghost use Rattle.age_command.specs.{Announces, Follows, replacing};
+ghost use Rattle.age_cli.specs.inner.{IsUnsavable, LacksOne, PutsRest, sealing_end};
 ghost use Rattle.age_machine.specs.Saved.{Saves};
 ghost use Rattle.age_file.specs.{position_text};
 
+use crate::output::Writing;
 use age_command::{Announcement, Ending, announce};
 use age_file::{FileFault, Position, Written};
 use age_fileset::FileSet;
@@ -25,17 +25,8 @@ pub(crate) struct Interruption {
     pub(crate) fault: FileFault,
     /// The position to save.
     pub(crate) position: Option<Position>,
-}
-
-impl From<FileFault> for Interruption {
-    ghost from_gives = { λ f s. s ≡ record { fault = f; position = None } };
-
-    fn from(fault: FileFault) -> Interruption {
-        Interruption {
-            fault,
-            position: None,
-        }
-    }
+    /// How many bytes OUT holds for certain, if a position is to be saved.
+    pub(crate) settled: u64,
 }
 
 /// How an encryption ended. It has no position.
@@ -47,16 +38,17 @@ pub(crate) fn sealing_end(sealed: Result<Written, FileFault>) -> Result<(), Inte
         Err(fault) => Err(Interruption {
             fault,
             position: None,
+            settled: 0,
         }),
     }
 }
 
 /// Saves a position, if there is one and a file for it. It isn't saved (27) if it stands beyond what
 /// OUT holds for certain: `settled` bytes.
-pub(crate) fn save<F: FileSet>(
+pub(crate) fn save<'w, F: FileSet<'w>>(
     alloc: Global,
     files: &mut F,
-    name: Option<&str>,
+    name: Option<&'w str>,
     position: Option<Position>,
     settled: u64,
     durability: Durability,
@@ -87,31 +79,31 @@ pub(crate) fn save<F: FileSet>(
 
 /// How a command ends that stopped, once its position is saved. The line of its fault is put before
 /// that, since what the position goes to may block.
-pub(crate) fn report_and_save<F: FileSet, E: Sink>(
+pub(crate) fn report_and_save<'w, F: FileSet<'w>, E: Sink>(
     alloc: Global,
     files: &mut F,
-    name: Option<&str>,
+    asked: &Writing<'w>,
     stop: Interruption,
-    settled: u64,
-    durability: Durability,
     faults: &mut E,
     announced: &mut Announcement,
 ) -> Ending
     ensures announced { Announces announced.new result (E.view faults.old) (E.view faults.new) ⊥ }
-    ensures fault { is_usage result ≡ false }
-    ensures reported { IsEndingOf stop.fault result }
-    ensures noted { Follows (replacing (option_text name.entry) durability)
+    ensures noted { Follows (replacing (option_text asked.now.save) asked.now.paths.durability)
         (F.view files.old).events (F.view files.new).events }
     ensures unended { (F.view files.new).ended ≡ (F.view files.old).ended }
-    ensures put { (rest : List Entry) × PutsOnly rest (F.view files.old) (F.view files.new)
-        × (((rest ≡ []) × ((F.view files.new).events ≡ (F.view files.old).events)
-        × IsNotDue settled result (option_text name.entry) stop.position)
-        ⊎ IsStored (CameSince (F.view files.old) (F.view files.new)) durability
-        (option_text name.entry) settled stop.position result rest
-        (F.view files.new).saved) }
+    ensures put { PutsRest asked.now.paths.durability (option_text asked.now.save) stop
+        (F.view files.old) (F.view files.new) result }
 {
     *announced = announce(faults, stop.fault);
-    match save(alloc, files, name, stop.position, settled, durability) {
+    let durability = asked.paths.durability;
+    match save(
+        alloc,
+        files,
+        asked.save,
+        stop.position,
+        stop.settled,
+        durability,
+    ) {
         Ok(()) => Ending::Fault(stop.fault),
         Err(second) => Ending::Unsaved(stop.fault, second),
     }

@@ -23,13 +23,13 @@ pub fn runs_keep_out<I: Source, O: Sink, E: Sink, P: Meter>(before: &MemFiles, a
 
 /// What is refused writes nothing to the output, and a report that fails doesn't blame the command
 /// line.
-pub fn refusals_are_silent<F: FileSet, I: Source, O: Sink, P: Meter>()
+pub fn refusals_are_silent<'w, F: FileSet<'w>, I: Source, O: Sink, P: Meter>()
     ensures silent { RefusesInSilence (PortsOf F.In.view F.Out.view) I O P }
     ensures reported { ReportsAccept }
 {}
 
 /// Decryptions over any set of files, the machine's among them: after a fault that comes before the
 /// text, also of a wrong passphrase, OUT is as it was, or the empty file that was made.
-pub fn early_faults_spare_out<F: FileSet, P: Meter>()
+pub fn early_faults_spare_out<'w, F: FileSet<'w>, P: Meter>()
     ensures { EarlyFaultsSpareOut (PortsOf F.In.view F.Out.view) P }
 {}

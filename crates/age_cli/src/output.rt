@@ -2,10 +2,10 @@
 
 ghost use Rattle.std.specs.Prelude.{◌≡◌, [], ◌∷◌, ◌++◌, map, Some, None, true, is_some, length, IfSome};
 ghost use Rattle.age_io.specs.{Adds, Begins, Ends, Named};
-ghost use Rattle.age_fileset.specs.{Opened, Absent, Settled, Terminal, Does, CameSince};
+ghost use Rattle.age_fileset.specs.{Open, Absent, Settled, Terminal, Does, CameSince};
 ghost use Rattle.age_cli_args.specs.{option_text};
 ghost use Rattle.age_cli_args.specs.declared.request.ClobberOption.TheVariants.{Refused};
-ghost use Rattle.age_command.specs.{Tells, AreApart, NamesTwice, apart_from, creating, preparing, making};
+ghost use Rattle.age_command.specs.{Tells, AreApart, NamesTwice, creating, preparing, making};
 ghost use Rattle.age_command.specs.declared.ending.Usage.TheVariants.{SameFile};
 ghost use Rattle.age_command.specs.declared.ending.Ending.TheVariants.{Usage as UsageEnding};
 ghost use Rattle.age_cli.specs.Acts.{IsUnusable, NamesOne};
@@ -15,7 +15,7 @@ ghost use Rattle.age_cli.specs.inner.{found_by, order_in};
 ghost use Rattle.age_cli.specs.declared.output.Content.TheVariants.{AgeFile};
 
 use crate::interruption::{Interruption, report_and_save};
-use age_cli_args::ClobberOption;
+use age_cli_args::{ClobberOption, Paths};
 use age_command::{Announcement, Ending, Usage, announce};
 use age_fileset::FileSet;
 use age_io::{Durability, Meter, Metered, Sink};
@@ -42,22 +42,16 @@ pub(crate) struct Writing<'a> {
     pub(crate) position: Option<&'a str>,
     /// The earlier output.
     pub(crate) old: Option<&'a str>,
-    /// The input.
-    pub(crate) from: &'a str,
-    /// The output.
-    pub(crate) to: &'a str,
-    /// What becomes of the output if it is there.
-    pub(crate) clobber: ClobberOption,
     /// Where the position goes if the command stops.
     pub(crate) save: Option<&'a str>,
-    /// When what was written reaches the disk.
-    pub(crate) durability: Durability,
+    /// The input and the output.
+    pub(crate) paths: Paths<'a>,
     /// What the output is to hold.
     pub(crate) content: Content,
 }
 
 /// Whether two names are given, and stand for one file.
-fn are_one<F: FileSet>(files: &mut F, one: Option<&str>, other: Option<&str>) -> bool
+fn are_one<'w, F: FileSet<'w>>(files: &mut F, one: Option<&'w str>, other: Option<&'w str>) -> bool
     ensures { Compares (F.view files.old) (F.view files.new) result
         (λ a b. (option_text one.entry ≡ Some a) × (option_text other.entry ≡ Some b)) }
 {
@@ -71,9 +65,13 @@ fn are_one<F: FileSet>(files: &mut F, one: Option<&str>, other: Option<&str>) ->
 }
 
 /// Whether a name is given, and stands for the same file as one of others that are given.
-fn is_one_of<F: FileSet>(files: &mut F, name: Option<&str>, others: &[Option<&str>]) -> bool
+fn is_one_of<'w, F: FileSet<'w>>(
+    files: &mut F,
+    name: Option<&'w str>,
+    others: &[Option<&'w str>],
+) -> bool
     ensures { Compares (F.view files.old) (F.view files.new) result
-        (AreApart (apart_from (option_text name.entry) (map option_text others.now) ∷ [])) }
+        (AreApart ((option_text name.entry, map option_text others.now) ∷ [])) }
 {
     for other in others {
         if are_one(files, name, *other) {
@@ -86,7 +84,7 @@ fn is_one_of<F: FileSet>(files: &mut F, name: Option<&str>, others: &[Option<&st
 /// Whether two names that have to differ stand for one file: the output's and one of what is read;
 /// that of `save`, and the output's or one of what is read but the position; or the earlier output's
 /// and the input's.
-pub(crate) fn names_twice<F: FileSet>(files: &mut F, asked: &Writing<'_>) -> bool
+pub(crate) fn names_twice<'w, F: FileSet<'w>>(files: &mut F, asked: &Writing<'w>) -> bool
     ensures { Compares (F.view files.old) (F.view files.new) result
         (AreApart (order_in asked.now).apart) }
 {
@@ -97,8 +95,8 @@ pub(crate) fn names_twice<F: FileSet>(files: &mut F, asked: &Writing<'_>) -> boo
         old,
         ..
     } = *asked;
-    let from = Some(asked.from);
-    let to = Some(asked.to);
+    let from = Some(asked.paths.from);
+    let to = Some(asked.paths.to);
     if is_one_of(files, to, &[position, from, first, second, old]) {
         return true;
     }
@@ -109,7 +107,7 @@ pub(crate) fn names_twice<F: FileSet>(files: &mut F, asked: &Writing<'_>) -> boo
 }
 
 /// Whether an output is a terminal, which can't show what it is to hold.
-fn is_unshown<F: FileSet>(files: &mut F, out: &F::Out, content: Content) -> bool
+fn is_unshown<'w, F: FileSet<'w>>(files: &mut F, out: &F::Out, content: Content) -> bool
     ensures does { Does [] (F.view files.old) (F.view files.new) }
     ensures terminal { result ≡ true → (content ≡ AgeFile)
         × CameSince (F.view files.old) (F.view files.new) (Terminal (F.Out.view out.now).taken.label) }
@@ -122,7 +120,7 @@ fn is_unshown<F: FileSet>(files: &mut F, out: &F::Out, content: Content) -> bool
 
 /// Why what was opened can't be the output: it is a terminal, which is no place for an age file, or
 /// progress and faults go there.
-fn refusal_of<F: FileSet>(files: &mut F, out: &F::Out, content: Content) -> Option<Usage>
+fn refusal_of<'w, F: FileSet<'w>>(files: &mut F, out: &F::Out, content: Content) -> Option<Usage>
     ensures does { Does [] (F.view files.old) (F.view files.new) }
     ensures taken { IfSome result (λ u. IsUnusable (CameSince (F.view files.old) (F.view files.new))
         (age_file_in content (F.Out.view out.now).taken.label) (UsageEnding u)) }
@@ -138,10 +136,10 @@ fn refusal_of<F: FileSet>(files: &mut F, out: &F::Out, content: Content) -> Opti
 
 /// Refuses names that have to differ and stand for one file, and two names of what is read that
 /// stand for one stream.
-pub(crate) fn check_names<F: FileSet>(
+pub(crate) fn check_names<'w, F: FileSet<'w>>(
     alloc: Global,
     files: &mut F,
-    asked: &Writing<'_>,
+    asked: &Writing<'w>,
 ) -> Result<(), Ending>
     ensures { OpensFiles [] [] (NamesTwice (order_in asked.now).apart) (λ Came. EndsBy Came ⊥
         (λ e. (e ≡ UsageEnding SameFile) × NamesOne Came (order_in asked.now)))
@@ -157,17 +155,20 @@ pub(crate) fn check_names<F: FileSet>(
         old,
         ..
     } = *asked;
-    Ok(files.check_streams(alloc, &[position, old, first, second, Some(asked.from)])?)
+    Ok(files.check_streams(
+        alloc,
+        &[position, old, first, second, Some(asked.paths.from)],
+    )?)
 }
 
 /// Opens a file to be read. One that isn't there may count as empty.
-pub(crate) fn open_in<F: FileSet>(
+pub(crate) fn open_in<'w, F: FileSet<'w>>(
     alloc: Global,
     files: &mut F,
-    name: &str,
+    name: &'w str,
     or_empty: bool,
 ) -> Result<F::In, Ending>
-    ensures { OpensFiles (Opened name.now ∷ []) (Opened name.now ∷ []) ⊥ (IsUnopened None)
+    ensures { OpensFiles (Open name.now ∷ []) (Open name.now ∷ []) ⊥ (IsUnopened None)
         (F.view files.old) (F.view files.new) (λ s. ((F.In.view s).supply.given ≡ [])
         × F.In.began s (Named name.now) × CameSince (F.view files.old) (F.view files.new)
         (found_by or_empty name.now (F.In.view s).supply.left (F.size s))) result }
@@ -180,50 +181,54 @@ pub(crate) fn open_in<F: FileSet>(
 }
 
 /// Opens the output, or makes it if one that is there is refused.
-fn make_out<F: FileSet>(alloc: Global, files: &mut F, asked: &Writing<'_>) -> Result<F::Out, Ending>
-    ensures { OpensFiles (creating asked.now.clobber asked.now.to.now ∷ [])
-        (creating asked.now.clobber asked.now.to.now ∷ []) ⊥ (IsUnopened None)
+fn make_out<'w, F: FileSet<'w>>(
+    alloc: Global,
+    files: &mut F,
+    paths: &Paths<'w>,
+) -> Result<F::Out, Ending>
+    ensures { OpensFiles (creating paths.now.clobber paths.now.to.now ∷ [])
+        (creating paths.now.clobber paths.now.to.now ∷ []) ⊥ (IsUnopened None)
         (F.view files.old) (F.view files.new) (λ o. ((F.Out.view o).taken.bytes ≡ [])
-        × ((F.Out.view o).failed ≡ 0) × ((F.Out.view o).taken.label ≡ asked.now.to.now)
-        × (asked.now.clobber ≡ Refused
-        → CameSince (F.view files.old) (F.view files.new) (Absent asked.now.to.now))) result }
+        × ((F.Out.view o).failed ≡ 0) × ((F.Out.view o).taken.label ≡ paths.now.to.now)
+        × (paths.now.clobber ≡ Refused
+        → CameSince (F.view files.old) (F.view files.new) (Absent paths.now.to.now))) result }
 {
-    match asked.clobber {
-        ClobberOption::Allowed => Ok(files.create(alloc, asked.to, asked.durability)?),
-        ClobberOption::Refused => Ok(files.create_new(alloc, asked.to, asked.durability)?),
+    match paths.clobber {
+        ClobberOption::Allowed => Ok(files.create(alloc, paths.to, paths.durability)?),
+        ClobberOption::Refused => Ok(files.create_new(alloc, paths.to, paths.durability)?),
     }
 }
 
 /// Refuses an output that is there, if it has to be new.
-pub(crate) fn check_new<F: FileSet>(files: &mut F, asked: &Writing<'_>) -> Result<(), Ending>
+pub(crate) fn check_new<'w, F: FileSet<'w>>(files: &mut F, paths: &Paths<'w>) -> Result<(), Ending>
     ensures { OpensFiles [] [] ⊥ (IsUnopened None) (F.view files.old) (F.view files.new)
         (λ _. Unit {0}) result }
 {
-    match asked.clobber {
+    match paths.clobber {
         ClobberOption::Allowed => Ok(()),
-        ClobberOption::Refused => Ok(files.check_absent(asked.to)?),
+        ClobberOption::Refused => Ok(files.check_absent(paths.to)?),
     }
 }
 
 /// Opens the output, unless it turns out to be a file that is read or the file of `save`, or can't
 /// be the output for another reason.
-pub(crate) fn create_out<F: FileSet>(
+pub(crate) fn create_out<'w, F: FileSet<'w>>(
     alloc: Global,
     files: &mut F,
-    asked: &Writing<'_>,
+    asked: &Writing<'w>,
 ) -> Result<F::Out, Ending>
-    ensures { OpensFiles (creating asked.now.clobber asked.now.to.now ∷ [])
-        (making asked.now.clobber (Some asked.now.to.now) asked.now.durability) ⊥
-        (IsUnopened (age_file_in asked.now.content asked.now.to.now))
+    ensures { OpensFiles (creating asked.now.paths.clobber asked.now.paths.to.now ∷ [])
+        (making asked.now.paths.clobber asked.now.paths.to.now asked.now.paths.durability) ⊥
+        (IsUnopened (age_file_in asked.now.content asked.now.paths.to.now))
         (F.view files.old) (F.view files.new) (λ o. ((F.Out.view o).taken.bytes ≡ [])
-        × ((F.Out.view o).failed ≡ 0) × ((F.Out.view o).taken.label ≡ asked.now.to.now)
-        × (asked.now.clobber ≡ Refused
-        → CameSince (F.view files.old) (F.view files.new) (Absent asked.now.to.now))) result }
+        × ((F.Out.view o).failed ≡ 0) × ((F.Out.view o).taken.label ≡ asked.now.paths.to.now)
+        × (asked.now.paths.clobber ≡ Refused
+        → CameSince (F.view files.old) (F.view files.new) (Absent asked.now.paths.to.now))) result }
 {
-    let out = make_out(alloc, files, asked)?;
+    let out = make_out(alloc, files, &asked.paths)?;
     match refusal_of(files, &out, asked.content) {
         Some(usage) => {
-            files.discard(out, asked.durability);
+            files.discard(out, asked.paths.durability);
             Err(Ending::Usage(usage))
         }
         None => Ok(out),
@@ -232,43 +237,47 @@ pub(crate) fn create_out<F: FileSet>(
 
 /// Prepares the file of `save`, if there is one, unless it turns out to be a file that is read,
 /// other than the file of the position.
-fn prepare_save<F: FileSet>(alloc: Global, files: &mut F, asked: &Writing<'_>) -> Result<(), Ending>
+fn prepare_save<'w, F: FileSet<'w>>(
+    alloc: Global,
+    files: &mut F,
+    asked: &Writing<'w>,
+) -> Result<(), Ending>
     ensures { OpensFiles (preparing (option_text asked.now.save) (option_text asked.now.position))
         (preparing (option_text asked.now.save) (option_text asked.now.position)) ⊥ (IsUnopened None)
         (F.view files.old) (F.view files.new) (λ _. Unit {0}) result }
 {
     match asked.save {
-        Some(save) => Ok(files.prepare(alloc, save, asked.position, asked.durability)?),
+        Some(save) => Ok(files.prepare(alloc, save, asked.position, asked.paths.durability)?),
         None => Ok(()),
     }
 }
 
 /// Opens the input, and then what is to be written, unless that turns out to be a file that is
 /// read.
-pub(crate) fn open_both<F: FileSet>(
+pub(crate) fn open_both<'w, F: FileSet<'w>>(
     alloc: Global,
     files: &mut F,
-    asked: &Writing<'_>,
+    asked: &Writing<'w>,
 ) -> Result<(F::In, F::Out), Ending>
-    ensures { OpensFiles (Opened asked.now.from.now
+    ensures { OpensFiles (Open asked.now.paths.from.now
         ∷ (preparing (option_text asked.now.save) (option_text asked.now.position)
-        ++ creating asked.now.clobber asked.now.to.now ∷ []))
-        (Opened asked.now.from.now
+        ++ creating asked.now.paths.clobber asked.now.paths.to.now ∷ []))
+        (Open asked.now.paths.from.now
         ∷ (preparing (option_text asked.now.save) (option_text asked.now.position)
-        ++ making asked.now.clobber (Some asked.now.to.now) asked.now.durability)) ⊥
-        (IsUnopened (age_file_in asked.now.content asked.now.to.now))
+        ++ making asked.now.paths.clobber asked.now.paths.to.now asked.now.paths.durability)) ⊥
+        (IsUnopened (age_file_in asked.now.content asked.now.paths.to.now))
         (F.view files.old) (F.view files.new)
         (λ both. IsNewBy F.In.view F.Out.view F.In.began F.size
-        (CameSince (F.view files.old) (F.view files.new)) asked.now both.0 both.1) result }
+        (CameSince (F.view files.old) (F.view files.new)) asked.now.paths both.0 both.1) result }
 {
-    let source = open_in(alloc, files, asked.from, false)?;
+    let source = open_in(alloc, files, asked.paths.from, false)?;
     prepare_save(alloc, files, asked)?;
     let out = create_out(alloc, files, asked)?;
     Ok((source, out))
 }
 
 /// Shows a meter that a reading of an input begins, with its length if the set of files can say it.
-pub(crate) fn begin_meter<F: FileSet, M: Meter>(files: &F, source: &F::In, meter: &mut M)
+pub(crate) fn begin_meter<'w, F: FileSet<'w>, M: Meter>(files: &F, source: &F::In, meter: &mut M)
     ensures { IfSome (F.In.view source.now).supply.left (λ bytes. F.size source.now ≡ Some (length bytes))
         × Adds (M.shown meter.old) (M.shown meter.new) (Begins (F.size source.now)) }
 {
@@ -283,7 +292,7 @@ pub(crate) fn end_meter<M: Meter>(meter: &mut M)
 }
 
 /// Ends the output of an engine that stopped: with what was written, or as it was, if nothing was.
-pub(crate) fn leave<F: FileSet>(files: &mut F, out: F::Out, durability: Durability)
+pub(crate) fn leave<'w, F: FileSet<'w>>(files: &mut F, out: F::Out, durability: Durability)
     ensures { LeavesOut durability (F.Out.view out) (F.view files.old) (F.view files.new) }
 {
     let is_empty = files.is_empty(&out);
@@ -296,7 +305,7 @@ pub(crate) fn leave<F: FileSet>(files: &mut F, out: F::Out, durability: Durabili
 }
 
 /// Ends the output of an engine that ended.
-fn close_out<F: FileSet, E: Sink>(
+fn close_out<'w, F: FileSet<'w>, E: Sink>(
     files: &mut F,
     out: F::Out,
     durability: Durability,
@@ -317,51 +326,46 @@ fn close_out<F: FileSet, E: Sink>(
 }
 
 /// How many bytes an output holds for certain, if its engine stopped and a position is to be saved.
-pub(crate) fn settle_end<F: FileSet>(
+pub(crate) fn settle_end<'w, F: FileSet<'w>>(
     files: &mut F,
     out: &mut F::Out,
-    save: Option<&str>,
-    durability: Durability,
+    asked: &Writing<'w>,
     is_stopped: bool,
 ) -> u64
     ensures does { Does [] (F.view files.old) (F.view files.new) }
     ensures same { F.Out.view out.new ≡ F.Out.view out.old }
-    ensures certain { is_stopped ≡ true → is_some (option_text save.entry) ≡ true
+    ensures certain { is_stopped ≡ true → is_some (option_text asked.now.save) ≡ true
         → CameSince (F.view files.old) (F.view files.new)
-        (Settled durability (F.Out.view out.old).taken.bytes result) }
+        (Settled asked.now.paths.durability (F.Out.view out.old).taken.bytes result) }
 {
-    if is_stopped && save.is_some() {
-        files.settle(out, durability)
+    if is_stopped && asked.save.is_some() {
+        files.settle(out, asked.paths.durability)
     } else {
         0
     }
 }
 
 /// Ends the output once the engine returned: whole, or as its stop leaves it. Announces the fault,
-/// and saves the position of a stop, unless it is beyond these bytes.
-pub(crate) fn end_output<F: FileSet, E: Sink>(
+/// and saves the position of a stop, unless it is beyond what is certain.
+pub(crate) fn end_output<'w, F: FileSet<'w>, E: Sink>(
     alloc: Global,
     files: &mut F,
     out: F::Out,
-    save: Option<&str>,
-    durability: Durability,
+    asked: &Writing<'w>,
     faults: &mut E,
     announced: &mut Announcement,
     engine: Result<(), Interruption>,
-    settled: u64,
 ) -> Result<(), Ending>
     ensures announced { Tells announced.new result (E.view faults.old) (E.view faults.new)
         (faults.new ≡ faults.old) }
-    ensures concludes { Concludes (option_text save.entry) durability (F.Out.view out) settled engine
-        (F.view files.old) (F.view files.new) result }
+    ensures concludes { Concludes (option_text asked.now.save) asked.now.paths.durability
+        (F.Out.view out) engine (F.view files.old) (F.view files.new) result }
 {
     match engine {
-        Ok(()) => close_out(files, out, durability, faults, announced),
+        Ok(()) => close_out(files, out, asked.paths.durability, faults, announced),
         Err(stop) => {
-            leave(files, out, durability);
-            Err(report_and_save(
-                alloc, files, save, stop, settled, durability, faults, announced,
-            ))
+            leave(files, out, asked.paths.durability);
+            Err(report_and_save(alloc, files, asked, stop, faults, announced))
         }
     }
 }

@@ -1,13 +1,13 @@
 //! The program, over arguments, files, a source and sinks.
 
-ghost use Rattle.std.specs.Prelude.{◌≡◌, ◌⊎◌, IfErr, IsErrAnd, IsOk, OnOk};
+ghost use Rattle.std.specs.Prelude.{◌≡◌, ◌⊎◌, IfErr, IsErrAnd, IsOk, OnOk, if◌then◌else◌};
 ghost use Rattle.clap.specs.declared.error.kind.ErrorKind.TheVariants.{OutOfMemory};
 ghost use Rattle.age_fault.specs.declared.fault.FileFault.TheVariants.{Memory};
-ghost use Rattle.age_command.specs.{Tells};
+ghost use Rattle.age_command.specs.{Tells, is_usage};
 ghost use Rattle.age_command.specs.declared.ending.Ending.TheVariants.{Fault};
 ghost use Rattle.clap.specs.Words.{kind_of};
 ghost use Rattle.clap.specs.Walk.{texts};
-ghost use Rattle.age_cli.specs.{PortsOf, ending_status, ShowsProgress, world, IsRefusal, Obeys, Prints};
+ghost use Rattle.age_cli.specs.{PortsOf, ShowsProgress, world, IsRefusal, Obeys, Prints};
 ghost use Rattle.age_cli.specs.{FailsWriting};
 ghost use Rattle.age_cli.specs.Runs.{Runs};
 ghost use Rattle.age_cli.specs.Headline.{ZeroLeaves};
@@ -20,7 +20,8 @@ use crate::inspect_command::{report, report_file};
 use crate::refusal::refusal_text;
 use crate::resume_command::resume_file;
 use age_cli_args::{Request, read_request};
-use age_command::{Announcement, Ending, Usage, drill_file, put_bytes, report_ending};
+use age_command::{Announcement, Ending, Usage, put_bytes, report_ending};
+use age_drill::drill_file;
 use age_file::{FileFault, Sink, Source, flush_all};
 use age_fileset::FileSet;
 use age_io::Meter;
@@ -55,9 +56,9 @@ fn answer_refusal<O: Sink>(
 }
 
 /// Does what the words ask for.
-fn obey<F: FileSet, I: Source, O: Sink, E: Sink, P: Meter>(
+fn obey<'w, F: FileSet<'w>, I: Source, O: Sink, E: Sink, P: Meter>(
     alloc: Global,
-    words: &[&str],
+    words: &'w [&'w str],
     files: &mut F,
     input: &mut I,
     output: &mut O,
@@ -96,7 +97,7 @@ fn obey<F: FileSet, I: Source, O: Sink, E: Sink, P: Meter>(
 
 /// The status of the program for this ending.
 fn status(ending: &Ending) -> u8
-    ensures { result ≡ ending_status ending.now }
+    ensures { result ≡ (if is_usage ending.now then 2 else 1) }
 {
     match ending {
         Ending::Words(_) | Ending::Usage(_) => 2,
@@ -122,9 +123,9 @@ fn status(ending: &Ending) -> u8
 /// With `--progress`, `progress` is shown how many bytes IN has, if the set of files can say so,
 /// and how many of them each pull gave, and then that the reading is over, before a fault is
 /// reported.
-pub fn run<F: FileSet, I: Source, O: Sink, E: Sink, P: Meter>(
+pub fn run<'w, F: FileSet<'w>, I: Source, O: Sink, E: Sink, P: Meter>(
     alloc: Global,
-    words: &[&str],
+    words: &'w [&'w str],
     files: &mut F,
     input: &mut I,
     output: &mut O,

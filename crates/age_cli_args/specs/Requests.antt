@@ -7,16 +7,14 @@ use Rattle.std.specs.Str.Parse.{IsNumeral, digits_value, without_leading_plus}
 use Rattle.clap.specs.Words.{Row, Text, one_of, fault_of, subcommand_of, first_of}
 use Rattle.clap.specs.Kinds.{Kinds, IsAmong}
 use Rattle.clap.specs.declared.error.kind.ErrorKind.TheVariants.{DisplayHelp, DisplayVersion}
-use Rattle.age_io.specs.declared.durability.Durability.{Durability}
 use Rattle.age_io.specs.declared.durability.Durability.TheVariants.{Synced, Buffered}
 use Rattle.age_cli_args.specs.Commands.{age_tool}
-use Rattle.age_cli_args.specs.declared.request.ClobberOption.{ClobberOption}
 use Rattle.age_cli_args.specs.declared.request.ClobberOption.TheVariants.{Allowed, Refused}
 use Rattle.age_cli_args.specs.declared.request.Decrypting.{Decrypting}
 use Rattle.age_cli_args.specs.declared.request.Drilling.{Drilling}
 use Rattle.age_cli_args.specs.declared.request.Encrypting.{Encrypting}
 use Rattle.age_cli_args.specs.declared.request.IdentityOptions.{IdentityOptions}
-use Rattle.age_cli_args.specs.declared.request.ProgressOption.{ProgressOption}
+use Rattle.age_cli_args.specs.declared.request.Paths.{Paths}
 use Rattle.age_cli_args.specs.declared.request.ProgressOption.TheVariants.{Shown, Silent}
 use Rattle.age_cli_args.specs.declared.request.Request.{Request}
 use Rattle.age_cli_args.specs.declared.request.Request.TheVariants.{Inspect, Decrypt, Resume, Encrypt, Drill}
@@ -57,27 +55,19 @@ IsNumber default (Some text) n = IsNumeral 10 (without_leading_plus text)
 abbrev pub option_text : Option (Bor Text) → Option Text
 option_text = option_map (λ s. s.now)
 
--- `--no-sync` says that what is written may reach the disk later
-abbrev pub IsDurability : List Row → Durability → Type 0
-IsDurability rows d = d ≡ (if is_given (codes "no-sync") rows then Buffered else Synced)
-
--- `--no-clobber` says that an existing OUT is refused
-abbrev pub IsClobber : List Row → ClobberOption → Type 0
-IsClobber rows c = c ≡ (if is_given (codes "no-clobber") rows then Refused else Allowed)
-
--- `--progress` says that progress is shown
-abbrev pub IsProgress : List Row → ProgressOption → Type 0
-IsProgress rows p = p ≡ (if is_given (codes "progress") rows then Shown else Silent)
+pub record IsPaths (rows : List Row) (p : Paths) : Type 0 where
+  pub from : Some p.from.now ≡ first_of (codes "IN") rows
+  pub to : Some p.to.now ≡ first_of (codes "OUT") rows
+  -- An existing OUT is refused; what is written may reach the disk later; and progress is shown.
+  pub clobber : p.clobber ≡ (if is_given (codes "no-clobber") rows then Refused else Allowed)
+  pub durability : p.durability ≡ (if is_given (codes "no-sync") rows then Buffered else Synced)
+  pub progress : p.progress ≡ (if is_given (codes "progress") rows then Shown else Silent)
 
 pub record IsEncrypting (rows : List Row) (e : Encrypting) : Type 0 where
   pub pass : Some e.pass.now ≡ first_of (codes "pass") rows
   pub log : IsNumber 18 (one_of (codes "log") rows) e.log
   pub random : option_text e.random ≡ first_of (codes "random") rows
-  pub durability : IsDurability rows e.durability
-  pub clobber : IsClobber rows e.clobber
-  pub progress : IsProgress rows e.progress
-  pub from : Some e.from.now ≡ first_of (codes "IN") rows
-  pub to : Some e.to.now ≡ first_of (codes "OUT") rows
+  pub paths : IsPaths rows e.paths
 
 pub record IsIdentityOptions (rows : List Row) (u : IdentityOptions) : Type 0 where
   pub pass : option_text u.pass ≡ first_of (codes "pass") rows
@@ -88,11 +78,7 @@ pub record IsIdentityOptions (rows : List Row) (u : IdentityOptions) : Type 0 wh
 pub record IsDecrypting (rows : List Row) (d : Decrypting) : Type 0 where
   pub identity : IsIdentityOptions rows d.identity
   pub save : option_text d.save ≡ first_of (codes "save") rows
-  pub durability : IsDurability rows d.durability
-  pub clobber : IsClobber rows d.clobber
-  pub progress : IsProgress rows d.progress
-  pub from : Some d.from.now ≡ first_of (codes "IN") rows
-  pub to : Some d.to.now ≡ first_of (codes "OUT") rows
+  pub paths : IsPaths rows d.paths
 
 pub record IsResuming (rows : List Row) (r : Resuming) : Type 0 where
   pub decrypting : IsDecrypting rows r.decrypting

@@ -9,6 +9,6 @@ mod request;
 
 pub use reading::read_request;
 pub use request::{
-    ClobberOption, Decrypting, Drilling, Encrypting, IdentityOptions, ProgressOption, Request,
-    Resuming,
+    ClobberOption, Decrypting, Drilling, Encrypting, IdentityOptions, Paths, ProgressOption,
+    Request, Resuming,
 };

@@ -1,23 +1,27 @@
 //! Reads what the arguments ask for.
 
-ghost use Rattle.std.specs.Prelude.{◌≡◌, ◌≤◌, ℕ, None, Some, IfNone, IfOk, IfSome};
+ghost use Rattle.std.specs.Prelude.{◌≡◌, ◌≤◌, ℕ, None, Some, IfNone, IfOk, IfSome, codes};
+ghost use Rattle.std.specs.Prelude.{if◌then◌else◌};
 ghost use Rattle.clap.specs.Words.{subcommand_rows_of, rows_of, found_of, one_of, first_of, FailsBy};
 ghost use Rattle.clap.specs.Walk.{texts};
-ghost use Rattle.age_cli_args.specs.{refusals, is_given, IsNumber, option_text, IsClobber, IsDurability};
-ghost use Rattle.age_cli_args.specs.{IsProgress, IsEncrypting, IsIdentityOptions, IsDecrypting, IsResuming};
-ghost use Rattle.age_cli_args.specs.{IsDrilling, IsRequest};
+ghost use Rattle.age_cli_args.specs.{refusals, is_given, IsNumber, option_text, IsPaths, IsEncrypting};
+ghost use Rattle.age_cli_args.specs.{IsIdentityOptions, IsDecrypting, IsResuming, IsDrilling, IsRequest};
 ghost use Rattle.age_cli_args.specs.Requests.{Requests};
 ghost use Rattle.age_cli_args.specs.declared.request.Encrypting.{Encrypting};
 ghost use Rattle.age_cli_args.specs.declared.request.IdentityOptions.{IdentityOptions};
 ghost use Rattle.age_cli_args.specs.declared.request.Decrypting.{Decrypting};
+ghost use Rattle.age_cli_args.specs.declared.request.Paths.{Paths};
 ghost use Rattle.age_cli_args.specs.declared.request.Resuming.{Resuming};
 ghost use Rattle.age_cli_args.specs.declared.request.Drilling.{Drilling};
 ghost use Rattle.age_cli_args.specs.declared.request.Request.{Request};
+ghost use Rattle.age_cli_args.specs.declared.request.ClobberOption.TheVariants.{Allowed, Refused};
+ghost use Rattle.age_cli_args.specs.declared.request.ProgressOption.TheVariants.{Shown, Silent};
+ghost use Rattle.age_io.specs.declared.durability.Durability.TheVariants.{Buffered, Synced};
 
 use crate::commands::matches_of;
 use crate::request::{
-    ClobberOption, Decrypting, Drilling, Encrypting, IdentityOptions, MOST_WORK, ProgressOption,
-    Request, Resuming,
+    ClobberOption, Decrypting, Drilling, Encrypting, IdentityOptions, MOST_WORK, Paths,
+    ProgressOption, Request, Resuming,
 };
 use age_io::Durability;
 use clap::{ArgMatches, Error};
@@ -66,7 +70,8 @@ fn flag(matches: &ArgMatches<'_>, id: &str) -> bool
 
 /// Whether what is written has to reach the disk before the program ends.
 fn durability(matches: &ArgMatches<'_>) -> Durability
-    ensures { IsDurability (rows_of (found_of matches.now)) result }
+    ensures { result ≡ (if is_given (codes "no-sync") (rows_of (found_of matches.now)) then Buffered
+        else Synced) }
 {
     if flag(matches, "no-sync") {
         Durability::Buffered
@@ -77,7 +82,8 @@ fn durability(matches: &ArgMatches<'_>) -> Durability
 
 /// What becomes of an existing OUT.
 fn clobber(matches: &ArgMatches<'_>) -> ClobberOption
-    ensures { IsClobber (rows_of (found_of matches.now)) result }
+    ensures { result ≡ (if is_given (codes "no-clobber") (rows_of (found_of matches.now)) then Refused
+        else Allowed) }
 {
     if flag(matches, "no-clobber") {
         ClobberOption::Refused
@@ -88,7 +94,8 @@ fn clobber(matches: &ArgMatches<'_>) -> ClobberOption
 
 /// Whether progress is shown.
 fn progress(matches: &ArgMatches<'_>) -> ProgressOption
-    ensures { IsProgress (rows_of (found_of matches.now)) result }
+    ensures { result ≡ (if is_given (codes "progress") (rows_of (found_of matches.now)) then Shown
+        else Silent) }
 {
     if flag(matches, "progress") {
         ProgressOption::Shown
@@ -106,6 +113,19 @@ fn command_of<'m, 'a>(matches: &'m ArgMatches<'a>) -> Option<(&'a str, &'m ArgMa
     matches.subcommand()
 }
 
+fn paths<'a>(matches: &ArgMatches<'a>) -> Option<Paths<'a>>
+    ensures some { IfSome result (IsPaths (rows_of (found_of matches.now))) }
+    ensures none { IfNone result ((x : Paths) → IsPaths (rows_of (found_of matches.now)) x → ⊥) }
+{
+    Some(Paths {
+        from: text(matches, "IN")?,
+        to: text(matches, "OUT")?,
+        clobber: clobber(matches),
+        durability: durability(matches),
+        progress: progress(matches),
+    })
+}
+
 fn encrypting<'a>(matches: &ArgMatches<'a>) -> Option<Encrypting<'a>>
     ensures some { IfSome result (IsEncrypting (rows_of (found_of matches.now))) }
     ensures none { IfNone result ((x : Encrypting) → IsEncrypting (rows_of (found_of matches.now)) x → ⊥) }
@@ -114,11 +134,7 @@ fn encrypting<'a>(matches: &ArgMatches<'a>) -> Option<Encrypting<'a>>
         pass: text(matches, "pass")?,
         log: number(matches, "log", 18)?,
         random: text(matches, "random"),
-        durability: durability(matches),
-        clobber: clobber(matches),
-        progress: progress(matches),
-        from: text(matches, "IN")?,
-        to: text(matches, "OUT")?,
+        paths: paths(matches)?,
     })
 }
 
@@ -142,11 +158,7 @@ fn decrypting<'a>(matches: &ArgMatches<'a>) -> Option<Decrypting<'a>>
     Some(Decrypting {
         identity: identity_options(matches)?,
         save: text(matches, "save"),
-        durability: durability(matches),
-        clobber: clobber(matches),
-        progress: progress(matches),
-        from: text(matches, "IN")?,
-        to: text(matches, "OUT")?,
+        paths: paths(matches)?,
     })
 }
 

@@ -23,6 +23,21 @@ pub enum ClobberOption {
     Refused,
 }
 
+/// The files of a command that writes one, and how it writes.
+#[derive(Clone, Copy)]
+pub struct Paths<'a> {
+    /// The path of what is read (IN).
+    pub from: &'a str,
+    /// The path of what is written (OUT).
+    pub to: &'a str,
+    /// What becomes of an existing OUT: it is refused, if `--no-clobber` is given.
+    pub clobber: ClobberOption,
+    /// When OUT and the saved position reach the disk: later, if `--no-sync` is given.
+    pub durability: Durability,
+    /// Whether progress is shown: if `--progress` is given.
+    pub progress: ProgressOption,
+}
+
 /// The arguments of `encrypt`.
 #[derive(Clone, Copy)]
 pub struct Encrypting<'a> {
@@ -33,16 +48,8 @@ pub struct Encrypting<'a> {
     pub log: u32,
     /// The path of the file of random bytes, if `--random` is given.
     pub random: Option<&'a str>,
-    /// When OUT reaches the disk: later, if `--no-sync` is given.
-    pub durability: Durability,
-    /// What becomes of an existing OUT: it is refused, if `--no-clobber` is given.
-    pub clobber: ClobberOption,
-    /// Whether progress is shown: if `--progress` is given.
-    pub progress: ProgressOption,
-    /// The path of the plaintext (IN).
-    pub from: &'a str,
-    /// The path of the age file (OUT).
-    pub to: &'a str,
+    /// The plaintext and the age file.
+    pub paths: Paths<'a>,
 }
 
 /// The options that say what opens a file. That exactly one of the first three is given isn't
@@ -66,16 +73,8 @@ pub struct Decrypting<'a> {
     pub identity: IdentityOptions<'a>,
     /// The path that a stop's position is saved to, if `--save` is given.
     pub save: Option<&'a str>,
-    /// When OUT and the saved position reach the disk: later, if `--no-sync` is given.
-    pub durability: Durability,
-    /// What becomes of an existing OUT: it is refused, if `--no-clobber` is given.
-    pub clobber: ClobberOption,
-    /// Whether progress is shown: if `--progress` is given.
-    pub progress: ProgressOption,
-    /// The path of the age file (IN).
-    pub from: &'a str,
-    /// The path of the plaintext (OUT).
-    pub to: &'a str,
+    /// The age file and the plaintext.
+    pub paths: Paths<'a>,
 }
 
 /// The arguments of `resume`: a decryption that continues at a position, after an earlier output.

@@ -1,6 +1,6 @@
 use age_cli::{MemFiles, run};
-use age_host::{LineStyle, ProgressLine};
 use age_io::{MemSink, MemSource, Meter};
+use age_messages::{LineStyle, ProgressLine};
 use std::alloc::Global;
 use std::cell::Cell;
 use std::io;

@@ -1,14 +1,16 @@
 -- What is read of the file of a choice is enough.
-use Rattle.std.proofs.Common.{◌≡◌, ◌<◌, ◌++◌, ℕ, List, length, Option, Some, None, arith, ap, [], inl, inr, Result, Ok, Err, IfOk, IfSome, IfNone}
+use Rattle.std.proofs.Common.{◌≡◌, ◌<◌, ◌++◌, ℕ, List, length, Option, Some, None, arith, ap, refl, [], inl, inr, Result, Ok, Err, IfOk, IfSome, IfNone}
 use Rattle.std.specs.Prelude.{◌-◌, ◌==◌, ◌&&◌, ◌+◌, ◌≤◌, nat_lt, take, slice_index, if◌then◌else◌, Bool, true, false}
 use Rattle.std.proofs.lemmas.List.{length-append, length-take}
 use Rattle.std.specs.Borrow.{Bor}
 use Rattle.std.specs.declared.vec.Vec.{Vec}
 use Rattle.clap.specs.Words.{Text}
+use Rattle.age_keys.specs.{IsAllowed, PassphraseIdentity}
 use Rattle.age_fileset.specs.{Outcome, HasGiven, HasGivenAll}
 use Rattle.age_fileset.specs.declared.files.OpenFault.{OpenFault}
 use Rattle.age_command.specs.{without_line_feed, IsEnough, Makes, file_of, file_bytes, Choice, PassphraseFile, SharedFile, Identity, ByPassphrase, ByFileKey}
-use Rattle.age_command.specs.{ByShared}
+use Rattle.age_command.specs.{ByShared, HoldsNoPassphrase, HoldsOnly, IsPassphraseIn}
+use Rattle.age_command.proofs.FileLemmas.{holds_as}
 
 abbrev got : Option (List ℕ) → List ℕ
 got (Some bytes) = bytes
@@ -57,3 +59,18 @@ module _ {Z : Type 0} (Came : Outcome → Type 0) (name : Text) (choice : Choice
   enough (Ok (Some v)) all more = rw named (λ none. (v.items, inl (all, none)))
   enough (Ok None) all more = rw named (λ none. (more.0, inr (more.1, λ rest i makes. long more.0 rest more.2 i makes)))
   enough (Err fault) all more = tt
+
+-- the property of a passphrase's file
+module _ (name : Bor Text) (log : ℕ) where
+  no_words : (held : Option (List ℕ)) → ((w : PassphraseIdentity) → IsPassphraseIn held w.pass → w.max_log ≡ log → IsAllowed w.pass w.max_log → ⊥)
+      → (i : Identity) → Makes (PassphraseFile name log) held i → ⊥
+  no_words held none (ByPassphrase words) makes = none words makes.0 makes.1 makes.2
+  no_words held none (ByFileKey key) makes = makes
+  no_words held none (ByShared s) makes = makes
+
+  so_words : (bytes : List ℕ) → ((i : Identity) → Makes (PassphraseFile name log) (Some bytes) i → ⊥) → HoldsNoPassphrase log bytes
+  so_words bytes none pass held allowed = none (ByPassphrase (record { pass = pass; max_log = log })) (held, refl, allowed)
+
+  pub pass_only : (Came : Outcome → Type 0) (held : Option (List ℕ)) → IsEnough Came (PassphraseFile name log) held
+      → ((w : PassphraseIdentity) → IsPassphraseIn held w.pass → w.max_log ≡ log → IsAllowed w.pass w.max_log → ⊥) → HoldsOnly Came name.now (HoldsNoPassphrase log)
+  pass_only Came held enough none = holds_as (λ o came. came) so_words (enough (no_words held none))

@@ -1,9 +1,11 @@
 -- What was read of a file, by the outcomes.
-use Rattle.std.proofs.Common.{◌≡◌, ◌∙◌, ◌++◌, ◌<◌, [], ◌∷◌, ap, ℕ, List, length, append_assoc, Option, Some, None, IfSome, IfNone}
+use Rattle.std.proofs.Common.{◌≡◌, ◌∙◌, ◌++◌, ◌<◌, [], ◌∷◌, ap, inl, inr, ℕ, List, length, append_assoc, Option, Some, None, IfSome, IfNone}
 use Rattle.std.specs.declared.vec.Vec.{Vec}
 use Rattle.age_io.specs.{SourceView, Consumes, IsAtEnd}
-use Rattle.age_fileset.specs.{FilesView, Found, Gave, reading_of, CameSince, HasGiven, HasGivenAll, with_outcomes}
-use Rattle.age_fileset.proofs.{all_since, gave_since, came_then, grows_so}
+use Rattle.clap.specs.Words.{Text}
+use Rattle.age_fileset.specs.{Does, Event, FilesView, Found, Gave, Outcome, Unread, reading_of, CameSince, HasGiven, HasGivenAll, with_outcomes}
+use Rattle.age_fileset.proofs.{all_as, all_since, gave_since, given_as, came_then, grows_by, grows_so, then_came}
+use Rattle.age_command.specs.{HoldsOnly, IsUnreadable}
 
 -- a file was found and read, and then its reading was over
 module _ (name : List ℕ) (old mid new : FilesView) (first last : SourceView) (size : Option ℕ) (unread : first.supply.given ≡ []) (found : CameSince old mid (Found name first.supply.left size))
@@ -36,3 +38,22 @@ module _ (name : List ℕ) (old mid new : FilesView) (first last : SourceView) (
       → IfNone o ((bytes : List ℕ) × HasGiven (CameSince old new) name bytes × (most < length bytes))
   long_if most (Some v) read = tt
   long_if most None read = (read.0, given_so read.0 read.1, read.2)
+
+-- ---- What came in a part of a command came in the whole.
+
+module _ {a : List Event} {old mid new : FilesView} where
+  pub did_came : Does a old mid → (o : Outcome) → CameSince mid new o → CameSince old new o
+  did_came did o came = then_came [] old mid new (grows_by a old mid did) o came
+
+  pub came_did : Does a mid new → (o : Outcome) → CameSince old mid o → CameSince old new o
+  came_did did o came = came_then [] old mid new (grows_by a mid new did) o came
+
+module _ {Came Later : Outcome → Type 0} (so : (o : Outcome) → Came o → Later o) where
+  pub unread_as : IsUnreadable Came → IsUnreadable Later
+  unread_as (inl (name, came)) = inl (name, so (Unread name) came)
+  unread_as (inr (r, gave, failing)) = inr (r, so (Gave r) gave, failing)
+
+  -- what a file holds, also in other words
+  pub holds_as : {name : Text} {P Q : List ℕ → Type 0} → ((bytes : List ℕ) → P bytes → Q bytes) → HoldsOnly Came name P → HoldsOnly Later name Q
+  holds_as {name = name} then (bytes, inl (all, p)) = (bytes, inl (all_as Came Later so name bytes all, then bytes p))
+  holds_as {name = name} then (bytes, inr (given, p)) = (bytes, inr (given_as Came Later so name bytes given, (λ rest. then _ (p rest))))

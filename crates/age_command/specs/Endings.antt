@@ -5,29 +5,19 @@ use Rattle.age_io.specs.Taken.{Taken, Appends}
 use Rattle.age_io.specs.{SinkView}
 use Rattle.age_fault.specs.{fault_number, name_of, fault_place, HasRisen}
 use Rattle.age_fault.specs.declared.fault.FileFault.{FileFault}
-use Rattle.age_fault.specs.declared.fault.FileFault.TheVariants.{Read, Write, Memory}
 use Rattle.age_fileset.specs.{Event}
 use Rattle.age_command.specs.declared.ending.Announcement.{Announcement}
 use Rattle.age_command.specs.declared.ending.Announcement.TheVariants.{Unmade, Made, Failed}
 use Rattle.age_command.specs.declared.ending.Ending.{Ending}
-use Rattle.age_command.specs.declared.ending.Ending.TheVariants.{Words, Usage, Fault, Unsaved}
+use Rattle.age_command.specs.declared.ending.Ending.TheVariants.{Fault, Unsaved}
 
 -- ---- How a run ends.
 
 -- the command line was refused
 abbrev pub is_usage : Ending → Bool
-is_usage (Words text) = true
-is_usage (Usage usage) = true
 is_usage (Fault fault) = false
 is_usage (Unsaved fault second) = false
-
--- how a command ends before its output is written: its arguments are refused, a file can't be read
--- or created, or memory is refused
-abbrev pub EndsEarly : Ending → Type 0
-EndsEarly (Fault fault) = (fault ≡ Read) ⊎ ((fault ≡ Write) ⊎ (fault ≡ Memory))
-EndsEarly (Usage usage) = Unit {0}
-EndsEarly (Words text) = Unit {0}
-EndsEarly (Unsaved fault second) = ⊥
+is_usage other = true
 
 -- the arguments are refused, and no file was opened or created
 abbrev pub RefusesAtOnce : {A : Type 0} → List Event → List Event → Result A Ending → Type 0
@@ -57,8 +47,7 @@ ReportsEnding (Fault fault) old new failed_old failed_new =
     TakesOrFails old new failed_old failed_new (fault_line fault)
 ReportsEnding (Unsaved fault second) old new failed_old failed_new =
     TakesOrFails old new failed_old failed_new (fault_line fault ++ fault_line second)
-ReportsEnding (Words text) old new failed_old failed_new = Unit {0}
-ReportsEnding (Usage usage) old new failed_old failed_new = Unit {0}
+ReportsEnding other old new failed_old failed_new = Unit {0}
 
 -- a sink took the line of a fault, and counted no failure
 abbrev pub TakesLine : FileFault → (old new : SinkView) → Type 0

@@ -5,10 +5,7 @@ use Rattle.std.specs.Prelude.{◌≤◌, List, ◌++◌, length, true}
 use Rattle.age_io.specs.Supply.{Supply}
 use Rattle.age_io.specs.{Consumes, IsAtEnd}
 use Rattle.clap.specs.Words.{Text}
-use Rattle.age_fault.specs.declared.fault.FileFault.TheVariants.{Read, Write}
-use Rattle.age_fileset.specs.{Outcome, Unread, Unwritten, Gave, Reading, HasGiven, HasGivenAll}
-use Rattle.age_command.specs.declared.ending.Ending.{Ending}
-use Rattle.age_command.specs.declared.ending.Ending.TheVariants.{Fault}
+use Rattle.age_fileset.specs.{Outcome, Unread, Gave, Reading, HasGiven, HasGivenAll}
 
 -- ---- The first bytes of a source, and what a file of one line holds.
 
@@ -30,12 +27,6 @@ without_line_feed xs =
 abbrev pub IsUnreadable : (Outcome → Type 0) → Type 0
 IsUnreadable Came = ((name : Text) × Came (Unread name))
     ⊎ ((reading : Reading) × Came (Gave reading) × (reading.failing ≡ true))
-
--- 26 and 27 have a reason
-abbrev pub HasReason : (Outcome → Type 0) → Ending → Type 0
-HasReason Came (Fault Read) = IsUnreadable Came
-HasReason Came (Fault Write) = (name : Text) × Came (Unwritten name)
-HasReason Came other = Unit {0}
 
 -- ---- What a file holds, by what it gave.
 

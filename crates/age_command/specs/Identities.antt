@@ -1,6 +1,7 @@
 -- What opens a file, by the options and by the files that they name.
 use Rattle.std.specs.Prelude.{◌≡◌, ℕ, List, ◌++◌, length, Option, Some, None, option_map, IfSome, IsSomeAnd}
 use Rattle.std.specs.Prelude.{◌⊎◌}
+use Rattle.std.specs.Option.{option_or}
 use Rattle.std.specs.declared.vec.Vec.{Vec}
 use Rattle.clap.specs.Words.{Text}
 use Rattle.age_stanza.specs.declared.header.Header.{Header}
@@ -44,6 +45,10 @@ steps_by (ByShared shared) = 0
 abbrev pub IsPassphraseIn : Option (List ℕ) → List ℕ → Type 0
 IsPassphraseIn held pass = (bytes : List ℕ) × (held ≡ Some bytes) × (pass ≡ without_line_feed bytes)
 
+-- these bytes hold none that may be used with this work factor
+abbrev pub HoldsNoPassphrase : ℕ → List ℕ → Type 0
+HoldsNoPassphrase log held = (pass : List ℕ) → IsPassphraseIn (Some held) pass → IsAllowed pass log → ⊥
+
 -- the shared secret in a file, followed by the recipient
 pub record IsSharedIn (held : Option (List ℕ)) (shared : Shared) : Type 0 where
   pub bytes : held ≡ Some (shared.secret ++ shared.recipient)
@@ -59,12 +64,8 @@ IsIdentity held None None (Some name) max_log (ByShared shared) = IsSharedIn hel
 IsIdentity held pass file_key shared max_log identity = ⊥
 
 -- the file of the passphrase or of the shared secret, if one is named
-abbrev pub either_name : Option Text → Option Text → Option Text
-either_name None other = other
-either_name (Some name) other = Some name
-
 abbrev pub identity_file : IdentityOptions → Option Text
-identity_file u = either_name (option_text u.pass) (option_text u.shared)
+identity_file u = option_or (option_text u.pass) (option_text u.shared)
 
 -- the options, and what the file holds that they name, make what opens the input
 abbrev pub MakesBy : Option (List ℕ) → IdentityOptions → Identity → Type 0

@@ -3,13 +3,13 @@ pub mod Files
 pub mod Identities
 pub mod Orders
 pub mod inner
-pub use Endings.{Announces, EndsEarly, RefusesAtOnce, ReportsEnding, ReportsRest, TakesLine, Tells}
+pub use Endings.{Announces, RefusesAtOnce, ReportsEnding, ReportsRest, TakesLine, Tells}
 pub use Endings.{fault_line, is_usage, place_text}
-pub use Files.{AreFirst, HasReason, HoldsOnly, IsUnreadable, without_line_feed}
-pub use Identities.{Chooses, IsEnough, IsIdentity, IsPassphraseIn, IsSecretGiven, IsSharedIn, Makes, MakesBy}
-pub use Identities.{MakesNone, allows_by, blame_by, either_name, file_bytes, file_of, identity_file}
+pub use Files.{AreFirst, HoldsOnly, IsUnreadable, without_line_feed}
+pub use Identities.{Chooses, HoldsNoPassphrase, IsEnough, IsIdentity, IsPassphraseIn, IsSecretGiven}
+pub use Identities.{IsSharedIn, Makes, MakesBy, MakesNone, allows_by, blame_by, file_bytes, file_of, identity_file}
 pub use Identities.{refuses_by}
-pub use Orders.{AreApart, Begins, Follows, IsOneOf, NamesTwice, Order, apart_from, creating, identity_order}
+pub use Orders.{AreApart, Follows, IsOneOf, NamesTwice, Order, creating, identity_order}
 pub use Orders.{making, opening_event, order_asked, preparing, random_name, replacing}
 pub use Rattle.age_command.specs.declared.choice.Choice.{Choice}
 pub use Rattle.age_command.specs.declared.choice.Choice.TheVariants.{PassphraseFile, SharedFile}

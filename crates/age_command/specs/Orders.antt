@@ -2,10 +2,11 @@
 use Rattle.std.specs.Prelude.{◌≡◌, List, [], ◌∷◌, ◌++◌, Option, Some, None, ◌⊎◌, codes}
 use Rattle.clap.specs.Words.{Text}
 use Rattle.age_io.specs.declared.durability.Durability.{Durability}
-use Rattle.age_fileset.specs.{Event, Opened, Prepared, Created, Made, Replaced, Closed, FilesView, Does}
+use Rattle.age_fileset.specs.{Event, Open, Prepare, Create, Make, Replace, Close}
 use Rattle.age_fileset.specs.{given_names}
 use Rattle.age_cli_args.specs.{option_text}
 use Rattle.age_cli_args.specs.declared.request.ClobberOption.{ClobberOption}
+use Rattle.age_cli_args.specs.declared.request.Paths.{Paths}
 use Rattle.age_cli_args.specs.declared.request.ClobberOption.TheVariants.{Allowed, Refused}
 use Rattle.age_cli_args.specs.declared.request.Request.{Request}
 use Rattle.age_cli_args.specs.declared.request.Request.TheVariants.{Inspect, Decrypt, Resume, Encrypt, Drill}
@@ -19,34 +20,26 @@ pub record Follows (order old new : List Event) : Type 0 where
   pub did : new ≡ old ++ done
   pub front : order ≡ done ++ rest
 
--- a beginning of this order was done, in which nothing was put, ended or saved
-pub record Begins (order : List Event) (old new : FilesView) : Type 0 where
-  pub done : List Event
-  pub rest : List Event
-  pub did : Does done old new
-  pub front : order ≡ done ++ rest
-
 -- a file is opened, if one is named; one is prepared to be replaced, though it may be in use under
 -- another name; one is created, or made if none may be there, and ended; one is replaced; and what was
 -- written reaches the disk then or later
 abbrev pub opening_event : Option Text → List Event
-opening_event (Some name) = Opened name ∷ []
+opening_event (Some name) = Open name ∷ []
 opening_event None = []
 
 abbrev pub preparing : Option Text → (spared : Option Text) → List Event
-preparing (Some name) spared = Prepared name spared ∷ []
+preparing (Some name) spared = Prepare name spared ∷ []
 preparing None spared = []
 
 abbrev pub creating : ClobberOption → Text → Event
-creating Allowed name = Created name
-creating Refused name = Made name
+creating Allowed name = Create name
+creating Refused name = Make name
 
-abbrev pub making : ClobberOption → Option Text → Durability → List Event
-making clobber (Some name) durability = creating clobber name ∷ Closed durability ∷ []
-making clobber None durability = []
+abbrev pub making : ClobberOption → Text → Durability → List Event
+making clobber name durability = creating clobber name ∷ Close durability ∷ []
 
 abbrev pub replacing : Option Text → Durability → List Event
-replacing (Some name) durability = Replaced name durability ∷ []
+replacing (Some name) durability = Replace name durability ∷ []
 replacing None durability = []
 
 -- what opens the input, if its file is named: of a passphrase or of a shared secret
@@ -60,21 +53,14 @@ abbrev pub IsOneOf : Text → List (Option Text) → Type 0
 IsOneOf name [] = ⊥
 IsOneOf name (other ∷ others) = (other ≡ Some name) ⊎ IsOneOf name others
 
--- a name that has to differ from others, if they are given
-pub record Apart : Type 0 where
-  pub name : Option Text
-  pub others : List (Option Text)
-
-abbrev pub apart_from : Option Text → List (Option Text) → Apart
-apart_from name others = record { name = name; others = others }
-
--- one of these says that two names have to differ
-abbrev pub AreApart : List Apart → Text → Text → Type 0
+-- two names have to differ by one of these, which are a name and others that it has to differ from, as
+-- far as they are given
+abbrev pub AreApart : List (Option Text × List (Option Text)) → Text → Text → Type 0
 AreApart [] one other = ⊥
-AreApart (a ∷ rest) one other = ((a.name ≡ Some one) × IsOneOf other a.others) ⊎ AreApart rest one other
+AreApart (a ∷ rest) one other = ((a.0 ≡ Some one) × IsOneOf other a.1) ⊎ AreApart rest one other
 
 -- and they are equal
-abbrev pub NamesTwice : List Apart → Type 0
+abbrev pub NamesTwice : List (Option Text × List (Option Text)) → Type 0
 NamesTwice apart = (name : Text) × AreApart apart name name
 
 -- ---- The order in which a command opens and makes the files that the arguments name, and which of
@@ -83,7 +69,7 @@ NamesTwice apart = (name : Text) × AreApart apart name name
 -- which names of a command have to differ, and what it opens, creates and replaces
 pub record Order : Type 0 where
   -- the names that have to differ
-  pub apart : List Apart
+  pub apart : List (Option Text × List (Option Text))
   -- the names of what is read, of which no two may be of one stream
   pub read : List Text
   -- what the command opens to judge its arguments
@@ -107,33 +93,34 @@ random_name (Some name) = name
 -- of the next position, the output; if it stops the next position, as far as these are named. The
 -- output is none of the files that are read, the next position replaces no file but the position,
 -- and the old text isn't the input.
-abbrev pub writing_order : Option Text → Option Text → Option Text → Option Text → Option Text
-    → ClobberOption → Option Text → Option Text → Durability → Order
-writing_order first second position old from clobber to save durability =
+abbrev pub writing_order : Option Text → Option Text → Option Text → Option Text → Option Text → Paths
+    → Order
+writing_order first second position old save p =
+    let from = Some p.from.now in
+    let to = Some p.to.now in
     let judged = opening_event first ++ opening_event second in
     let done = judged ++ ((opening_event position ++ (opening_event old ++ opening_event from))
-    ++ (preparing save position ++ making clobber to durability)) in
+    ++ (preparing save position ++ making p.clobber p.to.now p.durability)) in
     let read = from ∷ first ∷ second ∷ old ∷ [] in
     record {
-      apart = apart_from to (position ∷ read) ∷ apart_from save (to ∷ read)
-          ∷ apart_from old (from ∷ []) ∷ [];
+      apart = (to, position ∷ read) ∷ (save, to ∷ read) ∷ (old, from ∷ []) ∷ [];
       read = given_names (position ∷ old ∷ first ∷ second ∷ from ∷ []);
       judged = judged;
       done = done;
-      whole = done ++ replacing save durability;
+      whole = done ++ replacing save p.durability;
     }
 
 -- the order of what is asked
 abbrev pub order_asked : Request → Order
 order_asked (Inspect file) = reading_order (option_text file ∷ []) (opening_event (option_text file))
 order_asked (Encrypt e) = writing_order (Some e.pass.now) (Some (random_name (option_text e.random)))
-    None None (Some e.from.now) e.clobber (Some e.to.now) None e.durability
+    None None None e.paths
 order_asked (Decrypt d) = writing_order (option_text d.identity.pass) (option_text d.identity.shared)
-    None None (Some d.from.now) d.clobber (Some d.to.now) (option_text d.save) d.durability
+    None None (option_text d.save) d.paths
 order_asked (Resume r) =
     let d = r.decrypting in
     writing_order (option_text d.identity.pass) (option_text d.identity.shared) (Some r.position.now)
-    (Some r.old.now) (Some d.from.now) d.clobber (Some d.to.now) (option_text d.save) d.durability
+    (Some r.old.now) (option_text d.save) d.paths
 order_asked (Drill d) = reading_order (option_text d.pass ∷ Some d.script.now ∷ Some d.from.now ∷ [])
     (opening_event (option_text d.pass) ++ (opening_event (Some d.script.now)
     ++ opening_event (Some d.from.now)))

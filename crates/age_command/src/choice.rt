@@ -52,7 +52,7 @@ impl<'a> Choice<'a> {
 
     /// The bytes of the file, if one is named; `None` also if it is longer than a secret. At most
     /// one byte more is pulled.
-    pub fn read<F: FileSet>(
+    pub fn read<F: FileSet<'a>>(
         &self,
         alloc: Global,
         files: &mut F,
@@ -69,9 +69,9 @@ impl<'a> Choice<'a> {
             (CameSince (F.view files.old) (F.view files.new)) self.now (file_bytes o)) }
     {
         match self {
-            Choice::PassphraseFile(name, _) => read_file(alloc, files, name, PASSPHRASE_FILE_MAX),
+            Choice::PassphraseFile(name, _) => read_file(alloc, files, *name, PASSPHRASE_FILE_MAX),
             Choice::FileKey(_) => Ok(None),
-            Choice::SharedFile(name) => read_file(alloc, files, name, SHARED_FILE_LEN),
+            Choice::SharedFile(name) => read_file(alloc, files, *name, SHARED_FILE_LEN),
         }
     }
 

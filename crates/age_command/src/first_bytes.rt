@@ -2,7 +2,7 @@
 
 ghost use Rattle.std.specs.Prelude.{◌≡◌, ◌^◌, ◌<◌, ◌≤◌, [], ℕ, List, length, OnOk, IfOk, IfErr, IfSome};
 ghost use Rattle.std.specs.Prelude.{IfNone, ◌∷◌, true};
-ghost use Rattle.age_fileset.specs.{Opened, InUse, IsMemoryOr, OpenFails, Does, CameSince, HasGiven};
+ghost use Rattle.age_fileset.specs.{Open, InUse, IsMemoryOr, OpenFails, Does, CameSince, HasGiven};
 ghost use Rattle.age_fileset.specs.{HasGivenAll};
 ghost use Rattle.age_fileset.specs.declared.files.OpenFault.TheVariants.{SameFile, Fault};
 ghost use Rattle.age_fault.specs.declared.fault.FileFault.TheVariants.{Read};
@@ -109,14 +109,14 @@ pub fn read_up_to<S: Source>(
 
 /// All bytes of a file; `None` if it has more than `most`, which has to be below 2^32. At most one
 /// byte more is pulled. Then its reading is over.
-pub fn read_file<F: FileSet>(
+pub fn read_file<'w, F: FileSet<'w>>(
     alloc: Global,
     files: &mut F,
-    name: &str,
+    name: &'w str,
     most: usize,
 ) -> Result<Option<Vec<u8>>, OpenFault>
     requires { most < 2 ^ 32 }
-    ensures does { Does (Opened name.now ∷ []) (F.view files.old) (F.view files.new) }
+    ensures does { Does (Open name.now ∷ []) (F.view files.old) (F.view files.new) }
     ensures given { IfOk result (λ o. IfSome o (λ v.
         HasGivenAll (CameSince (F.view files.old) (F.view files.new)) name.now v.items)) }
     ensures long { IfOk result (λ o. IfNone o ((bytes : List ℕ)

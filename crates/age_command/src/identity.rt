@@ -1,18 +1,11 @@
 //! What opens a file, and what the files of secrets hold.
 
-ghost use Rattle.std.specs.Prelude.{◌≡◌, [], ◌∷◌, ℕ, List, IfOk, IfErr, IfSome, IfNone, Some};
-ghost use Rattle.age_fileset.specs.{Opened, Does, CameSince, HasGivenAll};
-ghost use Rattle.age_command.specs.declared.ending.Ending.TheVariants.{Usage as UsageEnding};
-ghost use Rattle.age_command.specs.declared.ending.Usage.TheVariants.{BadPassphraseFile};
-ghost use Rattle.age_keys.specs.{IsAllowed, Shared};
-ghost use Rattle.age_command.specs.Endings.{EndsEarly};
-ghost use Rattle.age_command.specs.Identities.{IsPassphraseIn, IsSharedIn};
-ghost use Rattle.age_command.specs.Files.{HoldsOnly, without_line_feed};
+ghost use Rattle.std.specs.Prelude.{◌≡◌, IfSome, IfNone, Some};
+ghost use Rattle.age_keys.specs.{Shared};
+ghost use Rattle.age_command.specs.Identities.{IsSharedIn};
+ghost use Rattle.age_command.specs.Files.{without_line_feed};
 
-use crate::first_bytes::read_file;
 use crate::secret::OwnPassphrase;
-use crate::{Ending, Usage};
-use age_fileset::FileSet;
 use age_keys::{FileKey, KeyFault, KnownKey, PASSPHRASE_LIMIT, SharedSecret, Steps, Unlock};
 use age_stanza::Header;
 use std::alloc::Global;
@@ -52,7 +45,7 @@ impl Unlock for Identity {
 }
 
 /// The bytes without one line feed at their end.
-pub fn trimmed(bytes: &[u8]) -> &[u8]
+pub(crate) fn trimmed(bytes: &[u8]) -> &[u8]
     ensures { result.now ≡ without_line_feed bytes.now }
 {
     let n = bytes.len();
@@ -68,26 +61,6 @@ pub(crate) const PASSPHRASE_FILE_MAX: usize = PASSPHRASE_LIMIT + 1;
 
 /// The length of a shared secret's file: the secret, and the recipient that it was made for.
 pub(crate) const SHARED_FILE_LEN: usize = 64;
-
-/// The bytes of a file that holds a passphrase.
-pub fn read_pass<F: FileSet>(alloc: Global, files: &mut F, name: &str) -> Result<Vec<u8>, Ending>
-    ensures does { Does (Opened name.now ∷ []) (F.view files.old) (F.view files.new) }
-    ensures early { IfErr result EndsEarly }
-    ensures read { IfOk result (λ v.
-        HasGivenAll (CameSince (F.view files.old) (F.view files.new)) name.now v.items) }
-    ensures refused { IfErr result (λ e. e ≡ UsageEnding BadPassphraseFile
-        → HoldsOnly (CameSince (F.view files.old) (F.view files.new)) name.now (λ bytes.
-        (pass : List ℕ) (log : ℕ) → IsPassphraseIn (Some bytes) pass → IsAllowed pass log → ⊥)) }
-{
-    let Some(bytes) = read_file(alloc, files, name, PASSPHRASE_FILE_MAX)? else {
-        return Err(Ending::Usage(Usage::BadPassphraseFile));
-    };
-    let pass = trimmed(bytes.as_slice());
-    if pass.is_empty() || pass.len() > PASSPHRASE_LIMIT {
-        return Err(Ending::Usage(Usage::BadPassphraseFile));
-    }
-    Ok(bytes)
-}
 
 /// The shared secret, and the recipient after it.
 pub(crate) fn shared_of(bytes: &[u8]) -> Option<SharedSecret>

@@ -1,6 +1,6 @@
 //! What the commands share: what opens a file (the passphrase, file key or shared secret that the
 //! options name), the first bytes of a source, and how a command ends, with the lines that report
-//! it. And the command that delivers a payload by a script.
+//! it.
 //!
 //! Its definitions say in which order a command opens, creates and replaces the files that its
 //! arguments name, why it may end before its output is written, which line reports each ending, and
@@ -8,21 +8,17 @@
 #![tactic(auto)]
 
 mod choice;
-mod drill;
 mod ending;
 mod first_bytes;
 mod identity;
 mod put;
-mod replaying;
 mod reporting;
-mod script;
 mod secret;
 
 pub use choice::{Choice, passphrase_in};
-pub use drill::drill_file;
 pub use ending::{Announcement, Ending, Usage};
 pub use first_bytes::{fill_first, read_file, read_first, read_up_to};
-pub use identity::{Identity, read_pass, trimmed};
+pub use identity::Identity;
 pub use put::put_bytes;
 pub use reporting::{announce, report_ending};
 pub use secret::OwnPassphrase;

@@ -39,7 +39,7 @@ impl Sink for FaultLine {
       taken = holds line.bytes.items;
       failed = line.failures.count;
       failing = line.failures.last;
-      settled = true;
+      flushed = true;
     } };
 
     fn put(&mut self, from: &[u8]) -> Result<usize, Failed> {

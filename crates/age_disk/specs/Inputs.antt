@@ -18,7 +18,7 @@ pub record InputView : Type 0 where
   pub id : Option FileId
 
 -- it was opened under this name, and nothing was read of it yet
-pub record IsUnread (name : List ℕ) (source : InputView) : Type 0 where
+pub record IsFresh (name : List ℕ) (source : InputView) : Type 0 where
   pub named : source.name ≡ name
   pub failed : source.failed ≡ 0
   pub failing : source.failing ≡ false

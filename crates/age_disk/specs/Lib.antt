@@ -1,10 +1,9 @@
 pub mod Inputs
 pub mod Laws
 pub mod Outputs
-pub mod Saving
 pub mod Targets
 pub mod inner
-pub use Inputs.{InputView, IsUnread, as_source}
+pub use Inputs.{InputView, IsFresh, as_source}
 unfoldable pub use Laws.*
 pub use Outputs.{HasAll, HasNode, IsApart, IsMadeAt, OutputView, as_sink, sink_of}
 unfoldable pub use Targets.*

@@ -2,7 +2,7 @@
 use Rattle.std.specs.Prelude.{◌≡◌, ◌≢◌, ◌<◌, ◌^◌, ℕ, List, [], Bool, true, false, Option, None, Some, IfSome}
 use Rattle.std.specs.Prelude.{Contains}
 use Rattle.age_io.specs.{SinkView}
-use Rattle.age_machine.specs.{number_of, OutFile}
+use Rattle.age_machine.specs.{number_of, EndedFile, IsThere, OutFile}
 use Rattle.age_machine.specs.declared.node.Node.{Node}
 use Rattle.age_disk.specs.declared.names.FileId.{FileId}
 use Rattle.age_disk.specs.declared.names.FileId.TheVariants.{File}
@@ -43,7 +43,7 @@ sink_of failed failing took = record {
   taken = record { bytes = took; contents = None; label = [] };
   failed = failed;
   failing = failing;
-  settled = true;
+  flushed = true;
 }
 
 -- the file as a sink
@@ -64,3 +64,7 @@ pub record IsMadeAt (path : List ℕ) (out : OutputView) : Type 0 where
   pub is : out.file ≡ Some file
   pub at : file.path ≡ path
   pub made : file.is_made ≡ true
+
+-- an output was closed that had taken just these bytes; it is there
+abbrev pub WritesDirectly : List ℕ → EndedFile → Type 0
+WritesDirectly bytes e = (e.took ≡ bytes) × (e.is_closed ≡ true) × IsThere e

@@ -1,5 +1,6 @@
 -- What is done to a file that is written. Private: no public contract cites this module.
 pub mod Devices
+pub mod Saving
 use Rattle.std.specs.Prelude.{◌≡◌, ℕ, List, [], ◌++◌, take, Bool, true, false, Option, Some, None, Result, Ok}
 use Rattle.std.specs.Prelude.{Err}
 use Rattle.age_io.specs.Supply.{Supply}

@@ -1,14 +1,17 @@
 //! A file of the machine that is read.
 
-ghost use Rattle.std.specs.Prelude.{◌≡◌, ◌≤◌, IfOk, OnErr, false};
+ghost use Rattle.std.specs.Prelude.{◌≡◌, ◌≤◌, [], ◌∷◌, ◌++◌, IfOk, OnErr, false};
 ghost use Rattle.std.specs.Io.{ReadsAtMost};
 ghost use Rattle.age_io.specs.{IsNamed, ReadConsumes};
-ghost use Rattle.age_disk.specs.{IsUnread, as_source};
+ghost use Rattle.age_fileset.specs.{Gave, reading_of};
+ghost use Rattle.age_disk.specs.{IsFresh, as_source};
 ghost use Rattle.age_disk.specs.inner.{supply_of};
 
-use crate::names::{FileId, Led, Resolved, Stream, is_on_disk, is_random};
+use crate::names::{FileId, Led, Resolved, StandardStream, is_on_disk, is_random, tape_of};
+use age_fileset::{Doing, Log};
 use age_io::{Failed, Failures, Source, Tape};
 use age_machine::{TRIES, above_streams, is_to_retry, too_many_tries};
+use age_messages::{Action, RunFailures};
 use std::alloc::Global;
 use std::fs::{File, Metadata};
 use std::io::{self, Read, Seek, SeekFrom};
@@ -19,9 +22,9 @@ use std::rt::{HostRuntime, Stdin};
 /// two runs would take the same keys from it.
 const RANDOM: &str = "/dev/urandom";
 
-/// Where its bytes come from.
+/// What its bytes are read from.
 #[derive(Drop)]
-enum Origin {
+enum Handle {
     /// A file that was opened.
     File(File),
     /// Standard input, from where it stands.
@@ -30,7 +33,7 @@ enum Origin {
     Nothing,
 }
 
-impl Origin {
+impl Handle {
     /// Reads, and tries again if the machine says to.
     fn read(
         &mut self,
@@ -65,9 +68,9 @@ impl Origin {
         ensures err { OnErr result ((given.new ≡ given.old) × (is_at_end.new ≡ is_at_end.old)) }
     {
         let n = match self {
-            Origin::File(file) => file.read(into)?,
-            Origin::Input(input) => input.read(into)?,
-            Origin::Nothing => 0,
+            Handle::File(file) => file.read(into)?,
+            Handle::Input(input) => input.read(into)?,
+            Handle::Nothing => 0,
         };
         given.note(&into[..n]);
         *is_at_end = *is_at_end || (n == 0 && !into.is_empty());
@@ -80,7 +83,7 @@ impl Origin {
         ensures { result ≤ most }
     {
         match self {
-            Origin::File(file) => skip_in(file, most).unwrap_or(0),
+            Handle::File(file) => skip_in(file, most).unwrap_or(0),
             _ => 0,
         }
     }
@@ -121,34 +124,32 @@ fn length_of(metadata: &Metadata) -> Option<u64> {
     }
 }
 
-/// A file of the machine that is read, or standard input. A contract sees the bytes that it gave or
-/// passed over, and whether a pull found the end; none that are to come; how many pulls have failed,
-/// and whether the last one did; and which file it is.
+/// A file of the machine that is read, or standard input, under the name that the command line has
+/// for it. A contract sees the bytes that it gave or passed over, and whether a pull found the end;
+/// none that are to come; how many pulls have failed, and whether the last one did; and which file
+/// it is. What it gave and why it failed is kept for what people are told.
 #[derive(Drop)]
-pub struct HostIn {
+pub struct HostIn<'r, 'w> {
     rt: HostRuntime,
-    name: Tape,
-    origin: Origin,
+    name: &'w str,
+    handle: Handle,
     // How many bytes are still to come of a regular file.
     left: Option<u64>,
-    // It ended before that, and is shorter now than it was.
-    is_cut_off: bool,
     failures: Failures,
-    // What the machine answered to the last pull that failed.
-    error: io::Error,
     given: Tape,
     is_at_end: bool,
     // Which file it is, if that is known.
     id: Option<FileId>,
+    told: &'r RunFailures<'w>,
 }
 
-impl Model for HostIn {
+impl<'r, 'w> Model for HostIn<'r, 'w> {
     ghost use Rattle.age_disk.specs.{InputView};
 
     ghost Value = { InputView };
 
     ghost view = { λ s. record {
-      name = s.name;
+      name = s.name.now;
       failed = s.failures.count;
       failing = s.failures.last;
       given = s.given;
@@ -158,25 +159,35 @@ impl Model for HostIn {
     } };
 }
 
-impl HostIn {
+impl<'r, 'w> HostIn<'r, 'w> {
     /// Opens what a name stands for. Standard output, standard error and folders can't be read.
-    pub fn open(alloc: Global, rt: &HostRuntime, name: &str) -> io::Result<HostIn>
-        ensures { IfOk result (IsUnread name.now) }
+    pub fn open(
+        alloc: Global,
+        rt: &HostRuntime,
+        name: &'w str,
+        told: &'r RunFailures<'w>,
+    ) -> io::Result<HostIn<'r, 'w>>
+        ensures { IfOk result (IsFresh name.now) }
     {
         let Led { name, to } = Led::of(alloc, rt, name)?;
         match to {
-            Resolved::Stream(stream) => HostIn::open_stream(rt, name.as_str(), stream),
-            Resolved::Path(_) => HostIn::open_path(rt, name.as_str()),
+            Resolved::Stream(stream) => HostIn::open_stream(rt, name, stream, told),
+            Resolved::Path(_) => HostIn::open_path(rt, name, told),
         }
     }
 
     /// Like `open`, but a missing file counts as empty.
-    pub fn open_or_empty(alloc: Global, rt: &HostRuntime, name: &str) -> io::Result<HostIn>
-        ensures { IfOk result (IsUnread name.now) }
+    pub fn open_or_empty(
+        alloc: Global,
+        rt: &HostRuntime,
+        name: &'w str,
+        told: &'r RunFailures<'w>,
+    ) -> io::Result<HostIn<'r, 'w>>
+        ensures { IfOk result (IsFresh name.now) }
     {
-        match HostIn::open(alloc, rt, name) {
+        match HostIn::open(alloc, rt, name, told) {
             Err(error) if error.kind() == io::ErrorKind::NotFound => {
-                Ok(HostIn::new(rt, name, Origin::Nothing, Some(0), None))
+                Ok(HostIn::new(rt, name, Handle::Nothing, Some(0), None, told))
             }
             opened => opened,
         }
@@ -184,27 +195,25 @@ impl HostIn {
 
     fn new(
         rt: &HostRuntime,
-        name: &str,
-        origin: Origin,
+        name: &'w str,
+        handle: Handle,
         left: Option<u64>,
         id: Option<FileId>,
-    ) -> HostIn
-        ensures unread { IsUnread name.now result }
+        told: &'r RunFailures<'w>,
+    ) -> HostIn<'r, 'w>
+        ensures fresh { IsFresh name.now result }
         ensures same { result.id ≡ id }
     {
-        let mut own = Tape::new();
-        own.note(name.as_bytes());
         HostIn {
             rt: *rt,
-            name: own,
-            origin,
+            name,
+            handle,
             left,
-            is_cut_off: false,
             failures: Failures::none(),
-            error: io::Error::from(io::ErrorKind::Other),
             given: Tape::new(),
             is_at_end: false,
             id,
+            told,
         }
     }
 
@@ -215,39 +224,6 @@ impl HostIn {
         self.id
     }
 
-    /// The name under which it was opened, as bytes.
-    pub fn name(&self) -> &Tape
-        ensures { result.now ≡ self.now.name }
-    {
-        &self.name
-    }
-
-    /// What it gave or passed over since it was opened.
-    pub fn given(&self) -> &Tape
-        ensures { result.now ≡ self.now.given }
-    {
-        &self.given
-    }
-
-    /// Whether a pull found that no bytes are left.
-    pub fn is_at_end(&self) -> bool
-        ensures { result ≡ self.now.is_at_end }
-    {
-        self.is_at_end
-    }
-
-    /// Whether the last pull failed.
-    pub fn is_failing(&self) -> bool
-        ensures { result ≡ self.now.failing }
-    {
-        self.failures.last
-    }
-
-    /// What the machine answered to the last pull that failed.
-    pub fn error(&self) -> io::Error {
-        self.error
-    }
-
     /// How many bytes a regular file still has to give, by its length as it was opened.
     pub fn length(&self) -> Option<u64>
         ensures { result ≡ self.now.size }
@@ -255,37 +231,58 @@ impl HostIn {
         self.left
     }
 
-    /// Whether it is a regular file that became shorter while it was read, and ended there.
-    pub fn is_cut_off(&self) -> bool {
-        self.is_cut_off
+    /// Notes that its reading is over.
+    pub(crate) fn log_to(&self, log: &mut Log)
+        ensures { log.new ≡ record log.old {
+          outcomes = log.old.outcomes
+              ++ Gave (reading_of self.now.name (as_source self.now)) ∷ [];
+        } }
+    {
+        let (name, is_failing) = (tape_of(self.name.as_bytes()), self.failures.last);
+        log.note(Doing::Gave(&name, &self.given, self.is_at_end, is_failing));
     }
 
-    /// Notes that it gave no more bytes. Files that the system makes up may end before the length
-    /// that they have.
-    fn note_end(&mut self)
-        ensures { self.new ≡ self.old }
+    /// Keeps what a pull gave: how much is left, and that the file was cut off, if it is shorter now
+    /// than it was. Files that the system makes up may end before the length that they have.
+    fn note_pulled(&mut self, pulled: &[u8])
+        ensures { self.new ≡ record self.old { size = self.new.size } }
     {
-        if let (Origin::File(file), Some(left)) = (&mut self.origin, self.left)
-            && left > 0
+        self.told.count(self.name, pulled);
+        let Some(left) = &mut self.left else {
+            return;
+        };
+        *left = left.saturating_sub(pulled.len() as u64);
+        if let Handle::File(file) = &mut self.handle
+            && pulled.is_empty()
+            && *left > 0
             && is_at_end(file)
         {
-            self.is_cut_off = true;
+            self.told.cut_off.set(Some(self.name));
         }
     }
 
-    fn open_stream(rt: &HostRuntime, name: &str, stream: Stream) -> io::Result<HostIn>
-        ensures { IfOk result (IsUnread name.now) }
+    fn open_stream(
+        rt: &HostRuntime,
+        name: &'w str,
+        stream: StandardStream,
+        told: &'r RunFailures<'w>,
+    ) -> io::Result<HostIn<'r, 'w>>
+        ensures { IfOk result (IsFresh name.now) }
     {
-        let Stream::Input = stream else {
+        let StandardStream::Input = stream else {
             return Err(io::Error::from(io::ErrorKind::Unsupported));
         };
         stream.check(rt)?;
         let id = FileId::of_open_stream(rt, stream)?;
-        Ok(HostIn::new(rt, name, Origin::Input(rt.stdin()), None, id))
+        Ok(HostIn::new(rt, name, Handle::Input(rt.stdin()), None, id, told))
     }
 
-    fn open_path(rt: &HostRuntime, name: &str) -> io::Result<HostIn>
-        ensures { IfOk result (IsUnread name.now) }
+    fn open_path(
+        rt: &HostRuntime,
+        name: &'w str,
+        told: &'r RunFailures<'w>,
+    ) -> io::Result<HostIn<'r, 'w>>
+        ensures { IfOk result (IsFresh name.now) }
     {
         let file = above_streams(File::open(rt, name)?)?;
         let metadata = file.metadata()?;
@@ -296,7 +293,7 @@ impl HostIn {
             return Err(io::Error::other("it isn't the system's random device"));
         }
         let (left, id) = (length_of(&metadata), FileId::of(&metadata));
-        Ok(HostIn::new(rt, name, Origin::File(file), left, id))
+        Ok(HostIn::new(rt, name, Handle::File(file), left, id, told))
     }
 
     fn read(&mut self, into: &mut [u8]) -> io::Result<usize>
@@ -307,12 +304,12 @@ impl HostIn {
             × (self.new.failing ≡ self.old.failing) }
         ensures same { self.new.name ≡ self.old.name }
     {
-        self.origin
+        self.handle
             .read(&self.rt, into, &mut self.given, &mut self.is_at_end)
     }
 }
 
-impl Source for HostIn {
+impl<'r, 'w> Source for HostIn<'r, 'w> {
     ghost view = { as_source };
 
     ghost began = { λ s. IsNamed s.name };
@@ -320,16 +317,11 @@ impl Source for HostIn {
     fn pull(&mut self, into: &mut [u8]) -> Result<usize, Failed> {
         let pulled = match self.read(into) {
             Ok(n) => {
-                if let Some(left) = &mut self.left {
-                    *left = left.saturating_sub(n as u64);
-                }
-                if n == 0 && !into.is_empty() {
-                    self.note_end();
-                }
+                self.note_pulled(&into[..n]);
                 Ok(n)
             }
             Err(error) => {
-                self.error = error;
+                self.told.note(Action::Read, self.name, error);
                 Err(Failed)
             }
         };
@@ -337,7 +329,7 @@ impl Source for HostIn {
     }
 
     fn skip(&mut self, most: u64) -> u64 {
-        let n = self.origin.skip(most);
+        let n = self.handle.skip(most);
         self.given.note_unread(n);
         if let Some(left) = &mut self.left {
             *left = left.saturating_sub(n);

@@ -1,9 +1,15 @@
-//! Single files of the machine: what a name stands for, what is locked, read, written and synced, and
-//! what is to be replaced later.
+//! The set of the machine's files: what a name stands for, which files are in use, what is locked, read,
+//! written and synced, and what is to be replaced later.
+//!
+//! Contracts see which files were opened, created, replaced and ended, what was read of them and what
+//! was put, and nothing else that they hold. What the machine answered is noted for `RunFailures`, of an
+//! output as it is ended.
 #![tactic(auto)]
 
 mod beside;
 mod device;
+mod files;
+mod in_use;
 mod input;
 mod laws;
 mod names;
@@ -13,11 +19,10 @@ mod prepare;
 mod saving;
 mod sync;
 mod target;
+mod watched;
 
-pub use age_machine::{Node, found_at};
+pub use files::HostFiles;
 pub use input::HostIn;
 pub use laws::no_input_is_changed;
-pub use names::{FileId, Resolved, Stream, StreamId};
-pub use output::{Ended, HostOut};
-pub use prepare::Prepared;
-pub use saving::{Placed, Saved, replace};
+pub use output::HostOut;
+pub use watched::Watched;

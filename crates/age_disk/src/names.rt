@@ -1,8 +1,9 @@
 //! What the machine's names stand for: an inherited stream, or a file, whatever links lead to it.
 
-ghost use Rattle.std.specs.Prelude.{◌≡◌, ◌<◌, ◌^◌, IfOk, string_bytes};
+ghost use Rattle.std.specs.Prelude.{◌≡◌, ◌<◌, ◌^◌, IfOk};
 ghost use Rattle.age_disk.specs.declared.names.FileId.TheVariants.{File};
 
+use age_io::Tape;
 use age_machine::Node;
 use std::alloc::Global;
 use std::fs::{self, Metadata};
@@ -14,7 +15,7 @@ use std::rt::HostRuntime;
 
 /// A stream that the program was started with.
 #[derive(Clone, Copy)]
-pub enum Stream {
+pub enum StandardStream {
     /// Standard input.
     Input,
     /// Standard output.
@@ -23,13 +24,13 @@ pub enum Stream {
     Faults,
 }
 
-impl Stream {
+impl StandardStream {
     /// The stream of this name.
-    fn named(name: &str) -> Option<Stream> {
+    fn named(name: &str) -> Option<StandardStream> {
         match name {
-            "/dev/stdin" | "/dev/fd/0" | "/proc/self/fd/0" => Some(Stream::Input),
-            "/dev/stdout" | "/dev/fd/1" | "/proc/self/fd/1" => Some(Stream::Output),
-            "/dev/stderr" | "/dev/fd/2" | "/proc/self/fd/2" => Some(Stream::Faults),
+            "/dev/stdin" | "/dev/fd/0" | "/proc/self/fd/0" => Some(StandardStream::Input),
+            "/dev/stdout" | "/dev/fd/1" | "/proc/self/fd/1" => Some(StandardStream::Output),
+            "/dev/stderr" | "/dev/fd/2" | "/proc/self/fd/2" => Some(StandardStream::Faults),
             _ => None,
         }
     }
@@ -37,18 +38,18 @@ impl Stream {
     /// The path at which the system shows what the stream is connected to.
     pub fn path(self) -> &'static str {
         match self {
-            Stream::Input => "/proc/self/fd/0",
-            Stream::Output => "/proc/self/fd/1",
-            Stream::Faults => "/proc/self/fd/2",
+            StandardStream::Input => "/proc/self/fd/0",
+            StandardStream::Output => "/proc/self/fd/1",
+            StandardStream::Faults => "/proc/self/fd/2",
         }
     }
 
     /// A second descriptor of it. Fails if the program was started without this stream.
     pub(crate) fn copy(self, rt: &HostRuntime) -> io::Result<OwnedFd> {
         match self {
-            Stream::Input => rt.stdin().as_fd().try_clone_to_owned(),
-            Stream::Output => rt.stdout().as_fd().try_clone_to_owned(),
-            Stream::Faults => rt.stderr().as_fd().try_clone_to_owned(),
+            StandardStream::Input => rt.stdin().as_fd().try_clone_to_owned(),
+            StandardStream::Output => rt.stdout().as_fd().try_clone_to_owned(),
+            StandardStream::Faults => rt.stderr().as_fd().try_clone_to_owned(),
         }
     }
 
@@ -74,27 +75,25 @@ impl Stream {
 #[derive(Drop)]
 pub enum Resolved {
     /// A stream that the program was started with.
-    Stream(Stream),
+    Stream(StandardStream),
     /// A path that is no link; whether there is a file is another matter.
     Path(PathBuf),
 }
 
 /// A name, and what it stands for.
 #[derive(Drop)]
-pub(crate) struct Led {
-    pub(crate) name: String,
+pub(crate) struct Led<'w> {
+    pub(crate) name: &'w str,
     pub(crate) to: Resolved,
 }
 
-impl Led {
+impl<'w> Led<'w> {
     /// What a name stands for, noted with it: where that is, no proof sees.
-    pub(crate) fn of(alloc: Global, rt: &HostRuntime, name: &str) -> io::Result<Led>
-        ensures { IfOk result (λ l. string_bytes l.name ≡ name.now) }
+    pub(crate) fn of(alloc: Global, rt: &HostRuntime, name: &'w str) -> io::Result<Led<'w>>
+        ensures { IfOk result (λ l. l.name.now ≡ name.now) }
     {
-        Ok(Led {
-            name: String::from_str(alloc, name)?,
-            to: resolve(alloc, rt, name)?,
-        })
+        let to = resolve(alloc, rt, name)?;
+        Ok(Led { name, to })
     }
 }
 
@@ -105,7 +104,7 @@ const LINKS_MAX: usize = 40;
 pub fn resolve(alloc: Global, rt: &HostRuntime, name: &str) -> io::Result<Resolved> {
     let mut path = PathBuf::from_str(alloc, name)?;
     for _ in 0..=LINKS_MAX {
-        if let Some(stream) = Stream::named(path.as_str()) {
+        if let Some(stream) = StandardStream::named(path.as_str()) {
             return Ok(Resolved::Stream(stream));
         }
         match target_of(alloc, rt, &path)? {
@@ -166,7 +165,7 @@ impl FileId {
 
     /// The id of the file to which a stream leads that is open. Fails if the system doesn't show
     /// that, as when there is no /proc: what is read could be overwritten.
-    pub fn of_open_stream(rt: &HostRuntime, stream: Stream) -> io::Result<Option<FileId>> {
+    pub fn of_open_stream(rt: &HostRuntime, stream: StandardStream) -> io::Result<Option<FileId>> {
         match fs::metadata(rt, stream.path()) {
             Ok(metadata) => Ok(FileId::of(&metadata)),
             Err(error) if error.kind() == io::ErrorKind::NotFound => {
@@ -177,7 +176,7 @@ impl FileId {
     }
 
     /// The id of the file to which a stream leads, if that is known.
-    pub fn of_stream(rt: &HostRuntime, stream: Stream) -> Option<FileId> {
+    pub fn of_stream(rt: &HostRuntime, stream: StandardStream) -> Option<FileId> {
         FileId::at(rt, stream.path())
     }
 }
@@ -202,7 +201,7 @@ impl StreamId {
     pub fn at(alloc: Global, rt: &HostRuntime, name: &str) -> io::Result<Option<StreamId>> {
         match resolve(alloc, rt, name) {
             Ok(Resolved::Path(_)) => Ok(StreamId::found(rt, name)),
-            Ok(Resolved::Stream(Stream::Input)) => Ok(Some(StreamId::of_input(rt))),
+            Ok(Resolved::Stream(StandardStream::Input)) => Ok(Some(StreamId::of_input(rt))),
             Err(error) if error.kind() == io::ErrorKind::OutOfMemory => Err(error),
             _ => Ok(None),
         }
@@ -210,7 +209,7 @@ impl StreamId {
 
     /// The stream that standard input is.
     fn of_input(rt: &HostRuntime) -> StreamId {
-        match StreamId::found(rt, Stream::Input.path()) {
+        match StreamId::found(rt, StandardStream::Input.path()) {
             Some(id) => id,
             None => StreamId::Input,
         }
@@ -266,4 +265,13 @@ pub(crate) fn is_handed_on(metadata: &Metadata) -> bool {
 /// Whether a file is the machine's generator of random bytes.
 pub fn is_random(metadata: &Metadata) -> bool {
     metadata.file_type().is_char_device() && matches!(metadata.rdev(), 0x108 | 0x109)
+}
+
+/// These bytes, for contracts alone.
+pub(crate) fn tape_of(bytes: &[u8]) -> Tape
+    ensures { result ≡ bytes.now }
+{
+    let mut tape = Tape::new();
+    tape.note(bytes);
+    tape
 }

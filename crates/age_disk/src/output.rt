@@ -13,7 +13,8 @@ ghost use Rattle.age_disk.specs.Targets.{regular_of, IsTaking, IsPaced};
 ghost use Rattle.age_disk.specs.inner.{opening_calls, part_of, TargetPuts};
 
 use crate::device::Device;
-use crate::names::{FileId, Led, Resolved, Stream};
+use crate::in_use::is_for_faults;
+use crate::names::{FileId, Led, Resolved, StandardStream, tape_of};
 use crate::sync::{Witness, close_stream};
 use crate::target::Target;
 use age_io::{Durability, Failed, Failures, Sink, Tape};
@@ -185,10 +186,8 @@ impl Which {
     fn of(out: &Out<HostMachine>) -> Which
         ensures { result ≡ out.now.file }
     {
-        let mut path = Tape::new();
-        path.note(out.path().as_bytes());
         Which {
-            path,
+            path: tape_of(out.path().as_bytes()),
             node: out.file().node(),
             is_made: out.is_made(),
         }
@@ -197,7 +196,7 @@ impl Which {
 
 /// What was done to a file that was ended, for contracts alone.
 #[derive(Drop)]
-pub struct Ended {
+pub struct HostEnded {
     took: Tape,
     // It was closed with what was written, and not discarded.
     is_closed: bool,
@@ -205,7 +204,7 @@ pub struct Ended {
     machine: HostMachine,
 }
 
-impl Model for Ended {
+impl Model for HostEnded {
     ghost use Rattle.age_machine.specs.{EndedFile};
 
     ghost Value = { EndedFile };
@@ -219,7 +218,7 @@ impl Model for Ended {
     } };
 }
 
-impl Ended {
+impl HostEnded {
     /// The bytes that its sink took, for contracts alone.
     pub fn took(&self) -> &Tape
         ensures { result.now ≡ self.now.took }
@@ -287,7 +286,7 @@ fn is_wait_due(taken: u64, settled: u64) -> bool {
 }
 
 /// What was done to a device or a stream: no call is noted but the one that opened it.
-fn unseen(rt: &HostRuntime, target: &Target, took: Tape, is_closed: bool) -> Ended
+fn unseen(rt: &HostRuntime, target: &Target, took: Tape, is_closed: bool) -> HostEnded
     requires { regular_of target.now ≡ None }
     ensures is { result ≡ record {
       took = took;
@@ -302,7 +301,7 @@ fn unseen(rt: &HostRuntime, target: &Target, took: Tape, is_closed: bool) -> End
         Target::Device(device) => device.machine.again(),
         _ => HostMachine::new(rt),
     };
-    Ended {
+    HostEnded {
         took,
         is_closed,
         which: None,
@@ -316,14 +315,14 @@ fn end_file(
     took: Tape,
     failures: Failures,
     durability: Durability,
-) -> (Ended, io::Result<()>)
+) -> (HostEnded, io::Result<()>)
     requires { IsTaking (Some out) failures.count took }
     ensures { Closes durability (Some out.file) (sink_of failures.count failures.last took) result.1
         result.0 }
 {
     let which = Some(Which::of(&out));
     let age_machine::Ended { end, machine, .. } = out.end(durability);
-    let ended = Ended {
+    let ended = HostEnded {
         took,
         is_closed: true,
         which,
@@ -338,13 +337,13 @@ fn discard_file(
     took: Tape,
     failures: Failures,
     durability: Durability,
-) -> Ended
+) -> HostEnded
     requires { IsTaking (Some out) failures.count took }
     ensures { Discards (Some out.file) (sink_of failures.count failures.last took) result }
 {
     let which = Some(Which::of(&out));
     let machine = out.discard(durability);
-    Ended {
+    HostEnded {
         took,
         is_closed: false,
         which,
@@ -358,9 +357,9 @@ fn close_untouched(
     took: Tape,
     failures: Failures,
     durability: Durability,
-) -> (Ended, io::Result<()>)
+) -> (HostEnded, io::Result<()>)
     requires taking { IsTaking (Some out) failures.count took }
-    requires failed { 0 < failures.count }
+    requires failed { (0 < failures.count) × (took ≡ []) }
     ensures { Closes durability (Some out.file) (sink_of failures.count failures.last took) result.1
         result.0 }
 {
@@ -383,8 +382,8 @@ fn end_stream(
     let closed = match target {
         Target::File(_) => Ok(()),
         Target::Device(Device { file, .. }) => close(rt, file.into_file()),
-        Target::Output(..) => close_stream(rt, Stream::Output),
-        Target::Faults(..) => close_stream(rt, Stream::Faults),
+        Target::Output(..) => close_stream(rt, StandardStream::Output),
+        Target::Faults(..) => close_stream(rt, StandardStream::Faults),
     };
     reached?;
     closed
@@ -437,6 +436,7 @@ impl HostOut {
         ensures named { IfOk result (λ o. o.name ≡ name.now) }
     {
         let Led { name, to } = Led::of(alloc, rt, name)?;
+        let name = String::from_str(alloc, name)?;
         let mut out = match to {
             Resolved::Path(path) => HostOut::open_at(alloc, rt, name, path.as_str())?,
             Resolved::Stream(stream) => HostOut::of_stream(rt, name, stream)?,
@@ -541,15 +541,15 @@ impl HostOut {
     }
 
     /// A stream of this name that can be written, from where it stands.
-    pub fn of_stream(rt: &HostRuntime, name: String, stream: Stream) -> io::Result<HostOut>
+    pub fn of_stream(rt: &HostRuntime, name: String, stream: StandardStream) -> io::Result<HostOut>
         ensures fresh { IfOk result IsNew }
         ensures named { IfOk result (λ o. o.name ≡ string_bytes name) }
     {
         stream.check(rt)?;
         let target = match stream {
-            Stream::Input => return Err(io::Error::from(io::ErrorKind::Unsupported)),
-            Stream::Output => Target::Output(rt.stdout(), Witness::of(rt, stream)),
-            Stream::Faults => Target::Faults(rt.stderr(), Witness::of(rt, stream)),
+            StandardStream::Input => return Err(io::Error::from(io::ErrorKind::Unsupported)),
+            StandardStream::Output => Target::Output(rt.stdout(), Witness::of(rt, stream)),
+            StandardStream::Faults => Target::Faults(rt.stderr(), Witness::of(rt, stream)),
         };
         let id = FileId::of_open_stream(rt, stream)?;
         Ok(HostOut::new(rt, name, target, id))
@@ -591,7 +591,7 @@ impl HostOut {
     pub fn is_for_faults(&self, rt: &HostRuntime) -> bool {
         match &self.target {
             Target::Faults(..) => true,
-            _ => { self.id.is_some() && self.id == FileId::of_stream(rt, Stream::Faults) }
+            _ => is_for_faults(rt, self.id),
         }
     }
 
@@ -638,18 +638,21 @@ impl HostOut {
 
     /// Whether puts were tried, and none took a byte.
     fn has_only_failed(&self) -> bool
-        ensures { result ≡ true → 0 < self.now.failed }
+        ensures { result ≡ true → (0 < self.now.failed) × (self.now.took ≡ []) }
     {
+        if self.failures.count == 0 || !self.is_empty() {
+            return false;
+        }
         match &self.target {
-            Target::File(out) => self.failures.count > 0 && out.is_untouched(),
-            Target::Device(_) => self.failures.count > 0,
+            Target::File(out) => out.is_untouched(),
+            Target::Device(_) => true,
             _ => false,
         }
     }
 
     /// Ends it with what was written, and closes it, in either case. If each put failed, it is as
     /// it was before it was opened.
-    pub fn close(self, rt: &HostRuntime, durability: Durability) -> (Ended, io::Result<()>)
+    pub fn close(self, rt: &HostRuntime, durability: Durability) -> (HostEnded, io::Result<()>)
         ensures closes { Closes durability self.file (as_sink self) result.1 result.0 }
     {
         let has_only_failed = self.has_only_failed();
@@ -678,7 +681,7 @@ impl HostOut {
     }
 
     /// Ends it if nothing was written, as it was before it was opened.
-    pub fn discard(self, rt: &HostRuntime, durability: Durability) -> Ended
+    pub fn discard(self, rt: &HostRuntime, durability: Durability) -> HostEnded
         ensures discards { Discards self.file (as_sink self) result }
     {
         let HostOut {

@@ -1,13 +1,14 @@
 //! A file of the machine that is to be replaced later.
 
 use crate::beside::Kept;
-use crate::names::{FileId, Resolved, Stream, is_on_disk, resolve};
+use crate::names::{FileId, Resolved, StandardStream, is_on_disk, resolve};
 use crate::paths::{make_file, open_at_once, remove_at};
 use age_io::Durability;
 use age_machine::{Folder, Node, above_streams, check_same, folder_of, found_at, lock};
+use age_messages::RunFailures;
 use std::alloc::Global;
 use std::fs::{self, File, Metadata};
-use std::io;
+use std::io::{self, Read};
 use std::path::PathBuf;
 use std::rt::HostRuntime;
 
@@ -24,8 +25,8 @@ enum Found {
 
 /// A file that is to be replaced later: where its name led when that was judged.
 #[derive(Drop)]
-pub struct Prepared {
-    name: String,
+pub struct Prepared<'n> {
+    name: &'n str,
     resolved: Resolved,
     // The folder that its path leads into, if a path leads to it.
     folder: Option<Folder>,
@@ -36,7 +37,7 @@ pub struct Prepared {
     spared: Option<FileId>,
 }
 
-impl Prepared {
+impl<'n> Prepared<'n> {
     /// Judges where a name leads, and prepares what is to replace the file there: a file beside it
     /// with room for a position, which is on the disk by then if it is to be. Fails if there is
     /// neither room for that nor a file that can be written itself. A pipe isn't opened, since that
@@ -44,10 +45,10 @@ impl Prepared {
     pub fn new(
         alloc: Global,
         rt: &HostRuntime,
-        name: &str,
+        name: &'n str,
         spared: Option<FileId>,
         durability: Durability,
-    ) -> io::Result<Prepared> {
+    ) -> io::Result<Prepared<'n>> {
         let resolved = resolve(alloc, rt, name)?;
         let found = match &resolved {
             Resolved::Stream(stream) => check_stream(rt, *stream)?,
@@ -56,7 +57,7 @@ impl Prepared {
         let folder = folder_in(rt, &resolved, &found)?;
         let kept = kept_in(alloc, rt, &resolved, &found, durability)?;
         let prepared = Prepared {
-            name: String::from_str(alloc, name)?,
+            name,
             resolved,
             folder,
             found,
@@ -106,20 +107,20 @@ impl Prepared {
     }
 
     /// The name under which it was prepared.
-    pub fn name(&self) -> &str {
-        self.name.as_str()
+    pub fn name(&self) -> &'n str {
+        self.name
     }
 
     /// Whether it was prepared under this name.
     pub fn is_named(&self, name: &str) -> bool {
-        self.name.as_str() == name
+        self.name == name
     }
 
     /// The pipe or the device to which the name led, if it was one, with that name: no path may
     /// lead to it, as when the name is a descriptor's.
-    pub fn device(&self) -> Option<(&str, Node)> {
+    pub fn device(&self) -> Option<(&'n str, Node)> {
         match self.found {
-            Found::Device(node) => Some((self.name.as_str(), node)),
+            Found::Device(node) => Some((self.name, node)),
             _ => None,
         }
     }
@@ -132,7 +133,7 @@ impl Prepared {
     /// Which file is there now, if that is known, unless it may be open.
     pub fn id(&self, rt: &HostRuntime) -> Option<FileId> {
         let found = match self.found {
-            Found::Device(_) => FileId::at(rt, self.name.as_str()),
+            Found::Device(_) => FileId::at(rt, self.name),
             _ => id_in(rt, &self.resolved),
         };
         if found == self.spared { None } else { found }
@@ -187,8 +188,8 @@ fn id_in(rt: &HostRuntime, resolved: &Resolved) -> Option<FileId> {
 }
 
 /// Fails if a stream can't be written.
-fn check_stream(rt: &HostRuntime, stream: Stream) -> io::Result<Found> {
-    if let Stream::Input = stream {
+fn check_stream(rt: &HostRuntime, stream: StandardStream) -> io::Result<Found> {
+    if let StandardStream::Input = stream {
         return Err(io::Error::from(io::ErrorKind::Unsupported));
     }
     stream.check(rt)?;
@@ -239,5 +240,41 @@ fn check_folder(rt: &HostRuntime, path: &PathBuf) -> io::Result<()> {
         Ok(())
     } else {
         Err(io::Error::from(io::ErrorKind::NotADirectory))
+    }
+}
+
+/// Judges where the name of a position leads. With `--no-clobber` a file there that holds something
+/// else is refused.
+pub(crate) fn prepared_at<'w>(
+    alloc: Global,
+    rt: &HostRuntime,
+    name: &'w str,
+    spared: Option<FileId>,
+    durability: Durability,
+    failures: &RunFailures<'w>,
+) -> io::Result<Prepared<'w>> {
+    if failures.keeps_outputs() && is_of_other_use(rt, name) {
+        return Err(io::Error::other("it holds no position, and --no-clobber was given"));
+    }
+    Prepared::new(alloc, rt, name, spared, durability)
+}
+
+/// What the file of a position begins with.
+const POSITION: &[u8] = b"age-position/v";
+
+/// Whether a regular file has this name that is neither empty nor known to hold a position.
+fn is_of_other_use(rt: &HostRuntime, name: &str) -> bool {
+    match fs::metadata(rt, name) {
+        Ok(found) => found.is_file() && found.len() > 0 && !holds_position(rt, name),
+        Err(_) => false,
+    }
+}
+
+/// Whether a file begins as that of a position.
+fn holds_position(rt: &HostRuntime, name: &str) -> bool {
+    let mut first = [0; POSITION.len()];
+    match File::open(rt, name) {
+        Ok(mut file) => matches!(file.read(&mut first), Ok(n) if &first[..n] == POSITION),
+        Err(_) => false,
     }
 }

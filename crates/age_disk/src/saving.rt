@@ -2,20 +2,19 @@
 
 ghost use Rattle.std.specs.Prelude.{◌≡◌, None, Some, IsSomeAnd, OnOk, is_some, true};
 ghost use Rattle.age_machine.specs.Saved.{Saves};
-ghost use Rattle.age_disk.specs.Outputs.{IsNew};
-ghost use Rattle.age_disk.specs.Saving.{SavesBytes, WritesDirectly};
+ghost use Rattle.age_disk.specs.Outputs.{IsNew, WritesDirectly};
+ghost use Rattle.age_disk.specs.inner.Saving.{SavesBytes};
 
-use crate::names::{Resolved, is_on_disk};
-use crate::output::{Ended, HostOut};
+use crate::names::{Resolved, is_on_disk, tape_of};
+use crate::output::{HostEnded, HostOut};
 use crate::paths::{make_file, open_at_once, remove_own};
 use crate::prepare::Prepared;
-use crate::sync::sync_folder;
 use age_fault::write_all;
 use age_io::{Durability, Tape};
 use age_machine::calls::open_there;
 use age_machine::{
     HostMachine, Node, POSITION_MODE, Spot, Unplaced, found_at, lock, made_meanwhile,
-    open_to_write, replace_by_kept, replace_by_new,
+    open_to_write, replace_by_kept, replace_by_new, sync_folder,
 };
 use std::alloc::Global;
 use std::fs::{self, File, Metadata};
@@ -48,7 +47,7 @@ impl Model for Placed {
 pub struct Saved {
     pub file: Placed,
     /// What was written directly, and ended, if something was.
-    pub direct: Option<Ended>,
+    pub direct: Option<HostEnded>,
 }
 
 impl Saved {
@@ -71,9 +70,7 @@ impl Saved {
         ensures path { result.file.path ≡ Some path.now }
         ensures calls { result.file.calls ≡ machine.calls }
     {
-        let mut own = Tape::new();
-        own.note(path.as_bytes());
-        let path = Some(own);
+        let path = Some(tape_of(path.as_bytes()));
         Saved {
             file: Placed { path, machine },
             direct: None,
@@ -108,7 +105,7 @@ fn open_device(rt: &HostRuntime, name: &str, found: Node) -> io::Result<File> {
 struct Order<'a> {
     alloc: Global,
     rt: &'a HostRuntime,
-    prepared: &'a Prepared,
+    prepared: &'a Prepared<'a>,
     bytes: &'a [u8],
     durability: Durability,
 }
@@ -177,10 +174,10 @@ impl<'a> Order<'a> {
             remove_own(rt, &file, name);
             return Err(error);
         }
-        match self.durability {
-            Durability::Synced => sync_folder(rt, path),
-            Durability::Buffered => Ok(()),
+        if self.durability == Durability::Synced {
+            sync_folder(rt, name)?;
         }
+        Ok(())
     }
 
     /// Makes a file at a path where there is none, or a link, which it replaces.
@@ -273,16 +270,17 @@ impl<'a> Order<'a> {
 
 /// Puts a file of these bytes where a name led. A regular file stays as it is until the new one is
 /// whole, if its folder allows that.
-pub fn replace(
+pub(crate) fn replace(
     alloc: Global,
     rt: &HostRuntime,
-    prepared: &Prepared,
+    prepared: &Prepared<'_>,
     bytes: &[u8],
     durability: Durability,
-) -> (Saved, io::Result<()>)
-    ensures { SavesBytes bytes.now durability result.1 result.0 }
+    saved: &mut Saved,
+) -> io::Result<()>
+    requires { saved.old.file.path ≡ None }
+    ensures { SavesBytes bytes.now durability result saved.new }
 {
-    let mut saved = Saved::directly(rt);
     let order = Order {
         alloc,
         rt,
@@ -290,6 +288,5 @@ pub fn replace(
         bytes,
         durability,
     };
-    let placed = order.replace_named(&mut saved);
-    (saved, placed)
+    order.replace_named(saved)
 }

@@ -1,31 +1,18 @@
 //! Waits until files of the machine have reached the disk, and closes them.
 
-use crate::names::{Stream, is_on_disk};
+use crate::names::{StandardStream, is_on_disk};
 use age_machine::calls::{close, open_there};
-use age_machine::{above_streams, folder_of};
+use age_machine::{above_streams, sync};
 use std::fs::File;
 use std::io;
-use std::path::PathBuf;
 use std::rt::HostRuntime;
 
-/// Waits until a file has reached the disk. If the machine can't wait, nothing is waited for.
-fn sync(file: &File) -> io::Result<()> {
-    age_machine::sync(file)?;
-    Ok(())
-}
-
-/// Waits until a file has reached the disk, if it is of a kind that can.
+/// Waits until a file has reached the disk, if it is of a kind that can and the machine can wait.
 pub(crate) fn sync_file(file: &File) -> io::Result<()> {
     if is_on_disk(&file.metadata()?) {
         sync(file)?;
     }
     Ok(())
-}
-
-/// Waits until the names in the folder of a path have reached the disk. Fails if the folder can't
-/// be read.
-pub(crate) fn sync_folder(rt: &HostRuntime, path: &PathBuf) -> io::Result<()> {
-    sync(&File::open(rt, folder_of(path.as_str()))?)
 }
 
 /// A second descriptor of the file to which a stream leads, by which the disk is waited for: the kit
@@ -41,7 +28,7 @@ impl Witness {
     }
 
     /// The one of a stream, if that leads to a file that can be on a disk.
-    pub(crate) fn of(rt: &HostRuntime, stream: Stream) -> Witness {
+    pub(crate) fn of(rt: &HostRuntime, stream: StandardStream) -> Witness {
         if stream.may_be_on_disk(rt) {
             Witness(Some(open_either_way(rt, stream.path())))
         } else {
@@ -61,7 +48,7 @@ impl Witness {
     /// opened.
     pub(crate) fn sync(&self) -> io::Result<()> {
         match &self.0 {
-            Some(Ok(file)) => sync(file),
+            Some(Ok(file)) => sync(file).map(|_| ()),
             Some(Err(error)) => Err(*error),
             None => Ok(()),
         }
@@ -78,7 +65,7 @@ fn open_either_way(rt: &HostRuntime, path: &str) -> io::Result<File> {
 
 /// Closes a second descriptor of a stream, if it leads to a file that can be on a disk. The first
 /// one stays open, since the next file to be opened would take its place.
-pub(crate) fn close_stream(rt: &HostRuntime, stream: Stream) -> io::Result<()> {
+pub(crate) fn close_stream(rt: &HostRuntime, stream: StandardStream) -> io::Result<()> {
     if stream.may_be_on_disk(rt) {
         close(rt, stream.copy(rt)?)
     } else {

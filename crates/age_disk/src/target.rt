@@ -6,7 +6,7 @@ ghost use Rattle.age_disk.specs.Targets.{regular_of};
 ghost use Rattle.age_disk.specs.inner.{part_of, TargetPuts};
 
 use crate::device::Device;
-use crate::names::{Stream, is_handed_on};
+use crate::names::{StandardStream, is_handed_on};
 use crate::sync::{Witness, sync_file};
 use age_io::Tape;
 use age_machine::calls::close;
@@ -103,8 +103,8 @@ impl Target {
         let copy = match self {
             Target::File(out) => out.file().file().as_fd().try_clone_to_owned(),
             Target::Device(_) => return Ok(()),
-            Target::Output(..) => Stream::Output.copy(rt),
-            Target::Faults(..) => Stream::Faults.copy(rt),
+            Target::Output(..) => StandardStream::Output.copy(rt),
+            Target::Faults(..) => StandardStream::Faults.copy(rt),
         };
         match copy {
             Ok(copy) => close(rt, copy),
@@ -117,8 +117,8 @@ impl Target {
         let path = match self {
             Target::File(out) => out.path(),
             Target::Device(_) => return u64::MAX,
-            Target::Output(..) => Stream::Output.path(),
-            Target::Faults(..) => Stream::Faults.path(),
+            Target::Output(..) => StandardStream::Output.path(),
+            Target::Faults(..) => StandardStream::Faults.path(),
         };
         match fs::metadata(rt, path) {
             Ok(metadata) => metadata.len(),
@@ -131,8 +131,8 @@ impl Target {
         let found = match self {
             Target::File(_) => return 0,
             Target::Device(device) => device.file.file().metadata(),
-            Target::Output(..) => fs::metadata(rt, Stream::Output.path()),
-            Target::Faults(..) => fs::metadata(rt, Stream::Faults.path()),
+            Target::Output(..) => fs::metadata(rt, StandardStream::Output.path()),
+            Target::Faults(..) => fs::metadata(rt, StandardStream::Faults.path()),
         };
         match found {
             Ok(metadata) if is_handed_on(&metadata) => ON_THE_WAY,

@@ -29,7 +29,7 @@ impl Sink for Measure {
       taken = record { bytes = m.took; contents = None; label = [] };
       failed = 0;
       failing = false;
-      settled = true;
+      flushed = true;
     } };
 
     fn put(&mut self, from: &[u8]) -> Result<usize, Failed> {

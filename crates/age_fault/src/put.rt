@@ -32,7 +32,7 @@ pub fn write_all<O: Sink>(sink: &mut O, bytes: &[u8], written: &mut u128) -> Res
 
 /// Flushes the sink. Fails only with `Write` (27).
 pub fn flush_all<O: Sink>(sink: &mut O) -> Result<(), FileFault>
-    ensures settled { OnOk result ((O.view sink.new).settled ≡ true) }
+    ensures flushed { OnOk result ((O.view sink.new).flushed ≡ true) }
     ensures bytes { Keeps (O.view sink.old).taken (O.view sink.new).taken }
     ensures fault { IfErr result (λ fault. fault ≡ Write) }
     ensures counted { MatchResult result (λ _. (O.view sink.new).failed ≡ (O.view sink.old).failed)

@@ -181,7 +181,7 @@ source_fails sealing n old x z sink text fault h0 h1 h2 = grind (arith, common_s
 -- a source wasn't sealed to its end
 pub sealing_failed : {sealing : List ℕ → List ℕ → List ℕ} {n : ℕ} {old new : Ports} {was now : ℕ} {fault : FileFault}
     → SealsFront sealing n old new was now fault → SealsSource sealing n old new was now (Err fault)
-sealing_failed front = record { done = tt; counted = tt; fails = front; settled = tt }
+sealing_failed front = record { done = tt; counted = tt; fails = front; flushed = tt }
 
 -- it stopped where its payload was cut
 pub cut_source : {B : Type 0} {sealing : B → List ℕ → List ℕ → List ℕ} {n : ℕ} {key : B} {a source : SourceView} {pulls : ℕ} {first now : WriterView}
@@ -490,7 +490,7 @@ module _ {B : Type 0} (sealing : B → List ℕ → List ℕ → List ℕ) (open
           counts = counted t.left (segment k (f.fed ++ t.left) false) refl f.released;
           prefix = prefix_of (opening K) n k f.fed t.left f.released.out t.unwritten f.released.text;
           answered = stop_fails b old new f.fed t.left f.released.out t.unwritten fault f.released.text (status_of f.released) t.why;
-          settled = tt;
+          flushed = tt;
         }
 
     done_or_fails : (c : OpenerView B) (old mid : Stage) (now : WriterView) (bytes out unwritten : List ℕ) (result : Result (Unit {0}) FileFault)
@@ -502,9 +502,9 @@ module _ {B : Type 0} (sealing : B → List ℕ → List ℕ → List ℕ) (open
     done_or_fails c old mid now bytes out unwritten result h0 h1 h2 h3 = grind (arith, common_steps, append-nil, length-append)
 
     pub pour_ended : (b c : OpenerView B) (old mid : Stage) (now : WriterView) (result : Result (Unit {0}) FileFault) → Ends opening n K k b old mid
-        → EndsFeed opening n b c mid.writer now result → OnOk result (now.sink.settled ≡ true)
+        → EndsFeed opening n b c mid.writer now result → OnOk result (now.sink.flushed ≡ true)
         → DecryptsPayload (opening K) n k old (stage mid.reader now) result
-    pour_ended b c old mid now result t ends settled =
+    pour_ended b c old mid now result t ends flushed =
         let f = t.flows in
         let end = ends K k old.writer f.fed f.released in
         let all = end.released in
@@ -520,5 +520,5 @@ module _ {B : Type 0} (sealing : B → List ℕ → List ℕ → List ℕ) (open
           counts = counted [] (segment k f.fed true) (no_piece (segment k f.fed true)) all;
           prefix = (end.unwritten, sym all.text);
           answered = done_or_fails c old mid now f.fed all.out end.unwritten result t.same all.text (status_of all) end.answered;
-          settled = settled;
+          flushed = flushed;
         }

@@ -37,7 +37,7 @@ module _ (keep : PositionPolicy) (Allows : Header → List ℕ → Type 0) where
   stopped_with : (begun : Beginning) (old new : Ports) (stopped : Stopped) → begun.early old new stopped → new.sink.taken.label ≡ old.sink.taken.label
       → DecryptsMarked keep Allows begun old new (Err stopped) None
   stopped_with begun old new stopped early named = record {
-    is = record { run = None; answers = early; settled = tt; named = named };
+    is = record { run = None; answers = early; flushed = tt; named = named };
     found = refl;
   }
 

@@ -181,9 +181,9 @@ module _ {keep : PositionPolicy} {Allows : Header → List ℕ → Type 0} {a : 
 
     -- what holds of each end of the run holds of its answer
     module _ (P : Result Done Stopped → Type 0) (done : (written : ℕ) → IsDone Allows old new written run → NoneFailed old new
-        → s2.writer.sink.settled ≡ true → P (Ok (record { written = written })))
+        → s2.writer.sink.flushed ≡ true → P (Ok (record { written = written })))
         (stopped : (s : Stopped) → StopsInPayload keep Allows never old new s run → P (Err s)) where
-      ended_as : (how : Result (Unit {0}) FileFault) (result : Result Done Stopped) → OnOk how (s2.writer.sink.settled ≡ true) → MatchResult how
+      ended_as : (how : Result (Unit {0}) FileFault) (result : Result Done Stopped) → OnOk how (s2.writer.sink.flushed ≡ true) → MatchResult how
           (λ _. SegmentDone (unbox unlocked.key unlocked.nonce) chunk_length m s2 (segment_of run) q.out)
           (SegmentFails (unbox unlocked.key unlocked.nonce) chunk_length m s2 (segment_of run) q.out)
           → EndsAs unlocked s2.writer.tally how result → P result
@@ -193,9 +193,9 @@ module _ {keep : PositionPolicy} {Allows : Header → List ℕ → Type 0} {a : 
         → DecryptsMarked keep Allows begun old new result (marks_over unlocked s2.writer.tally.chain)
     answered result is =
         ended_as (λ e. DecryptsMarked keep Allows begun old new e (marks_over unlocked s2.writer.tally.chain))
-        (λ written d none settled. record { is = record { run = Some run; answers = (from, d, none); settled = settled; named = wrote.named }; found = marked })
-        (λ stop d. record { is = record { run = Some run; answers = (from, d); settled = tt; named = wrote.named }; found = marked })
-        end result q.settled q.answered is
+        (λ written d none flushed. record { is = record { run = Some run; answers = (from, d, none); flushed = flushed; named = wrote.named }; found = marked })
+        (λ stop d. record { is = record { run = Some run; answers = (from, d); flushed = tt; named = wrote.named }; found = marked })
+        end result q.flushed q.answered is
 
 -- ---- Runs in a row, by the number of runs.
 

@@ -127,7 +127,7 @@ module _ (keep : PositionPolicy) (Allows : Header → List ℕ → Type 0) (begu
     pub run : Option Run
     pub answers : DecryptAnswers run result
     -- after Ok the sink sent on what it took
-    pub settled : OnOk result (new.sink.settled ≡ true)
+    pub flushed : OnOk result (new.sink.flushed ≡ true)
     -- the sink keeps its label
     pub named : new.sink.taken.label ≡ old.sink.taken.label
 

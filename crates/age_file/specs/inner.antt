@@ -451,7 +451,7 @@ module _ (opening : List ℕ → List ℕ → Option (List ℕ)) (n : ℕ) where
     pub answered : MatchResult result (λ _. SegmentDone old new (segment start bytes ended) out)
         (SegmentFails old new (segment start bytes ended) out)
     -- after Ok the sink sent on what it took
-    pub settled : OnOk result (new.writer.sink.settled ≡ true)
+    pub flushed : OnOk result (new.writer.sink.flushed ≡ true)
 
 -- ---- What an opener was fed, and what of its text was written. A chunk has n bytes.
 
@@ -752,4 +752,4 @@ module _ (sealing : List ℕ → List ℕ → List ℕ) (n : ℕ) where
     -- after a fault, a front of the payload was written
     pub fails : IfErr result (SealsFront old new written_old written_new)
     -- after Ok the sink sent on what it took
-    pub settled : OnOk result (new.sink.settled ≡ true)
+    pub flushed : OnOk result (new.sink.flushed ≡ true)

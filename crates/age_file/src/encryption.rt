@@ -101,7 +101,7 @@ pub fn encrypt_after<S: Source, O: Sink>(
     ensures fails { (secret : SecretView) → IsFrontOf secret front
         → IfErr result (EncryptsFront secret (ports (S.view reader.old) (O.view writer.old))
         (ports (S.view reader.new) (O.view writer.new))) }
-    ensures settled { OnOk result ((O.view writer.new).settled ≡ true) }
+    ensures flushed { OnOk result ((O.view writer.new).flushed ≡ true) }
     ensures began { (from : Origin) → S.began reader.old from → S.began reader.new from }
 {
     let Front {
@@ -144,7 +144,7 @@ pub fn encrypt<S: Source, O: Sink>(
     ensures fails { IfErr result (EncryptFails secret.now
         (ports (S.view reader.old) (O.view writer.old))
         (ports (S.view reader.new) (O.view writer.new))) }
-    ensures settled { OnOk result ((O.view writer.new).settled ≡ true) }
+    ensures flushed { OnOk result ((O.view writer.new).flushed ≡ true) }
     ensures began { (from : Origin) → S.began reader.old from → S.began reader.new from }
 {
     let front = Front::of(alloc, secret)?;

@@ -12,8 +12,8 @@ use crate::reader::Reader;
 use crate::report::{Report, StanzaReport, StanzaReports};
 use age_chunk::PAYLOAD_NONCE_LEN;
 use age_fault::FileFault;
-use age_io::Source;
-use age_stanza::{Bytes, Stanza, Stanzas};
+use age_io::{Bytes, Source};
+use age_stanza::{Stanza, Stanzas};
 use age_stream::text_len_of;
 use std::alloc::{AllocError, Global};
 

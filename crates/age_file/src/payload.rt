@@ -51,7 +51,7 @@ fn finish<O: Sink>(
     requires { length opener.old.held + writer.old.tally.written < 2 ^ 128 }
     ensures ends { EndsFeed opens chunk_length opener.old opener.new
         (view_of_writer O.view writer.old) (view_of_writer O.view writer.new) result }
-    ensures settled { OnOk result ((O.view writer.new.sink.now).settled ≡ true) }
+    ensures flushed { OnOk result ((O.view writer.new.sink.now).flushed ≡ true) }
     ensures same { SameWriter writer.old writer.new }
 {
     let text = opener.end()?;

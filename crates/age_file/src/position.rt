@@ -4,7 +4,7 @@ ghost use Rattle.std.specs.Prelude.{◌≡◌, ◌<◌, ◌*◌, ◌++◌, ℕ, 
 ghost use Rattle.std.specs.List.{concat};
 ghost use Rattle.sha2.specs.Hashers.{Holds256};
 ghost use Rattle.age_stanza.specs.{base64_text};
-ghost use Rattle.age_file.specs.Bindings.{link, file_id, position_tag};
+ghost use Rattle.age_file.specs.Bindings.{file_id, position_tag};
 ghost use Rattle.age_chunk.specs.{chunk_limit, chunk_length};
 
 use age_stream::CHUNK_LEN;
@@ -78,16 +78,6 @@ pub(crate) fn tag_of(key: &[u8; 32], index: u64, file_id: &[u8; 32], chain: &[u8
     let index = digits.format(index).as_bytes();
     let (id, links) = (spelled(file_id), spelled(chain));
     age_kdf::hmac(key, &front_parts(index, &id, &links))
-}
-
-/// The next link of a chain, over one more chunk.
-pub(crate) fn next_link(chain: &[u8; 32], chunk: &[u8]) -> [u8; 32]
-    ensures { result ≡ link chain.now chunk.now }
-{
-    let mut digest = Sha256::new();
-    digest.update(chain);
-    digest.update(chunk);
-    digest.finalize()
 }
 
 /// What identifies a file: the digest of its header's bytes, which it was fed before, and of its

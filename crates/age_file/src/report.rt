@@ -1,6 +1,6 @@
 //! The report on a file.
 
-use age_stanza::{Bytes, List};
+use age_io::{Bytes, List};
 
 /// A stanza in a report.
 #[derive(Debug, Drop)]

@@ -47,7 +47,7 @@ fn finish<O: Sink>(
     requires room { writer.old.tally.written ≤ 2 ^ 127 }
     ensures sealed { SealsRest seals chunk_length sealer.old (view_of_writer O.view writer.old)
         (view_of_writer O.view writer.new) result }
-    ensures settled { OnOk result ((O.view writer.new.sink.now).settled ≡ true) }
+    ensures flushed { OnOk result ((O.view writer.new.sink.now).flushed ≡ true) }
     ensures same_writer { SameWriter writer.old writer.new }
 {
     let block = sealer.finish()?;

@@ -6,7 +6,7 @@ use Rattle.age_io.specs.{SourceView, Consumes, IsAtEnd}
 use Rattle.age_io.specs.declared.durability.Durability.{Durability}
 use Rattle.age_fault.specs.declared.fault.FileFault.{FileFault}
 use Rattle.age_fault.specs.declared.fault.FileFault.TheVariants.{Read, Write}
-use Rattle.age_fileset.specs.{OpenFault, SameFile, Fault, Event, Opened, Outcome, Found, FoundOrEmpty, Unread, Absent, Gave, Settled, Put, Alike}
+use Rattle.age_fileset.specs.{OpenFault, SameFile, Fault, Event, Open, Outcome, Found, FoundOrEmpty, Unread, Absent, Gave, Settled, Put, Alike}
 use Rattle.age_fileset.specs.{OneStream, InUse, Terminal, Reading, reading_of, Entry, entry, FilesView, Does, PutsOnly, CameSince, HasGiven, HasGivenAll}
 use Rattle.age_fileset.specs.{puts_in, with_event, with_outcomes, refused_as, OpenFails, IsMemoryOr, opened_as, made_as, checked_as, noted_if, ChecksStreams}
 
@@ -111,21 +111,21 @@ came_of old new name e fault o other one is same = came_one old new o (ap (λ v.
 -- a file was to be opened
 module _ {In : Type 0} (read : In → SourceView) (size : In → Option ℕ) (name : List ℕ) (found : Option (List ℕ) → Option ℕ → Outcome)
     (plain : (left : Option (List ℕ)) (n : Option ℕ) → puts_in (found left n ∷ []) ≡ []) (old new : FilesView) where
-  pub opened_does : (r : Result In OpenFault) → new ≡ with_event (Opened name) (opened_as read size found name r) old → IfErr r (OpenFails Read) → Does (Opened name ∷ []) old new
-  opened_does (Ok s) is fails = does_so old new (Opened name) _ is (plain (read s).supply.left (size s))
-  opened_does (Err fault) is fails = does_so old new (Opened name) _ is (unread_puts name fault fails)
+  pub opened_does : (r : Result In OpenFault) → new ≡ with_event (Open name) (opened_as read size found name r) old → IfErr r (OpenFails Read) → Does (Open name ∷ []) old new
+  opened_does (Ok s) is fails = does_so old new (Open name) _ is (plain (read s).supply.left (size s))
+  opened_does (Err fault) is fails = does_so old new (Open name) _ is (unread_puts name fault fails)
 
-  pub opened_came : (r : Result In OpenFault) → new ≡ with_event (Opened name) (opened_as read size found name r) old → IfOk r (λ s. CameSince old new (found (read s).supply.left (size s)))
+  pub opened_came : (r : Result In OpenFault) → new ≡ with_event (Open name) (opened_as read size found name r) old → IfOk r (λ s. CameSince old new (found (read s).supply.left (size s)))
   opened_came (Ok s) is = came_one old new (found (read s).supply.left (size s)) (ap (λ v. v.outcomes) is)
   opened_came (Err fault) is = tt
 
-  pub opened_unread : (r : Result In OpenFault) → new ≡ with_event (Opened name) (opened_as read size found name r) old → IfErr r (λ f. f ≡ Fault Read → CameSince old new (Unread name))
+  pub opened_unread : (r : Result In OpenFault) → new ≡ with_event (Open name) (opened_as read size found name r) old → IfErr r (λ f. f ≡ Fault Read → CameSince old new (Unread name))
   opened_unread (Ok s) is = tt
-  opened_unread (Err fault) is = λ same. came_of old new name (Opened name) fault (Unread name) (Fault Read) refl is same
+  opened_unread (Err fault) is = λ same. came_of old new name (Open name) fault (Unread name) (Fault Read) refl is same
 
-  pub opened_in_use : (r : Result In OpenFault) → new ≡ with_event (Opened name) (opened_as read size found name r) old → IfErr r (λ f. f ≡ SameFile → CameSince old new (InUse name))
+  pub opened_in_use : (r : Result In OpenFault) → new ≡ with_event (Open name) (opened_as read size found name r) old → IfErr r (λ f. f ≡ SameFile → CameSince old new (InUse name))
   opened_in_use (Ok s) is = tt
-  opened_in_use (Err fault) is = λ same. came_of old new name (Opened name) fault (InUse name) SameFile refl is same
+  opened_in_use (Err fault) is = λ same. came_of old new name (Open name) fault (InUse name) SameFile refl is same
 
 pub found_plain : (name : List ℕ) (left : Option (List ℕ)) (size : Option ℕ) → puts_in (Found name left size ∷ []) ≡ []
 unfolding puts_in

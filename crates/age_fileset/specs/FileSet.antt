@@ -21,12 +21,12 @@ use Rattle.age_fileset.specs.declared.mem_entry.MemEntry.{MemEntry}
 -- name, if there is one; the file that was created or made last was ended; what was written or
 -- replaced was to reach the disk now or later
 pub data Event : Type 0 where
-  Opened : List ℕ → Event
-  Prepared : List ℕ → (spared : Option (List ℕ)) → Event
-  Created : List ℕ → Event
-  Made : List ℕ → Event
-  Replaced : List ℕ → Durability → Event
-  Closed : Durability → Event
+  Open : List ℕ → Event
+  Prepare : List ℕ → (spared : Option (List ℕ)) → Event
+  Create : List ℕ → Event
+  Make : List ℕ → Event
+  Replace : List ℕ → Durability → Event
+  Close : Durability → Event
 
 -- ---- What came of it.
 
@@ -160,7 +160,7 @@ pub record ChecksStreams (names : List (List ℕ)) (result : Result (Unit {0}) O
 
 -- an output was ended, and that came of it
 pub record EndsOne (durability : Durability) (more : List Outcome) (old new : FilesView) : Type 0 where
-  pub events : new.events ≡ old.events ++ Closed durability ∷ []
+  pub events : new.events ≡ old.events ++ Close durability ∷ []
   pub outcomes : new.outcomes ≡ old.outcomes ++ more
   pub saved : new.saved ≡ old.saved
 
@@ -339,7 +339,7 @@ shown_out file = record {
   taken = record (holds file.1.held) { label = file.0 };
   failed = file.1.failures;
   failing = file.1.failing;
-  settled = file.1.settled;
+  flushed = file.1.flushed;
 }
 
 -- what contracts see of one that was ended: it is on no disk
@@ -362,5 +362,5 @@ empty_with room = record {
   calls = 0;
   failures = 0;
   failing = false;
-  settled = false;
+  flushed = false;
 }

@@ -1,6 +1,6 @@
 -- What a set of files notes of what is done with it.
 use Rattle.std.specs.Prelude.{List, [], ◌∷◌, ◌++◌, option_map}
-use Rattle.age_fileset.specs.FileSet.{Event, Opened, Prepared, Created, Made, Replaced, Closed, Reading}
+use Rattle.age_fileset.specs.FileSet.{Event, Open, Prepare, Create, Make, Replace, Close, Reading}
 use Rattle.age_fileset.specs.FileSet.{Doings, Outcome, Found, FoundOrEmpty, Unwritten, Absent, Gave}
 use Rattle.age_fileset.specs.FileSet.{Settled, Put, Alike, OneStream, InUse, Terminal, passed_names}
 use Rattle.age_fileset.specs.FileSet.{refused_as}
@@ -16,13 +16,13 @@ came more old = record old { outcomes = old.outcomes ++ more }
 
 -- what was done by then, and came of it, once this is
 abbrev pub once_done : Doing → Doings → Doings
-once_done (doing.Opened name) old = did (Opened name.now) old
-once_done (doing.Prepared name spared) old =
-    did (Prepared name.now (option_map (λ s. s.now) spared)) old
-once_done (doing.Created name) old = did (Created name.now) old
-once_done (doing.Made name) old = did (Made name.now) old
-once_done (doing.Replaced name durability) old = did (Replaced name.now durability) old
-once_done (doing.Closed durability) old = did (Closed durability) old
+once_done (doing.Open name) old = did (Open name.now) old
+once_done (doing.Prepare name spared) old =
+    did (Prepare name.now (option_map (λ s. s.now) spared)) old
+once_done (doing.Create name) old = did (Create name.now) old
+once_done (doing.Make name) old = did (Make name.now) old
+once_done (doing.Replace name durability) old = did (Replace name.now durability) old
+once_done (doing.Close durability) old = did (Close durability) old
 once_done (doing.Found name left size) old =
     came (Found name.now (option_map (λ t. t.now) left) size ∷ []) old
 once_done (doing.FoundOrEmpty name left size) old =

@@ -2,8 +2,8 @@
 
 ghost use Rattle.std.specs.Prelude.{◌≡◌, ◌↔◌, ℕ, true, List, [], ◌∷◌, Option, Some, None, option_map};
 ghost use Rattle.std.specs.Prelude.{IfOk, IfErr, IsOkUnless, IfSome, ◌≤◌, length, IsSomeAnd};
-ghost use Rattle.age_fileset.specs.FileSet.{FilesView, IsMemoryOr, OpenFails, Opened, Prepared, Created};
-ghost use Rattle.age_fileset.specs.FileSet.{Made, Replaced, EndsOne, Found, FoundOrEmpty, Absent, Gave};
+ghost use Rattle.age_fileset.specs.FileSet.{FilesView, IsMemoryOr, OpenFails, Open, Prepare, Create};
+ghost use Rattle.age_fileset.specs.FileSet.{Make, Replace, EndsOne, Found, FoundOrEmpty, Absent, Gave};
 ghost use Rattle.age_fileset.specs.FileSet.{Settled, reading_of, opened_as, made_as, written_as};
 ghost use Rattle.age_fileset.specs.FileSet.{alike_as, noted_if, passed_names, ChecksStreams, InUse, Terminal};
 ghost use Rattle.age_fileset.specs.FileSet.{with_event, with_outcomes};
@@ -36,9 +36,9 @@ impl From<FileFault> for OpenFault {
 
 /// Files by their names.
 ///
-/// A name is opaque: only the set interprets it. What contracts see is noted as it is done: what was
-/// to be done in order, and what came of it. An implementation has to keep more than its contracts
-/// say:
+/// A name is opaque: only the set interprets it, and may keep it for as long as `'w`. What contracts
+/// see is noted as it is done: what was to be done in order, and what came of it. An implementation
+/// has to keep more than its contracts say:
 /// - `create` changes nothing of a file that is there. Its bytes are replaced with the first put
 ///   that takes some, or by `close`; from then on others may see them;
 /// - a sink that is dropped without `close` or `discard` may leave the file with some of the bytes
@@ -49,7 +49,7 @@ impl From<FileFault> for OpenFault {
 /// - two names that are one file are refused as such, by `is_same` before the second is opened, or
 ///   else by `prepare` and `create`; and `replace` writes over none that was opened or created;
 /// - that names lead to one file or stream, or that a file is in use, is said only if it is so.
-pub trait FileSet {
+pub trait FileSet<'w> {
     /// A file that is read. Its `began` says under which name it was opened: of one name alone.
     type In: Source + Drop;
 
@@ -66,7 +66,7 @@ pub trait FileSet {
     ghost file: { Self.Out → Option OutFile };
 
     /// Whether two names stand for one file. Equal names do.
-    fn is_same(&mut self, one: &str, other: &str) -> bool
+    fn is_same(&mut self, one: &'w str, other: &'w str) -> bool
         ensures equal { one.now ≡ other.now → result ≡ true }
         ensures noted { view self.new
             ≡ with_outcomes (alike_as one.now other.now result) (view self.old) };
@@ -74,14 +74,14 @@ pub trait FileSet {
     /// Refuses with [`SameFile`](OpenFault::SameFile) if two of the names stand for one stream. A
     /// stream gives each of its bytes once: a pipe, a socket or a terminal, or standard input,
     /// whatever it is. The call opens nothing. It refuses with `Memory` (28) too.
-    fn check_streams(&mut self, alloc: Global, names: &[Option<&str>]) -> Result<(), OpenFault>
+    fn check_streams(&mut self, alloc: Global, names: &[Option<&'w str>]) -> Result<(), OpenFault>
         ensures checks { ChecksStreams (passed_names names.now) result (view self.old) (view self.new) }
         ensures faults { IfErr result (OpenFails FileFault.Memory) };
 
     /// Opens a file to be read. Refuses with `Read` (26) if it can't be opened, with `Memory` (28),
     /// and with [`SameFile`](OpenFault::SameFile) if it is a stream that was opened before.
-    fn open(&mut self, alloc: Global, name: &str) -> Result<Self::In, OpenFault>
-        ensures noted { view self.new ≡ with_event (Opened name.now)
+    fn open(&mut self, alloc: Global, name: &'w str) -> Result<Self::In, OpenFault>
+        ensures noted { view self.new ≡ with_event (Open name.now)
             (opened_as (Self.In.view) size (Found name.now) name.now result) (view self.old) }
         ensures begun { IfOk result (λ s. (Self.In.view s).supply.given ≡ []) }
         ensures named { IfOk result (λ s. Self.In.began s (Named name.now)) }
@@ -89,8 +89,8 @@ pub trait FileSet {
 
     /// Opens a file to be read. A file that isn't there counts as empty. Refuses as `open` does,
     /// but with `Read` (26) only if the file is there and can't be opened.
-    fn open_or_empty(&mut self, alloc: Global, name: &str) -> Result<Self::In, OpenFault>
-        ensures noted { view self.new ≡ with_event (Opened name.now)
+    fn open_or_empty(&mut self, alloc: Global, name: &'w str) -> Result<Self::In, OpenFault>
+        ensures noted { view self.new ≡ with_event (Open name.now)
             (opened_as (Self.In.view) size (FoundOrEmpty name.now) name.now result) (view self.old) }
         ensures begun { IfOk result (λ s. (Self.In.view s).supply.given ≡ []) }
         ensures named { IfOk result (λ s. Self.In.began s (Named name.now)) }
@@ -118,12 +118,12 @@ pub trait FileSet {
     fn prepare(
         &mut self,
         alloc: Global,
-        name: &str,
-        spared: Option<&str>,
+        name: &'w str,
+        spared: Option<&'w str>,
         durability: Durability,
     ) -> Result<(), OpenFault>
         ensures noted { view self.new
-            ≡ with_event (Prepared name.now (option_map (λ s. s.now) spared.entry))
+            ≡ with_event (Prepare name.now (option_map (λ s. s.now) spared.entry))
             (made_as [] name.now result) (view self.old) }
         ensures faults { IfErr result (OpenFails FileFault.Write) };
 
@@ -134,10 +134,10 @@ pub trait FileSet {
     fn create(
         &mut self,
         alloc: Global,
-        name: &str,
+        name: &'w str,
         durability: Durability,
     ) -> Result<Self::Out, OpenFault>
-        ensures noted { view self.new ≡ with_event (Created name.now) (made_as [] name.now result)
+        ensures noted { view self.new ≡ with_event (Create name.now) (made_as [] name.now result)
             (view self.old) }
         ensures begun { IfOk result (λ o. ((Self.Out.view o).taken.bytes ≡ [])
             × ((Self.Out.view o).failed ≡ 0)) }
@@ -146,7 +146,7 @@ pub trait FileSet {
 
     /// Refuses what has the name, a link too, with `Write` (27), as `create_new` would: it changes
     /// nothing, and is for what takes long before that. Something may have the name by then.
-    fn check_absent(&mut self, name: &str) -> Result<(), OpenFault>
+    fn check_absent(&mut self, name: &'w str) -> Result<(), OpenFault>
         ensures noted { view self.new ≡ with_outcomes (made_as [] name.now result) (view self.old) }
         ensures faults { IfErr result (OpenFails FileFault.Write) };
 
@@ -155,10 +155,10 @@ pub trait FileSet {
     fn create_new(
         &mut self,
         alloc: Global,
-        name: &str,
+        name: &'w str,
         durability: Durability,
     ) -> Result<Self::Out, OpenFault>
-        ensures noted { view self.new ≡ with_event (Made name.now)
+        ensures noted { view self.new ≡ with_event (Make name.now)
             (made_as (Absent name.now ∷ []) name.now result) (view self.old) }
         ensures begun { IfOk result (λ o. ((Self.Out.view o).taken.bytes ≡ [])
             × ((Self.Out.view o).failed ≡ 0)) }
@@ -213,11 +213,11 @@ pub trait FileSet {
     fn replace(
         &mut self,
         alloc: Global,
-        name: &str,
+        name: &'w str,
         bytes: &[u8],
         durability: Durability,
     ) -> Result<(), FileFault>
-        ensures noted { view self.new ≡ record (with_event (Replaced name.now durability)
+        ensures noted { view self.new ≡ record (with_event (Replace name.now durability)
             (written_as name.now bytes.now result) (view self.old)) { saved = (view self.new).saved } }
         ensures saved { Saves bytes.now durability result (view self.new).saved }
         ensures faults { IfErr result (IsMemoryOr FileFault.Write) };

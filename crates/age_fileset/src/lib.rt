@@ -1,7 +1,7 @@
 //! The files that a command works with: a trait for a set of them, and one over memory.
 //!
 //! A set notes what was opened, created, replaced and ended, in order, and what came of it. Of the
-//! machine's files (`age_host`) contracts see the bytes that they gave and took; of a set over
+//! machine's files (`age_disk`) contracts see the bytes that they gave and took; of a set over
 //! memory also what each file holds.
 #![tactic(auto)]
 

@@ -13,17 +13,17 @@ use std::marker::Model;
 #[derive(Clone, Copy)]
 pub enum Doing<'a> {
     /// A file was to be opened.
-    Opened(&'a str),
+    Open(&'a str),
     /// A file was to be prepared, which may be in use under the second name.
-    Prepared(&'a str, Option<&'a str>),
+    Prepare(&'a str, Option<&'a str>),
     /// A file was to be created.
-    Created(&'a str),
+    Create(&'a str),
     /// A file was to be made where none is.
-    Made(&'a str),
+    Make(&'a str),
     /// A file was to be replaced, and to reach the disk now or later.
-    Replaced(&'a str, Durability),
+    Replace(&'a str, Durability),
     /// A file that was created or made was ended, to reach the disk now or later.
-    Closed(Durability),
+    Close(Durability),
     /// A file was opened under this name. It has this to give, if contracts see that, and so many
     /// bytes, if the set can say.
     Found(&'a str, Option<&'a Tape>, Option<u64>),

@@ -3,7 +3,7 @@
 ghost use Rattle.std.specs.Prelude.{◌≡◌, IsOk, ℕ, List, IfOk, is_some, true, position, option_map};
 ghost use Rattle.age_fileset.specs.FileSet.{has_name, entry_of, PutsEntry};
 
-use age_stanza::Bytes;
+use age_io::Bytes;
 use std::alloc::{AllocError, Global};
 use std::marker::Model;
 

@@ -5,8 +5,8 @@ ghost use Rattle.std.specs.Prelude.{OnErr, IfOk, IsErrOf, IsOk, IfErr, IsOkUnles
 ghost use Rattle.std.specs.Prelude.{option_map, length, false};
 ghost use Rattle.age_io.specs.Taken.{WriteAppends, Keeps};
 ghost use Rattle.age_io.specs.{Puts, Pulls, Flushes, holds, memory_supply, IsNamed, ReadConsumes};
-ghost use Rattle.age_fileset.specs.{entry_of, empty_with, PutsEntry, IsMemoryOr, or_empty, Opened, Prepared};
-ghost use Rattle.age_fileset.specs.{Created, Made, Replaced, Closed, Found, FoundOrEmpty, Absent, Gave};
+ghost use Rattle.age_fileset.specs.{entry_of, empty_with, PutsEntry, IsMemoryOr, or_empty, Open, Prepare};
+ghost use Rattle.age_fileset.specs.{Create, Make, Replace, Close, Found, FoundOrEmpty, Absent, Gave};
 ghost use Rattle.age_fileset.specs.{Settled, ended_with, opened_as, made_as, put_as, written_as};
 ghost use Rattle.age_fileset.specs.{size_in, shown_in, shown_out, seen_in, reading_of, MemFails, AreTrue};
 ghost use Rattle.age_fileset.specs.declared.files.OpenFault.TheVariants.{Fault};
@@ -15,8 +15,7 @@ use crate::files::{FileSet, OpenFault};
 use crate::log::{Doing, Log};
 use crate::mem_entry::{MemEntry, Name, bytes_of, put_entry};
 use age_fault::FileFault;
-use age_io::{Durability, Failed, MemSink, MemSource, Memory, Sink, Source, Tape};
-use age_stanza::Bytes;
+use age_io::{Bytes, Durability, Failed, MemSink, MemSource, Memory, Sink, Source, Tape};
 use std::alloc::{AllocError, Global};
 use std::marker::Model;
 
@@ -135,7 +134,7 @@ impl Sink for MemOut {
     }
 
     fn flush(&mut self) -> Result<(), Failed>
-        ensures settled { OnOk result (self.new.1.settled ≡ true) }
+        ensures settled { OnOk result (self.new.1.flushed ≡ true) }
         ensures bytes { Keeps (holds self.old.1.held) (holds self.new.1.held) }
         ensures named { self.new.0 ≡ self.old.0 }
         ensures plan { Flushes self.old.1 result self.new.1 }
@@ -333,7 +332,7 @@ fn open_out(alloc: Global, refused: &[Name], name: &str, room: usize) -> Result<
     Ok(new_out(alloc, name, room)?)
 }
 
-impl FileSet for MemFiles {
+impl<'w> FileSet<'w> for MemFiles {
     type In = MemIn;
 
     type Out = MemOut;
@@ -345,7 +344,7 @@ impl FileSet for MemFiles {
     ghost file = { λ _. None };
 
     /// Equal names alone stand for one file.
-    fn is_same(&mut self, one: &str, other: &str) -> bool
+    fn is_same(&mut self, one: &'w str, other: &'w str) -> bool
         ensures same { self.new ≡ self.old }
         ensures equal { result ≡ true ↔ (one.now ≡ other.now) }
     {
@@ -353,7 +352,7 @@ impl FileSet for MemFiles {
     }
 
     /// None is a stream.
-    fn check_streams(&mut self, _alloc: Global, _names: &[Option<&str>]) -> Result<(), OpenFault>
+    fn check_streams(&mut self, _alloc: Global, _names: &[Option<&'w str>]) -> Result<(), OpenFault>
         ensures same { self.new ≡ self.old }
         ensures ok { IsOk result }
     {
@@ -361,9 +360,9 @@ impl FileSet for MemFiles {
     }
 
     /// Opens a copy of a file's bytes. Refuses with `Read` (26) exactly if no file has the name.
-    fn open(&mut self, alloc: Global, name: &str) -> Result<MemIn, OpenFault>
+    fn open(&mut self, alloc: Global, name: &'w str) -> Result<MemIn, OpenFault>
         ensures kept { self.new ≡ record self.old {
-          events = self.old.events ++ Opened name.now ∷ [];
+          events = self.old.events ++ Open name.now ∷ [];
           outcomes = self.old.outcomes ++ opened_as shown_in size_in (Found name.now) name.now result;
         } }
         ensures found { IfOk result (λ s. entry_of self.old.entries name.now ≡ Some s.1.left) }
@@ -372,7 +371,7 @@ impl FileSet for MemFiles {
             ↔ (entry_of self.old.entries name.now ≡ None) }
         ensures faults { IfErr result (MemFails FileFault.Read) }
     {
-        self.log.note(Doing::Opened(name));
+        self.log.note(Doing::Open(name));
         let Some(bytes) = bytes_of(self.entries.as_slice(), name) else {
             self.log
                 .note(Doing::Refused(name, OpenFault::Fault(FileFault::Read)));
@@ -387,9 +386,9 @@ impl FileSet for MemFiles {
     }
 
     /// Opens a copy of a file's bytes, or of none if no file has the name.
-    fn open_or_empty(&mut self, alloc: Global, name: &str) -> Result<MemIn, OpenFault>
+    fn open_or_empty(&mut self, alloc: Global, name: &'w str) -> Result<MemIn, OpenFault>
         ensures kept { self.new ≡ record self.old {
-          events = self.old.events ++ Opened name.now ∷ [];
+          events = self.old.events ++ Open name.now ∷ [];
           outcomes = self.old.outcomes
               ++ opened_as shown_in size_in (FoundOrEmpty name.now) name.now result;
         } }
@@ -398,7 +397,7 @@ impl FileSet for MemFiles {
         ensures begun { IfOk result (λ s. (s.0 ≡ name.now) × (s.1.given ≡ [])) }
         ensures faults { OnErr result (result ≡ Err (Fault FileFault.Memory)) }
     {
-        self.log.note(Doing::Opened(name));
+        self.log.note(Doing::Open(name));
         let bytes = bytes_or_none(self.entries.as_slice(), name);
         let mut left = Tape::new();
         left.note(bytes);
@@ -427,17 +426,17 @@ impl FileSet for MemFiles {
     fn prepare(
         &mut self,
         _alloc: Global,
-        name: &str,
-        spared: Option<&str>,
+        name: &'w str,
+        spared: Option<&'w str>,
         _durability: Durability,
     ) -> Result<(), OpenFault>
         ensures ok { IsOk result }
         ensures kept { self.new ≡ record self.old {
           events = self.old.events
-              ++ Prepared name.now (option_map (λ s. s.now) spared.entry) ∷ [];
+              ++ Prepare name.now (option_map (λ s. s.now) spared.entry) ∷ [];
         } }
     {
-        self.log.note(Doing::Prepared(name, spared));
+        self.log.note(Doing::Prepare(name, spared));
         Ok(())
     }
 
@@ -446,19 +445,19 @@ impl FileSet for MemFiles {
     fn create(
         &mut self,
         alloc: Global,
-        name: &str,
+        name: &'w str,
         _durability: Durability,
     ) -> Result<MemOut, OpenFault>
         ensures made { IfOk result (λ o. o ≡ (name.now, empty_with self.old.room)) }
         ensures refused { IsErrOf result (Fault FileFault.Write)
             ↔ Contains self.old.refused name.now }
         ensures kept { self.new ≡ record self.old {
-          events = self.old.events ++ Created name.now ∷ [];
+          events = self.old.events ++ Create name.now ∷ [];
           outcomes = self.old.outcomes ++ made_as [] name.now result;
         } }
         ensures faults { IfErr result (MemFails FileFault.Write) }
     {
-        self.log.note(Doing::Created(name));
+        self.log.note(Doing::Create(name));
         let out = open_out(alloc, self.refused.as_slice(), name, self.room);
         if let Err(fault) = out {
             self.log.note(Doing::Refused(name, fault));
@@ -467,7 +466,7 @@ impl FileSet for MemFiles {
     }
 
     /// Refuses with `Write` (27) exactly if a file has the name.
-    fn check_absent(&mut self, name: &str) -> Result<(), OpenFault>
+    fn check_absent(&mut self, name: &'w str) -> Result<(), OpenFault>
         ensures refused { IsErrOf result (Fault FileFault.Write)
             ↔ (is_some (entry_of self.old.entries name.now) ≡ true) }
         ensures kept { self.new ≡ record self.old {
@@ -488,7 +487,7 @@ impl FileSet for MemFiles {
     fn create_new(
         &mut self,
         alloc: Global,
-        name: &str,
+        name: &'w str,
         _durability: Durability,
     ) -> Result<MemOut, OpenFault>
         ensures made { IfOk result (λ o. o ≡ (name.now, empty_with self.old.room)) }
@@ -496,12 +495,12 @@ impl FileSet for MemFiles {
             ↔ (Contains self.old.refused name.now
             ⊎ (is_some (entry_of self.old.entries name.now) ≡ true)) }
         ensures kept { self.new ≡ record self.old {
-          events = self.old.events ++ Made name.now ∷ [];
+          events = self.old.events ++ Make name.now ∷ [];
           outcomes = self.old.outcomes ++ made_as (Absent name.now ∷ []) name.now result;
         } }
         ensures faults { IfErr result (MemFails FileFault.Write) }
     {
-        self.log.note(Doing::Made(name));
+        self.log.note(Doing::Make(name));
         if self.get(name).is_some() {
             self.log
                 .note(Doing::Refused(name, OpenFault::Fault(FileFault::Write)));
@@ -557,12 +556,12 @@ impl FileSet for MemFiles {
         ensures faults { IsOkUnless result FileFault.Write }
         ensures kept { self.new ≡ record self.old {
           entries = self.new.entries;
-          events = self.old.events ++ Closed durability ∷ [];
+          events = self.old.events ++ Close durability ∷ [];
           outcomes = self.old.outcomes ++ written_as out.0 out.1.held result;
           ended = Some (ended_with out.1.held true);
         } }
     {
-        self.log.note(Doing::Closed(durability));
+        self.log.note(Doing::Close(durability));
         let MemOut { name, sink } = out;
         self.ended = Some(MemEnded::of(&sink, true));
         let mut own = Tape::new();
@@ -579,11 +578,11 @@ impl FileSet for MemFiles {
     /// Drops what the sink took, whatever that is.
     fn discard(&mut self, out: MemOut, durability: Durability)
         ensures kept { self.new ≡ record self.old {
-          events = self.old.events ++ Closed durability ∷ [];
+          events = self.old.events ++ Close durability ∷ [];
           ended = Some (ended_with out.1.held false);
         } }
     {
-        self.log.note(Doing::Closed(durability));
+        self.log.note(Doing::Close(durability));
         self.ended = Some(MemEnded::of(&out.sink, false));
         let _dropped = out;
     }
@@ -593,7 +592,7 @@ impl FileSet for MemFiles {
     fn replace(
         &mut self,
         alloc: Global,
-        name: &str,
+        name: &'w str,
         bytes: &[u8],
         durability: Durability,
     ) -> Result<(), FileFault>
@@ -603,11 +602,11 @@ impl FileSet for MemFiles {
         ensures faults { IfErr result (IsMemoryOr FileFault.Write) }
         ensures kept { self.new ≡ record self.old {
           entries = self.new.entries;
-          events = self.old.events ++ Replaced name.now durability ∷ [];
+          events = self.old.events ++ Replace name.now durability ∷ [];
           outcomes = self.old.outcomes ++ written_as name.now bytes.now result;
         } }
     {
-        self.log.note(Doing::Replaced(name, durability));
+        self.log.note(Doing::Replace(name, durability));
         if is_refused(self.refused.as_slice(), name) || bytes.len() > self.room {
             self.log
                 .note(Doing::Refused(name, OpenFault::Fault(FileFault::Write)));

@@ -23,7 +23,7 @@ pub record SinkView : Type 0 where
   pub taken : Taken
   pub failed : ℕ
   pub failing : Bool
-  pub settled : Bool
+  pub flushed : Bool
 
 -- ---- What a meter counts.
 
@@ -157,7 +157,7 @@ pub record Holding : Type 0 where
   pub calls : ℕ
   pub failures : ℕ
   pub failing : Bool
-  pub settled : Bool
+  pub flushed : Bool
 
 -- a put of these bytes; it fails by plan, or if there are bytes and no room
 abbrev pub Puts : Holding → List ℕ → Result ℕ Failed → Holding → Type 0
@@ -167,7 +167,7 @@ Puts old from (Ok n) new = (old.fail_call ≢ Some old.calls)
       held = old.held ++ take n from;
       calls = one_more old.calls;
       failing = false;
-      settled = false;
+      flushed = false;
     })
 Puts old from (Err failed) new = ((old.fail_call ≡ Some old.calls)
     ⊎ ((from ≢ []) × (length old.held ≡ old.room)))
@@ -179,7 +179,7 @@ Puts old from (Err failed) new = ((old.fail_call ≡ Some old.calls)
 
 abbrev pub Flushes : Holding → Result (Unit {0}) Failed → Holding → Type 0
 Flushes old (Ok done) new = (old.fail_call ≢ Some old.calls)
-    × (new ≡ record old { calls = one_more old.calls; failing = false; settled = true })
+    × (new ≡ record old { calls = one_more old.calls; failing = false; flushed = true })
 Flushes old (Err failed) new = (old.fail_call ≡ Some old.calls)
     × (new ≡ record old {
       calls = one_more old.calls;

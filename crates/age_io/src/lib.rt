@@ -3,12 +3,13 @@
 //! A `Source` gives bytes and a `Sink` takes them. Both count their failures. `Reading` and
 //! `Writing` are those over std's readers and writers, `MemSource` and `MemSink` those over memory,
 //! which also show contracts their bytes, and fail at a call that is planned. A `Metered` source
-//! reports to a `Meter` how many bytes each pull gave.
+//! reports to a `Meter` how many bytes each pull gave. `List` is what others keep elements in.
 #![tactic(auto)]
 
 mod durability;
 mod failed;
 mod failures;
+mod list;
 mod mem_sink;
 mod mem_source;
 mod meter;
@@ -20,6 +21,7 @@ mod tape;
 pub use durability::Durability;
 pub use failed::{Failed, Memory};
 pub use failures::Failures;
+pub use list::{Bytes, List};
 pub use mem_sink::MemSink;
 pub use mem_source::MemSource;
 pub use meter::Meter;

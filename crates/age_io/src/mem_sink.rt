@@ -21,7 +21,7 @@ pub struct MemSink {
     fail_call: Option<u64>,
     calls: u64,
     failures: Failures,
-    settled: bool,
+    flushed: bool,
 }
 
 impl Model for MemSink {
@@ -35,7 +35,7 @@ impl Model for MemSink {
       calls = s.calls;
       failures = s.failures.count;
       failing = s.failures.last;
-      settled = s.settled;
+      flushed = s.flushed;
     } };
 
     ghost invariant = { λ s. (length s.held.items ≤ s.room) × (s.room ≤ vec_capacity s.held)
@@ -61,7 +61,7 @@ impl MemSink {
           calls = 0;
           failures = 0;
           failing = false;
-          settled = false;
+          flushed = false;
         }) }
     {
         let held = Vec::with_capacity(alloc, room).map_err(|_| Memory)?;
@@ -72,7 +72,7 @@ impl MemSink {
             fail_call,
             calls: 0,
             failures: Failures::none(),
-            settled: false,
+            flushed: false,
         })
     }
 
@@ -97,7 +97,7 @@ impl Sink for MemSink {
       taken = holds s.held;
       failed = s.failures;
       failing = s.failing;
-      settled = s.settled;
+      flushed = s.flushed;
     } };
 
     fn put(&mut self, from: &[u8]) -> Result<usize, Failed>
@@ -113,12 +113,12 @@ impl Sink for MemSink {
         }
         // The room was reserved.
         self.held.extend_from_slice(&from[..n]).unwrap();
-        self.settled = false;
+        self.flushed = false;
         self.failures.note(Ok(n))
     }
 
     fn flush(&mut self) -> Result<(), Failed>
-        ensures settled { OnOk result (self.new.settled ≡ true) }
+        ensures flushed { OnOk result (self.new.flushed ≡ true) }
         ensures bytes { Keeps (holds self.old.held) (holds self.new.held) }
         ensures plan { Flushes self.old result self.new }
     {
@@ -127,7 +127,7 @@ impl Sink for MemSink {
         if self.fail_call == Some(call) {
             return self.failures.note(Err(Failed));
         }
-        self.settled = true;
+        self.flushed = true;
         self.failures.note(Ok(()))
     }
 

@@ -33,7 +33,7 @@ pub trait Sink {
 
     /// Sends on what was taken.
     fn flush(&mut self) -> Result<(), Failed>
-        ensures settled { OnOk result ((view self.new).settled ≡ true) }
+        ensures flushed { OnOk result ((view self.new).flushed ≡ true) }
         ensures bytes { Keeps (view self.old).taken (view self.new).taken }
         ensures counted { MatchResult result
             (λ _. (view self.new).failed ≡ (view self.old).failed)
@@ -82,7 +82,7 @@ impl<W: Write> Sink for Writing<W> {
       taken = record { bytes = s.1.1; contents = W.contents s.0; label = [] };
       failed = s.1.0.0;
       failing = s.1.0.1;
-      settled = true;
+      flushed = true;
     } };
 
     fn put(&mut self, from: &[u8]) -> Result<usize, Failed> {

@@ -16,8 +16,9 @@ use crate::fault::KeyFault;
 use crate::key::FileKey;
 use crate::open::{is_scrypt, mac_of};
 use crate::wrap::wrapped_key;
+use age_io::Bytes;
 use age_scrypt::Steps;
-use age_stanza::{Argument, Arguments, Bytes, Header, Stanza, Stanzas, read_base64};
+use age_stanza::{Argument, Arguments, Header, Stanza, Stanzas, read_base64};
 use base64::engine::general_purpose::STANDARD_NO_PAD;
 use std::alloc::{AllocError, Global};
 

@@ -11,9 +11,9 @@ use Rattle.age_machine.specs.declared.in_place.Opening.TheVariants as way
 use Rattle.age_machine.specs.declared.machine.Kind.{Kind}
 use Rattle.age_machine.specs.{Regular, sized, after_call, after_calls, IsAmong, MayLead, MayLeave, IsAnswered, AllAnswered, HasMade, SavesWhole, LeadsTo}
 use Rattle.age_machine.specs.{OutFile, opening_of, is_making, text_of, IsOn, AllOn, MayChange, IsClaimed, LocksFirst, TouchesFile, HasOneLock, IsUnchanged}
-use Rattle.age_machine.specs.{HasWritten, IsBegun, IsJustOpened, IsOut}
+use Rattle.age_machine.specs.{HasWritten, AlwaysHasWritten, IsJustOpened, IsOut}
 use Rattle.age_machine.specs.Disk.{Disk}
-use Rattle.age_machine.specs.inner.{IsHeld, IsInPlace, StaysHeld, RemovesAt, is_waited}
+use Rattle.age_machine.specs.inner.{IsHeld, IsAtPath, StaysHeld, RemovesAt, is_waited}
 use Rattle.age_machine.proofs.SaveLemmas.{path_same, file_same, file_other, led, leaves_fewer, leaves_new, leaves_synced, contains_first, contains_later}
 use Rattle.age_machine.proofs.SaveLemmas.{if_either, if_made, if_waited, saves_loudly, saves_none, saves_quietly, sized_within}
 
@@ -179,18 +179,18 @@ module _ (path : List ℕ) (n : ℕ) (is_stale : Bool) (text : List ℕ) (disk :
   holds_wrote : (part : List ℕ) → HasWritten path n is_stale (text ++ part) (after_call (Wrote n (length text) part) disk)
   holds_wrote part = grind (arith, common_steps, append-nil, drop_all, file_same, front, take_at)
 
-begun_wrote : (path : List ℕ) (n : ℕ) (is_stale : Bool) (text part : List ℕ) (calls : List FileCall) → IsBegun path n is_stale text calls
-    → IsBegun path n is_stale (text ++ part) (Wrote n (length text) part ∷ calls)
+begun_wrote : (path : List ℕ) (n : ℕ) (is_stale : Bool) (text part : List ℕ) (calls : List FileCall) → AlwaysHasWritten path n is_stale text calls
+    → AlwaysHasWritten path n is_stale (text ++ part) (Wrote n (length text) part ∷ calls)
 begun_wrote path n is_stale text part calls begun disk answers = holds_wrote path n is_stale text (after_calls calls disk) (begun disk answers.1) part
 
 -- it stays so while it is waited for
 pub begun_settled : (path : List ℕ) (n : ℕ) (is_stale : Bool) (text : List ℕ) (calls later : List FileCall)
-    → (later ≡ calls) ⊎ Waited (Synced n) (Unwaited n) calls later → IsBegun path n is_stale text calls → IsBegun path n is_stale text later
+    → (later ≡ calls) ⊎ Waited (Synced n) (Unwaited n) calls later → AlwaysHasWritten path n is_stale text calls → AlwaysHasWritten path n is_stale text later
 begun_settled path n is_stale text calls later either begun = grind (arith, common_steps, front, if_either)
 
 -- it has reached the disk
 pub place_waited : (path : List ℕ) (n : ℕ) (text : List ℕ) (calls waited : List FileCall)
-    → Waited (Synced n) (Unwaited n) calls waited → IsBegun path n false text calls → IsInPlace path n text waited
+    → Waited (Synced n) (Unwaited n) calls waited → AlwaysHasWritten path n false text calls → IsAtPath path n text waited
 place_waited path n text calls waited is begun = grind (arith, common_steps, file_same, if_waited)
 
 -- ---- What holds between the calls.
@@ -219,7 +219,7 @@ module _ (path : List ℕ) (n : ℕ) (opening : Opening) (is_stale is_lost is_cl
             length-append (text_of calls) part ∙ (ap (λ (k : ℕ). k + length part) out.written ∙ sym added);
         same = λ none. absurd (empty none);
         fresh = λ sound none. absurd (empty none);
-        begun = λ sound. subst (λ (k : ℕ). IsBegun path n is_stale (text_of calls ++ part) (Wrote n k part ∷ calls)) out.written
+        begun = λ sound. subst (λ (k : ℕ). AlwaysHasWritten path n is_stale (text_of calls ++ part) (Wrote n k part ∷ calls)) out.written
             (begun_wrote path n is_stale (text_of calls) part calls (out.begun (sym same ∙ sound)));
         lost = λ is. omega (arith, out.lost is, same);
         locked = (λ may. claimed, out.locked);
@@ -266,7 +266,7 @@ module _ (path : List ℕ) (n : ℕ) (opening : Opening) (is_stale is_lost is_cl
 
   -- after a call that changes nothing of what was written, which is something
   pub out_after : (stale lost : Bool) (now : ℕ) (later : List FileCall) → 0 < written
-      → StaysHeld path n call calls later → text_of later ≡ text_of calls → (now ≡ 0 → IsBegun path n stale (text_of calls) later)
+      → StaysHeld path n call calls later → text_of later ≡ text_of calls → (now ≡ 0 → AlwaysHasWritten path n stale (text_of calls) later)
       → (lost ≡ true → 0 < now) → IsOut path n call stale lost is_claimed written now later
   out_after stale lost now later some stays text begun caused = record {
     opened = held.opened;
@@ -274,7 +274,7 @@ module _ (path : List ℕ) (n : ℕ) (opening : Opening) (is_stale is_lost is_cl
     written = ap length text ∙ out.written;
     same = λ none. absurd (empty none);
     fresh = λ sound none. absurd (empty none);
-    begun = λ sound. subst (λ (l : List ℕ). IsBegun path n stale l later) (sym text) (begun sound);
+    begun = λ sound. subst (λ (l : List ℕ). AlwaysHasWritten path n stale l later) (sym text) (begun sound);
     lost = caused;
     locked = held.locked;
     claimed = λ is. held.claimed;
@@ -351,5 +351,5 @@ saves_discarded path n way.New calls later fresh removes same =
 
 -- ---- It was ended.
 
-pub leads_begun : (path : List ℕ) (n : ℕ) (bytes : List ℕ) (calls : List FileCall) → IsBegun path n false bytes calls → LeadsTo path n bytes calls
+pub leads_begun : (path : List ℕ) (n : ℕ) (bytes : List ℕ) (calls : List FileCall) → AlwaysHasWritten path n false bytes calls → LeadsTo path n bytes calls
 leads_begun path n bytes calls begun disk answers = let holds = begun disk answers in (holds.file, holds.whole refl, holds.is_lost)

@@ -11,7 +11,7 @@ use Rattle.age_machine.specs.{MayLeaveFile, MayLeave, Synced, Unwaited, Missing,
 use Rattle.age_machine.specs.{AtEachMoment, Throughout, SavesWhole, SparesFile, HasMade, IsLonger, IsWithin, AllWithin, Touches, IsSafe, LeadsTo, Replaces, HasBeside, Reclaims}
 use Rattle.age_machine.specs.Beside.{AllReclaimed}
 use Rattle.age_machine.specs.Disk.{Disk}
-use Rattle.age_machine.specs.inner.{Has, AllOf, IsAbout, HasTried, HasPlaced, Gets, Fills, IsInPlace, IsReady, WritesOver, CutsOff}
+use Rattle.age_machine.specs.inner.{Has, AllOf, IsAbout, HasTried, HasPlaced, Gets, Fills, IsAtPath, IsReady, WritesOver, CutsOff}
 use Rattle.std.proofs.lemmas.List.{append-nil, take_at, drop_at, take_all, drop-drop, length-take-le}
 use Rattle.std.proofs.lemmas.List.Elements.{Contains-append_left, Contains-append_right}
 use Rattle.std.proofs.lemmas.Result.{on_ok_weaker}
@@ -523,12 +523,12 @@ fills_closed n bytes old calls fills = record { on = λ path disk answers waited
 
 -- ---- How a file that was filled comes to its path.
 
-pub placed_closed : (path : List ℕ) (n : ℕ) (bytes : List ℕ) (calls : List FileCall) → IsInPlace path n bytes calls
-    → IsInPlace path n bytes (Closed n ∷ calls)
+pub placed_closed : (path : List ℕ) (n : ℕ) (bytes : List ℕ) (calls : List FileCall) → IsAtPath path n bytes calls
+    → IsAtPath path n bytes (Closed n ∷ calls)
 placed_closed path n bytes calls put =
     record { file = λ disk answers. put.file disk answers.1; has = λ disk answers waited. put.has disk answers.1 waited.1 }
 
-pub safe_named : (path : List ℕ) (n : ℕ) (bytes : List ℕ) (calls new : List FileCall) → IsInPlace path n bytes calls
+pub safe_named : (path : List ℕ) (n : ℕ) (bytes : List ℕ) (calls new : List FileCall) → IsAtPath path n bytes calls
     → Waited (SyncedNames path) (UnwaitedNames path) calls new → IsSafe path bytes new
 safe_named path n bytes calls new put = grind (arith, common_steps, if_waited, leaves_only, path_same)
 
@@ -627,7 +627,7 @@ module _ (path from : List ℕ) (n : ℕ) (bytes : List ℕ) (old : List FileCal
       (ready.has synced disk answers.1 waited.1)) (tried_ready to calls ready)
 
   -- where it is then
-  put_renamed : (calls new : List FileCall) → Ready calls → wanted ≡ wait.Synced → new ≡ Renamed from path ∷ calls → IsInPlace path n bytes new
+  put_renamed : (calls new : List FileCall) → Ready calls → wanted ≡ wait.Synced → new ≡ Renamed from path ∷ calls → IsAtPath path n bytes new
   put_renamed calls new ready synced is = grind (arith, common_steps, file_renamed)
 
   leads_renamed : (calls new : List FileCall) → Ready calls → new ≡ Renamed from path ∷ calls → LeadsTo path n bytes new
@@ -647,7 +647,7 @@ module _ (path from : List ℕ) (n : ℕ) (bytes : List ℕ) (old : List FileCal
 
   module _ {E : Type 0} where
     abbrev Placed : Spot → Result (Unit {0}) E → List FileCall → Type 0
-    Placed to r new = HasPlaced to wanted path from n bytes (IsInPlace path n bytes new) r old new
+    Placed to r new = HasPlaced to wanted path from n bytes (IsAtPath path n bytes new) r old new
 
     -- over what is there
     pub placed_taken : (r : Result (Unit {0}) E) (calls new : List FileCall) → Ready calls → MayHave (Renamed from path) calls new
@@ -677,11 +677,11 @@ module _ (path from : List ℕ) (n : ℕ) (bytes : List ℕ) (old : List FileCal
         → MayHave (Removed from) linked new → Placed spot.Free (Ok tt) new
     placed_linked calls linked new ready is may = record {
       tried = tried_removed spot.Free linked new ready.apart (tried_ready spot.Free linked (ready_may calls linked ready (inr is))) may;
-      done = λ synced. let put : IsInPlace path n bytes linked = rw is (record {
+      done = λ synced. let put : IsAtPath path n bytes linked = rw is (record {
         file = λ disk answers. file_linked n from path (after_calls calls disk) ready.apart (ready.file disk answers.1);
         has = λ disk answers waited. ready.has synced disk answers.1 waited.1;
       }) in
-          if_made (IsInPlace path n bytes) (Removed from) linked new put (record {
+          if_made (IsAtPath path n bytes) (Removed from) linked new put (record {
             file = λ disk answers. path_other from path None (after_calls linked disk).file ready.apart ∙ put.file disk answers.1;
             has = λ disk answers waited. put.has disk answers.1 waited.1;
           }) may;

@@ -15,8 +15,8 @@ pub record HasWritten (path : List ℕ) (n : ℕ) (is_stale : Bool) (text : List
   pub whole : is_stale ≡ false → disk.bytes n ≡ text
   pub is_lost : disk.is_lost n ≡ false
 
-abbrev pub IsBegun : List ℕ → ℕ → Bool → List ℕ → List FileCall → Type 0
-IsBegun path n is_stale text calls = (disk : Disk) → AllAnswered path calls disk
+abbrev pub AlwaysHasWritten : List ℕ → ℕ → Bool → List ℕ → List FileCall → Type 0
+AlwaysHasWritten path n is_stale text calls = (disk : Disk) → AllAnswered path calls disk
     → HasWritten path n is_stale text (after_calls calls disk)
 
 -- it was opened, and perhaps claimed
@@ -32,7 +32,7 @@ pub record IsOut (path : List ℕ) (n : ℕ) (opening : FileCall) (is_stale is_l
   pub written : length (text_of calls) ≡ count
   pub same : text_of calls ≡ [] → has_changed calls ≡ false
   pub fresh : failed ≡ 0 → text_of calls ≡ [] → IsJustOpened n opening calls
-  pub begun : failed ≡ 0 → IsBegun path n is_stale (text_of calls) calls
+  pub begun : failed ≡ 0 → AlwaysHasWritten path n is_stale (text_of calls) calls
   -- a call has failed after which what it holds can't be relied on
   pub lost : is_lost ≡ true → 0 < failed
   -- It was claimed before it was changed.

@@ -11,7 +11,7 @@ use crate::calls;
 use crate::folder::{Folder, check_same, folder_of};
 use crate::machine::{Kind, Machine, Shape, Sight};
 use crate::node::{Node, found_at, is_at};
-use crate::notes::{Calls, Failed, Word};
+use crate::notes::{Calls, FailedCalls, Word};
 use crate::retry::{TRIES, is_to_retry, too_many_tries};
 use crate::room::reclaim;
 use std::fs::{self, File, TryLockError};
@@ -76,7 +76,7 @@ pub fn sync(file: &File) -> io::Result<bool> {
 
 /// Waits until the names in the folder of a path have reached the disk; `false` if the machine has
 /// no way to. Fails if the folder can't be read.
-fn sync_folder(rt: &HostRuntime, path: &str) -> io::Result<bool> {
+pub fn sync_folder(rt: &HostRuntime, path: &str) -> io::Result<bool> {
     sync(&File::open(rt, folder_of(path))?)
 }
 
@@ -250,7 +250,7 @@ fn write_at(rt: &HostRuntime, file: &File, at: u64, bytes: &[u8]) -> io::Result<
 pub struct HostMachine {
     rt: HostRuntime,
     calls: Calls,
-    failed: Failed,
+    failed: FailedCalls,
     // A file system had no way to wait for a file.
     is_unwaited: bool,
 }
@@ -265,7 +265,7 @@ impl HostMachine {
         HostMachine {
             rt: *rt,
             calls: Calls::new(),
-            failed: Failed::new(),
+            failed: FailedCalls::new(),
             is_unwaited: false,
         }
     }
@@ -277,7 +277,7 @@ impl HostMachine {
         HostMachine {
             rt: self.rt,
             calls: self.calls.again(),
-            failed: Failed::new(),
+            failed: FailedCalls::new(),
             is_unwaited: self.is_unwaited,
         }
     }

@@ -10,8 +10,8 @@ ghost use Rattle.age_machine.specs.Calls.{UnwaitedNames, Waited};
 ghost use Rattle.age_machine.specs.Saves.{SavesWhole, IsSafe};
 ghost use Rattle.age_machine.specs.Outs.{opening_of, is_making, text_of, has_changed, IsClaimed};
 ghost use Rattle.age_machine.specs.Outs.{TouchesFile, IsThereAs};
-ghost use Rattle.age_machine.specs.Held.{IsBegun};
-ghost use Rattle.age_machine.specs.inner.Steps.{IsInPlace, StaysHeld, RemovesAt, is_waited};
+ghost use Rattle.age_machine.specs.Held.{AlwaysHasWritten};
+ghost use Rattle.age_machine.specs.inner.Steps.{IsAtPath, StaysHeld, RemovesAt, is_waited};
 
 use crate::beside::settle;
 use crate::machine::{Machine, Shape};
@@ -121,8 +121,8 @@ fn cut_stale<M: Machine>(
         → length (text_of (M.calls machine.old)) ≤ written → StaysHeld path (M.number file.now)
         opening (M.calls machine.old) (M.calls machine.new) }
     ensures cut { OnOk result ((path text : List ℕ) → length text ≡ written
-        → IsBegun path (M.number file.now) is_stale text (M.calls machine.old)
-        → IsBegun path (M.number file.now) false text (M.calls machine.new)) }
+        → AlwaysHasWritten path (M.number file.now) is_stale text (M.calls machine.old)
+        → AlwaysHasWritten path (M.number file.now) false text (M.calls machine.new)) }
     ensures text { text_of (M.calls machine.new) ≡ text_of (M.calls machine.old) }
     ensures counted { OnOk result (M.failed machine.new ≡ M.failed machine.old) }
     ensures caused { OnErr result (M.failed machine.old < M.failed machine.new) }
@@ -148,11 +148,11 @@ fn finish<M: Machine>(
         (M.number file.now) opening (M.calls machine.old) (M.calls machine.new) }
     ensures finished { OnOk result (durability ≡ wait.Synced → (path text : List ℕ)
         → length text ≡ shape.now.len
-        → IsBegun path (M.number file.now) is_stale text (M.calls machine.old)
-        → IsInPlace path (M.number file.now) text (M.calls machine.new)) }
+        → AlwaysHasWritten path (M.number file.now) is_stale text (M.calls machine.old)
+        → IsAtPath path (M.number file.now) text (M.calls machine.new)) }
     ensures begun { OnOk result ((path text : List ℕ) → length text ≡ shape.now.len
-        → IsBegun path (M.number file.now) is_stale text (M.calls machine.old)
-        → IsBegun path (M.number file.now) false text (M.calls machine.new)) }
+        → AlwaysHasWritten path (M.number file.now) is_stale text (M.calls machine.old)
+        → AlwaysHasWritten path (M.number file.now) false text (M.calls machine.new)) }
     ensures sure { OnOk result (is_some lost ≡ false) }
     ensures counted { M.failed machine.old ≤ M.failed machine.new }
     ensures caused { OnErr result ((is_some lost ≡ true)
@@ -206,8 +206,8 @@ fn close_named<M: Machine>(
         (Closed (M.number file.now) ∷ M.calls machine.old) (M.calls machine.new)) }
     ensures closed { OnOk result (Contains (M.calls machine.new) (Closed (M.number file.now))) }
     ensures begun { OnOk result ((text : List ℕ)
-        → IsBegun path.now (M.number file.now) false text (M.calls machine.old)
-        → IsBegun path.now (M.number file.now) false text (M.calls machine.new)) }
+        → AlwaysHasWritten path.now (M.number file.now) false text (M.calls machine.old)
+        → AlwaysHasWritten path.now (M.number file.now) false text (M.calls machine.new)) }
     ensures counted { M.failed machine.old ≤ M.failed machine.new }
     ensures caused { OnErr result (M.failed machine.old < M.failed machine.new) }
 {
@@ -485,6 +485,7 @@ impl<M: Machine + Drop> Out<M> {
         ensures there { self.failed ≡ 0 → OnOk result.end (IsThereAs self.file (text_of self.calls)
             (M.calls result.machine)) }
         ensures sure { OnOk result.end (self.is_lost ≡ false) }
+        ensures closed { OnOk result.end (Contains (M.calls result.machine) (Closed self.file.number)) }
         ensures within { TouchesFile self.file (M.calls result.machine) }
         ensures caused { OnErr result.end ((self.is_lost ≡ true)
             ⊎ (self.failed < M.failed result.machine)) }

@@ -24,6 +24,7 @@ pub use beside::{Beside, Unplaced, prepare_beside};
 pub use folder::{Folder, check_same, folder_of};
 pub use host::{
     HostFile, HostMachine, POSITION_MODE, above_streams, kept_above, lock, open_to_write, sync,
+    sync_folder,
 };
 pub use in_place::{Ended, Opening, Out};
 pub use laws::{

@@ -108,11 +108,11 @@ impl Calls {
 /// How many calls have failed, for contracts alone: a byte for each, on a tape that has none at run
 /// time.
 #[derive(Drop)]
-pub(crate) struct Failed {
+pub(crate) struct FailedCalls {
     tape: Tape,
 }
 
-impl Model for Failed {
+impl Model for FailedCalls {
     ghost use Rattle.std.specs.Prelude.{ℕ, length};
 
     ghost Value = { ℕ };
@@ -120,12 +120,12 @@ impl Model for Failed {
     ghost view = { λ failed. length failed.tape };
 }
 
-impl Failed {
+impl FailedCalls {
     /// None so far.
-    pub(crate) fn new() -> Failed
+    pub(crate) fn new() -> FailedCalls
         ensures { result ≡ 0 }
     {
-        Failed { tape: Tape::new() }
+        FailedCalls { tape: Tape::new() }
     }
 
     /// One more call has failed.

@@ -2,8 +2,9 @@
 //! that may take long.
 
 use crate::escaped::{Escaped, Leading};
-use crate::failures::Failures;
+use crate::failures::RunFailures;
 use crate::line::size_line;
+use age_cli_args::{ProgressOption, Request};
 use std::env::{Env, FillError};
 use std::io::{Eprint, IsTerminal};
 use std::rt::HostRuntime;
@@ -47,7 +48,7 @@ pub fn announce_reading(rt: &HostRuntime) {
 }
 
 /// Says that a passphrase is read from a terminal, which asks for nothing.
-pub fn announce_passphrase(rt: &HostRuntime, failures: &Failures<'_>, name: &str) {
+pub fn announce_passphrase(rt: &HostRuntime, failures: &RunFailures<'_>, name: &str) {
     let is_typed = match name {
         "/dev/tty" => true,
         "/dev/stdin" => rt.stdin().is_terminal(),
@@ -64,14 +65,16 @@ pub fn announce_passphrase(rt: &HostRuntime, failures: &Failures<'_>, name: &str
 /// takes long and progress is to be shown: that counts what is read of the input.
 pub fn announce_copying(
     rt: &HostRuntime,
-    failures: &Failures<'_>,
+    failures: &RunFailures<'_>,
     name: &str,
     length: Option<u64>,
 ) {
-    let length = length.unwrap_or(0);
+    let (length, Some(Request::Resume(asked))) = (length.unwrap_or(0), failures.asked) else {
+        return;
+    };
     if length < LONG
-        || !failures.has_word("--progress")
-        || failures.named_by("--old") != Some(name)
+        || asked.decrypting.paths.progress == ProgressOption::Silent
+        || asked.old != name
     {
         return;
     }
@@ -84,7 +87,7 @@ pub fn announce_copying(
 
 /// Says at a terminal that a run waits until what it wrote has reached the disk, if it read much: it
 /// wrote about as much.
-pub fn announce_sync(rt: &HostRuntime, failures: &Failures<'_>) {
+pub fn announce_sync(rt: &HostRuntime, failures: &RunFailures<'_>) {
     if failures.last_read.get().bytes >= LONG && rt.stderr().is_terminal() {
         let _ = eprintln!(rt; "age_tool: waiting for the disk");
     }

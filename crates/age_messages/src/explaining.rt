@@ -1,10 +1,12 @@
 //! What people read after a run, besides the line of its fault.
 
+use crate::asked::{Roles, has_name};
 use crate::escaped::{Escaped, Leading, Quoted};
-use crate::failures::{Amount, Failure, Failures};
+use crate::failures::{Amount, Failure, RunFailures};
 use crate::head::Work;
 use crate::heard::Heard;
 use crate::hints::Reported;
+use age_cli_args::Request;
 use age_io::Sink;
 use std::fmt::{self, Formatter};
 use std::io::{self, Eprint};
@@ -13,11 +15,13 @@ use std::rt::HostRuntime;
 /// Says on standard error why a run stopped, and what to do, in one line; whether a position was
 /// saved; or what is wrong with the words that were refused. Then, however it ended, what may
 /// surprise.
-pub fn explain<O: Sink>(rt: &HostRuntime, heard: &Heard<O>, failures: &Failures<'_>) {
+pub fn explain<O: Sink>(rt: &HostRuntime, heard: &Heard<O>, failures: &RunFailures<'_>) {
     let mut lines = heard.text().lines();
     match lines.next() {
         Some(line) => explain_end(rt, line, lines.next(), failures),
-        None if failures.is_inspecting() => tell_work(rt, failures),
+        None if matches!(failures.asked, None | Some(Request::Inspect(_))) => {
+            tell_work(rt, failures);
+        }
         None => {}
     }
     explain_words_taken(rt, failures);
@@ -25,7 +29,7 @@ pub fn explain<O: Sink>(rt: &HostRuntime, heard: &Heard<O>, failures: &Failures<
 }
 
 /// Says more of a fault, and of a second one; or of words that were refused.
-fn explain_end(rt: &HostRuntime, line: &str, second: Option<&str>, failures: &Failures<'_>) {
+fn explain_end(rt: &HostRuntime, line: &str, second: Option<&str>, failures: &RunFailures<'_>) {
     let by_pass = failures.named_by("--pass").is_some();
     let Some(fault) = Reported::of(line, by_pass) else {
         return explain_refusal(rt, line, failures);
@@ -38,23 +42,20 @@ fn explain_end(rt: &HostRuntime, line: &str, second: Option<&str>, failures: &Fa
 }
 
 /// Says of a word what it means here, if other programs take it for something else.
-fn explain_words_taken(rt: &HostRuntime, failures: &Failures<'_>) {
-    if failures.has_word("-") {
+fn explain_words_taken(rt: &HostRuntime, failures: &RunFailures<'_>) {
+    if has_name("-", failures.asked) {
         let _ = eprintln!(rt;
             "age_tool: - is a file of that name: the standard streams are /dev/stdin and \
              /dev/stdout"
         );
     }
-    if failures.has_key()
-        && failures.named_by("--max-log").is_some()
-        && failures.named_by("--pass").is_none()
-    {
+    if failures.has_idle_limit() {
         let _ = eprintln!(rt; "age_tool: --max-log does nothing without --pass");
     }
 }
 
 /// Says what may surprise in a file that was read or written.
-fn explain_files(rt: &HostRuntime, failures: &Failures<'_>) {
+fn explain_files(rt: &HostRuntime, failures: &RunFailures<'_>) {
     if let Some(name) = failures.cut_off.get() {
         let name = Leading(name.as_bytes());
         let _ = eprintln!(rt; "age_tool: {name}: it became shorter while it was read");
@@ -71,11 +72,10 @@ fn explain_files(rt: &HostRuntime, failures: &Failures<'_>) {
             "age_tool: {name}: its file system can't sync; it may not be on the disk yet"
         );
     }
-    if failures.is_of("encrypt")
-        && let Some(name) = failures.named_by("--pass")
-        && let Some(what) = failures.untypable()
+    if let Some(Request::Encrypt(asked)) = failures.asked
+        && let Some(what) = failures.typing.get().untypable()
     {
-        let name = Escaped(name.as_bytes());
+        let name = Escaped(asked.pass.as_bytes());
         let _ = eprintln!(rt;
             "age_tool: the passphrase in {name} has {what}, which can't be typed when age asks for it"
         );
@@ -83,7 +83,7 @@ fn explain_files(rt: &HostRuntime, failures: &Failures<'_>) {
 }
 
 /// Says how much memory the file that was read last asks for, if a passphrase opens it.
-fn tell_work(rt: &HostRuntime, failures: &Failures<'_>) {
+fn tell_work(rt: &HostRuntime, failures: &RunFailures<'_>) {
     if let Some(work) = failures.last_read.get().head.work() {
         let _ = eprintln!(rt; "age_tool: {work}");
     }
@@ -113,7 +113,7 @@ impl<'w> fmt::Display for About<'w> {
 }
 
 /// The file that a fault is about, if no failure of the machine names it.
-fn file_of<'w>(number: u8, failures: &Failures<'w>) -> About<'w> {
+fn file_of<'w>(number: u8, failures: &RunFailures<'w>) -> About<'w> {
     About(match number {
         1..=22 | 24 | 29 => Some(failures.last_read.get().name),
         23 | 30 => failures.named_by("--position"),
@@ -123,7 +123,7 @@ fn file_of<'w>(number: u8, failures: &Failures<'w>) -> About<'w> {
 }
 
 /// Says in one line what the machine answered, or else what is wrong with which file, and what to do.
-fn explain_fault(rt: &HostRuntime, fault: Reported<'_>, failures: &Failures<'_>) {
+fn explain_fault(rt: &HostRuntime, fault: Reported<'_>, failures: &RunFailures<'_>) {
     let number = fault.number;
     let more = more_of_failure(number, failures);
     tell_failure(rt, number, failures.first.get(), more);
@@ -173,10 +173,9 @@ fn tell_command(rt: &HostRuntime, saved: &str, old: &str) {
 
 /// Says where the position was saved and how to go on from there, or that none was saved though
 /// that was asked for.
-fn tell_position(rt: &HostRuntime, failures: &Failures<'_>) {
-    if let Some(saved) = failures.saved.get()
-        && let Some(output) = failures.output.get()
-    {
+fn tell_position(rt: &HostRuntime, failures: &RunFailures<'_>) {
+    if let Some(saved) = failures.saved.get() {
+        let output = failures.output.get();
         // (Where standard output went, the program can't say.)
         let old = if output == "/dev/stdout" {
             "OLD"
@@ -195,7 +194,7 @@ fn tell_position(rt: &HostRuntime, failures: &Failures<'_>) {
 }
 
 /// What follows what the machine answered.
-fn more_of_failure(number: u8, failures: &Failures<'_>) -> &'static str {
+fn more_of_failure(number: u8, failures: &RunFailures<'_>) -> &'static str {
     match failures.first.get() {
         _ if number == 27 && failures.is_left_empty.get() => {
             "; it is empty: a run that was killed may have left it"
@@ -210,7 +209,8 @@ fn more_of_failure(number: u8, failures: &Failures<'_>) -> &'static str {
             }
         }
         Some(first)
-            if first.is_unopened(io::ErrorKind::IsADirectory) && failures.is_of("encrypt") => {
+            if first.is_unopened(io::ErrorKind::IsADirectory)
+                && matches!(failures.asked, Some(Request::Encrypt(_))) => {
             "; to encrypt a folder, pack it first, as by tar"
         }
         _ => "",
@@ -218,14 +218,10 @@ fn more_of_failure(number: u8, failures: &Failures<'_>) -> &'static str {
 }
 
 /// Says which files were one, or what is wrong with one that was refused.
-fn explain_refusal(rt: &HostRuntime, line: &str, failures: &Failures<'_>) {
+fn explain_refusal(rt: &HostRuntime, line: &str, failures: &RunFailures<'_>) {
     let last = failures.last_read.get();
     match line.strip_prefix("age_tool: ").unwrap_or("") {
-        "same file named twice" => {
-            if let Some(twice) = failures.twice.get() {
-                let _ = eprintln!(rt; "age_tool: {twice}");
-            }
-        }
+        "same file named twice" => tell_twice(rt, failures),
         "bad file key" => {
             let _ = eprintln!(rt; "age_tool: --file-key takes 32 hexadecimal digits");
         }
@@ -242,6 +238,22 @@ fn explain_refusal(rt: &HostRuntime, line: &str, failures: &Failures<'_>) {
     }
 }
 
+/// Says which two names are of one file, or which options and operands have the same one.
+fn tell_twice(rt: &HostRuntime, failures: &RunFailures<'_>) {
+    let Some((name, other)) = failures.twice.get() else {
+        return;
+    };
+    let asked = failures.asked;
+    let (roles, one) = (Roles { asked, name }, Leading(name.as_bytes()));
+    let _ = match other.map(|it| Escaped(it.as_bytes())) {
+        Some(same) if other == Some(name) => {
+            eprintln!(rt; "age_tool: {roles} are the same file: {same}")
+        }
+        Some(other) => eprintln!(rt; "age_tool: {one} and {other} are the same file"),
+        None => eprintln!(rt; "age_tool: {one} is another file of this command too"),
+    };
+}
+
 /// Says what is wrong with a file that was read.
 fn tell_wrong(rt: &HostRuntime, file: Amount<'_>, what: &str) {
     let name = Leading(file.name.as_bytes());
@@ -249,14 +261,14 @@ fn tell_wrong(rt: &HostRuntime, file: Amount<'_>, what: &str) {
 }
 
 /// Says which line of a script was refused, or that one of several options has to be given.
-fn explain_words_left(rt: &HostRuntime, said: &str, failures: &Failures<'_>) {
+fn explain_words_left(rt: &HostRuntime, said: &str, failures: &RunFailures<'_>) {
     if let Some(number) = said.strip_prefix("bad script line ") {
-        let name = Leading(failures.read_before.get().as_bytes());
+        let name = Leading(failures.named_by("SCRIPT").unwrap_or("").as_bytes());
         let _ = eprintln!(rt;
             "age_tool: {name}:{number}: no line of a script, or it reaches past the payload's end"
         );
     } else if said.starts_with("give one of ") {
-        let said = if failures.named_by("--pass").is_some() || failures.has_key() {
+        let said = if failures.has_key() {
             "only one of them can be given"
         } else {
             "none of them was given; --pass takes the name of a file that holds the passphrase"

@@ -1,11 +1,10 @@
 //! What the machine answered when a run failed, for a line that says so.
 
-ghost use Rattle.std.specs.Prelude.{◌≡◌, ◌⊎◌, codes, IfSome};
-
+use crate::asked::given_to;
 use crate::escaped::{Escaped, Leading};
-use crate::head::Head;
-use crate::twice::Twice;
+use crate::head::FirstBytes;
 use crate::typing::Typing;
+use age_cli_args::{ClobberOption, Request};
 use arrayvec::ArrayString;
 use std::cell::Cell;
 use std::fmt::{self, Formatter, Write};
@@ -67,14 +66,6 @@ impl<'w> Failure<'w> {
     }
 }
 
-fn failed<'w>(action: Action, name: &'w str, error: io::Error) -> Option<Failure<'w>> {
-    Some(Failure {
-        action,
-        name,
-        error,
-    })
-}
-
 impl<'w> fmt::Display for Failure<'w> {
     fn fmt<W: fmt::Write>(&self, f: &mut Formatter<W>) -> fmt::Result {
         if self.action == Action::Keep {
@@ -123,7 +114,7 @@ fn show_error<W: fmt::Write>(error: io::Error, f: &mut Formatter<W>) -> fmt::Res
 pub struct Amount<'w> {
     pub name: &'w str,
     pub bytes: u64,
-    pub(crate) head: Head,
+    pub(crate) head: FirstBytes,
 }
 
 impl<'w> Amount<'w> {
@@ -132,111 +123,107 @@ impl<'w> Amount<'w> {
         Amount {
             name,
             bytes: 0,
-            head: Head::new(),
+            head: FirstBytes::new(),
         }
     }
 }
-
-/// Where random bytes come from if the command line names no file.
-const RANDOM: &str = "/dev/urandom";
 
 /// What failed in a run, for a line that says so: what failed first, what kept a position from
 /// being saved, or where it was saved, which names were found to be one file, which file was read
 /// last, and which one is written. The files of a run share it. No memory is needed for a failure,
 /// since the words of the command line have the names.
 #[derive(Drop)]
-pub struct Failures<'w> {
-    words: &'w [&'w str],
+pub struct RunFailures<'w> {
+    // What the command line asks for, if its words are taken.
+    pub(crate) asked: Option<Request<'w>>,
     pub(crate) first: Cell<Option<Failure<'w>>>,
     pub(crate) unsaved: Cell<Option<Failure<'w>>>,
-    pub(crate) saved: Cell<Option<&'w str>>,
-    pub(crate) twice: Cell<Option<Twice<'w>>>,
+    // Two names of one file; only one, if the other isn't known.
+    pub(crate) twice: Cell<Option<(&'w str, Option<&'w str>)>>,
     pub(crate) last_read: Cell<Amount<'w>>,
-    pub(crate) read_before: Cell<&'w str>,
-    pub(crate) output: Cell<Option<&'w str>>,
-    pub(crate) cut_off: Cell<Option<&'w str>>,
-    pub(crate) moved: Cell<Option<&'w str>>,
-    pub(crate) unwaited: Cell<Option<&'w str>>,
-    pub(crate) is_left_empty: Cell<bool>,
-    typing: Cell<Typing>,
+    pub(crate) typing: Cell<Typing>,
+    /// Where a position was saved.
+    pub saved: Cell<Option<&'w str>>,
+    /// Which file is written.
+    pub output: Cell<&'w str>,
+    /// A file that became shorter while it was read.
+    pub cut_off: Cell<Option<&'w str>>,
+    /// A file that was written, if its name leads to another file now, or to none.
+    pub moved: Cell<Option<&'w str>>,
+    /// A file that was written, if its file system can't wait for the disk.
+    pub unwaited: Cell<Option<&'w str>>,
+    /// Whether a file that isn't to be replaced is empty.
+    pub is_left_empty: Cell<bool>,
 }
 
-impl<'w> Failures<'w> {
-    /// None yet, of a run with these words on its command line.
-    pub fn new(words: &'w [&'w str]) -> Failures<'w> {
-        Failures {
-            words,
+impl<'w> RunFailures<'w> {
+    /// None yet, of a run whose command line asks for this; nothing, if its words are refused.
+    pub fn new(asked: Option<Request<'w>>) -> RunFailures<'w> {
+        RunFailures {
+            asked,
             first: Cell::new(None),
             unsaved: Cell::new(None),
-            saved: Cell::new(None),
             twice: Cell::new(None),
             last_read: Cell::new(Amount::none("")),
-            read_before: Cell::new(""),
-            output: Cell::new(None),
+            typing: Cell::new(Typing::new()),
+            saved: Cell::new(None),
+            output: Cell::new(""),
             cut_off: Cell::new(None),
             moved: Cell::new(None),
             unwaited: Cell::new(None),
             is_left_empty: Cell::new(false),
-            typing: Cell::new(Typing::new()),
         }
     }
 
-    /// The name as it ends a word of the command line.
-    pub fn word(&self, name: &str) -> &'w str
-        ensures { (result.now ≡ name.now) ⊎ (result.now ≡ codes "/dev/urandom") }
-    {
-        for word in self.words {
-            if let Some(end) = end_of(word, name) {
-                return end;
-            }
-        }
-        RANDOM
+    /// Whether an output that is there is refused.
+    pub fn keeps_outputs(&self) -> bool {
+        let clobber = match self.asked {
+            Some(Request::Encrypt(it)) => it.paths.clobber,
+            Some(Request::Decrypt(it)) => it.paths.clobber,
+            Some(Request::Resume(it)) => it.decrypting.paths.clobber,
+            _ => return false,
+        };
+        clobber == ClobberOption::Refused
     }
 
-    /// Whether this is a word of the command line.
-    pub fn has_word(&self, word: &str) -> bool {
-        self.words.iter().any(|it| *it == word)
+    /// Whether the command line gives a limit of work, and a key that takes none.
+    pub(crate) fn has_idle_limit(&self) -> bool {
+        let identity = match self.asked {
+            Some(Request::Decrypt(it)) => it.identity,
+            Some(Request::Resume(it)) => it.decrypting.identity,
+            _ => return false,
+        };
+        identity.max_log < 22 && identity.pass.is_none() && self.has_key()
     }
 
     /// Keeps a failure, if it is the first: what follows from it isn't why the run stopped.
     pub fn note(&self, action: Action, name: &'w str, error: io::Error) {
         if self.first.get().is_none() {
-            self.first.set(failed(action, name, error));
+            self.first.set(Some(Failure {
+                action,
+                name,
+                error,
+            }));
         }
     }
 
     /// Keeps why a position wasn't saved.
-    pub fn note_unsaved(&self, name: &str, error: io::Error) {
-        let name = self.word(name);
-        self.unsaved.set(failed(Action::Save, name, error));
+    pub fn note_unsaved(&self, name: &'w str, error: io::Error) {
+        let action = Action::Save;
+        self.unsaved.set(Some(Failure {
+            action,
+            name,
+            error,
+        }));
     }
 
-    /// Keeps where a position was saved.
-    pub fn note_saved(&self, name: &str) {
-        self.saved.set(Some(self.word(name)));
-    }
-
-    /// Keeps which file is written.
-    pub fn note_output(&self, name: &'w str) {
-        self.output.set(Some(name));
-    }
-
-    /// Keeps two names that are one file.
-    pub fn note_twice(&self, one: &str, other: &str) {
-        let (words, one, other) = (self.words, self.word(one), Some(self.word(other)));
-        self.twice.set(Some(Twice { words, one, other }));
-    }
-
-    /// Keeps a name of a file that is also standard error's, or has some other name.
-    pub fn note_used(&self, one: &str, is_for_faults: bool) {
-        let other = is_for_faults.then_some("standard error");
-        let (words, one) = (self.words, self.word(one));
-        self.twice.set(Some(Twice { words, one, other }));
+    /// Keeps two names of one file; only one, if the other isn't known.
+    pub fn note_twice(&self, one: &'w str, other: Option<&'w str>) {
+        self.twice.set(Some((one, other)));
     }
 
     /// Begins to count what is read of a file.
     pub fn begin_reading(&self, name: &'w str) {
-        self.read_before.set(self.last_read.get().name);
         if self.named_by("--pass") == Some(name) {
             self.typing.set(Typing::new());
         }
@@ -257,69 +244,15 @@ impl<'w> Failures<'w> {
         }
     }
 
-    /// What of the passphrase can't be typed, if there is something.
-    pub(crate) fn untypable(&self) -> Option<&'static str> {
-        self.typing.get().untypable()
+    /// What the command line gives to an option or an operand.
+    pub(crate) fn named_by(&self, role: &str) -> Option<&'w str> {
+        given_to(role, self.asked)
     }
 
-    /// Whether the words are of this command.
-    pub(crate) fn is_of(&self, command: &str) -> bool {
-        self.words.first() == Some(&command)
-    }
-
-    /// Whether the words are those of a run that reports on a header.
-    pub(crate) fn is_inspecting(&self) -> bool {
-        self.words.is_empty() || self.is_of("inspect")
-    }
-
-    /// Keeps the name of a file that became shorter while it was read.
-    pub fn note_cut_off(&self, name: &'w str) {
-        self.cut_off.set(Some(name));
-    }
-
-    /// Keeps the name of a file that was written, if another file or none is there now.
-    pub fn note_moved(&self, name: &'w str) {
-        self.moved.set(Some(name));
-    }
-
-    /// Keeps the name of a file that was written, if its file system can't wait for the disk.
-    pub fn note_unwaited(&self, name: &'w str) {
-        self.unwaited.set(Some(name));
-    }
-
-    /// Keeps that a file that isn't to be replaced is empty.
-    pub fn note_left_empty(&self) {
-        self.is_left_empty.set(true);
-    }
-
-    /// The file that an option names on the command line.
-    pub(crate) fn named_by(&self, option: &str) -> Option<&'w str> {
-        let mut is_next = false;
-        for word in self.words {
-            if is_next {
-                return Some(*word);
-            }
-            if let Some(rest) = word.strip_prefix(option) {
-                if let Some(name) = rest.strip_prefix('=') {
-                    return Some(name);
-                }
-                is_next = rest.is_empty();
-            }
-        }
-        None
-    }
-
-    /// Whether a key is given that is no passphrase.
+    /// Whether the command line says what opens a file.
     pub(crate) fn has_key(&self) -> bool {
-        self.named_by("--file-key").is_some() || self.named_by("--shared").is_some()
+        self.named_by("--pass").is_some()
+            || self.named_by("--file-key").is_some()
+            || self.named_by("--shared").is_some()
     }
-}
-
-/// The end of a word, if it is this name.
-fn end_of<'w>(word: &'w str, name: &str) -> Option<&'w str>
-    ensures { IfSome result (λ end. end.now ≡ name.now) }
-{
-    let at = word.len().checked_sub(name.len())?;
-    let end = word.get(at..)?;
-    if end == name { Some(end) } else { None }
 }

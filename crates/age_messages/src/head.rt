@@ -8,7 +8,7 @@ const KEPT_MAX: usize = 80;
 
 /// The first bytes of a file.
 #[derive(Clone, Copy)]
-pub(crate) struct Head {
+pub(crate) struct FirstBytes {
     kept: [u8; KEPT_MAX],
     len: usize,
 }
@@ -35,10 +35,10 @@ impl fmt::Display for Work {
     }
 }
 
-impl Head {
+impl FirstBytes {
     /// None yet.
-    pub(crate) fn new() -> Head {
-        Head {
+    pub(crate) fn new() -> FirstBytes {
+        FirstBytes {
             kept: [0; KEPT_MAX],
             len: 0,
         }

@@ -20,16 +20,11 @@ impl<'l> Reported<'l> {
         })
     }
 
-    /// Whether it is one of a header's first line.
-    pub(crate) fn is_at_first_line(&self) -> bool {
-        self.place == "line 1"
-    }
-
     /// What is wrong, with `@` for the place, and what to do. docs/FAULTS.md says to do the same.
     /// 11 names the work factor, and 26 and 27 what the machine answered.
     pub(crate) fn sentence(&self) -> &'static str {
         match self.number {
-            7 | 8 if self.is_at_first_line() => {
+            7 | 8 if self.place == "line 1" => {
                 "this may not be an age file: its first line has no newline"
             }
             12 | 13 => sentence_of_key(self.number, self.by_pass),

@@ -7,7 +7,7 @@
 //! is `--- ` and the 43 characters of the header's MAC. The binary payload follows at once.
 //!
 //! A [`Header`] has recipient [`Stanzas`] and a MAC. A [`Stanza`] has [`Arguments`], each an
-//! [`Argument`], and a body, which is [`Bytes`]. Each of the three is a [`List`].
+//! [`Argument`], and a body, which is `Bytes`. Each of the three is a `List` of `age_io`.
 //!
 //! [`HeadParser`] takes a file's bytes in pieces, however they are cut, and returns the header as
 //! soon as its last byte came, or the first fault with its line. It accepts exactly the texts of
@@ -24,7 +24,6 @@ mod head_step;
 mod header;
 mod laws;
 mod lengths;
-mod list;
 mod parser;
 mod partial;
 mod piece;
@@ -40,7 +39,6 @@ pub use header::{Header, Stanza, Stanzas};
 pub use laws::{
     alphabet, any_pieces, faults_stay, mac_text_is_front, one_fault, one_header, text_is_base64,
 };
-pub use list::{Bytes, List};
 pub use parser::HeadParser;
 pub use text::read_base64;
 pub use valid::{is_argument, is_header};

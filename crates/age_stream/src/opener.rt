@@ -60,14 +60,14 @@ impl<'k, B: ChunkBox, const SEALED: usize> OpenerState<'k, B, SEALED> {
             self.old result self.new }
     {
         let index = self.index;
-        if open_in(self.key, index, false, &mut self.buffer) {
+        if open_block(self.key, index, false, &mut self.buffer) {
             if index == CHUNK_LIMIT - 1 {
                 return Err(self.fail(StreamKind::TooManyChunks));
             }
             self.index = index + 1;
             return Ok(());
         }
-        if open_in(self.key, index, true, &mut self.buffer) {
+        if open_block(self.key, index, true, &mut self.buffer) {
             self.status = Status::LastSeen;
             return Ok(());
         }
@@ -134,7 +134,7 @@ impl<'k, B: ChunkBox, const SEALED: usize> OpenerState<'k, B, SEALED> {
         if is_empty_last(len, self.index) {
             return Err(self.fail(StreamKind::EmptyLast));
         }
-        if open_in(self.key, self.index, true, &mut self.buffer) {
+        if open_block(self.key, self.index, true, &mut self.buffer) {
             self.status = Status::Done;
             self.lent = true;
             return Ok(len - TAG_LEN);
@@ -360,7 +360,7 @@ impl<'k, B: ChunkBox, const SEALED: usize> Opener<'k, B, SEALED> {
 }
 
 /// Opens the block in the buffer in place.
-fn open_in<B: ChunkBox, const SEALED: usize>(
+fn open_block<B: ChunkBox, const SEALED: usize>(
     key: &B,
     index: u64,
     last: bool,

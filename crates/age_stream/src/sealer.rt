@@ -57,7 +57,7 @@ impl<'k, B: ChunkBox, const SEALED: usize> SealerState<'k, B, SEALED> {
 
     /// Takes the beginning of a piece; returns how many bytes, and whether the buffer now holds a
     /// sealed block.
-    fn step(&mut self, piece: &[u8]) -> Result<(usize, bool), StreamFault>
+    fn advance(&mut self, piece: &[u8]) -> Result<(usize, bool), StreamFault>
         requires { self.old.finished ≡ false }
         ensures { Steps B.sealing self.old piece.now result self.new }
     {
@@ -192,7 +192,7 @@ impl<'k, B: ChunkBox, const SEALED: usize> Sealer<'k, B, SEALED> {
             (IsTaken (text_length SEALED) self.old piece.now result)) }
         ensures takes { Takes B.sealing SEALED self.old piece.now result }
     {
-        let (taken, full) = self.state.step(piece)?;
+        let (taken, full) = self.state.advance(piece)?;
         let reached = self.state.index;
         if !full {
             return Ok(Step {

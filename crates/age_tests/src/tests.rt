@@ -1,4 +1,5 @@
 mod examples;
+mod primitives;
 mod refusals;
 mod streams;
 mod vectors;

@@ -7,11 +7,13 @@ mod faults;
 
 use crate::faults::row_of;
 use age_cli::run;
+use age_cli_args::read_request;
+use age_disk::{HostFiles, HostOut, Watched};
 use age_file::{Reading, Writing};
-use age_host::{
-    Failures, Heard, HostFiles, HostOut, LineStyle, ProgressLine, Watched, announce_reading,
-    explain, explain_words,
+use age_messages::{
+    Heard, LineStyle, ProgressLine, RunFailures, announce_reading, explain, explain_words,
 };
+use clap::error::ErrorKind;
 use std::alloc::Global;
 use std::io::{self, IsTerminal};
 use std::process::ExitCode;
@@ -74,8 +76,8 @@ fn print_row(rt: &HostRuntime, row: &str) -> ExitCode {
 /// streams, and returns its status.
 fn run_over<'r, 'w>(
     rt: &'r HostRuntime,
-    words: &[&str],
-    failures: &'r Failures<'w>,
+    words: &'w [&'w str],
+    failures: &'r RunFailures<'w>,
     faults: &mut Heard<HostOut>,
 ) -> u8 {
     let mut files = HostFiles::new(rt, failures);
@@ -93,9 +95,16 @@ fn run_over<'r, 'w>(
     )
 }
 
-/// The same, and says what the machine answered if that is why it failed.
+/// The same, and says what the machine answered if that is why it failed. What the words ask for is
+/// read here too, for these lines.
 fn run_words<'a>(rt: &'a HostRuntime, words: &'a [&'a str]) -> ExitCode {
-    let failures = Failures::new(words);
+    let asked = match read_request(rt.alloc(), words) {
+        Err(error) if error.kind() == ErrorKind::OutOfMemory => {
+            return unread(rt, &io::Error::from(io::ErrorKind::OutOfMemory));
+        }
+        read => read.ok().flatten(),
+    };
+    let failures = RunFailures::new(asked);
     let mut faults = Heard::new(HostOut::faults(rt));
     if words.is_empty() {
         announce_reading(rt);

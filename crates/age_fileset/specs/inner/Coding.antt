@@ -3,7 +3,7 @@ use Rattle.std.specs.Prelude.{◌≡◌, ℕ, Bool, false, List, [], ◌∷◌, 
 use Rattle.std.specs.Prelude.{get_or, unwrap_or}
 use Rattle.std.specs.Coded.{Coded, coded_ℕ, coded_bool, coded_list, coded_option, coded×, code_by}
 use Rattle.age_io.specs.declared.durability.Durability.TheVariants.{Synced, Buffered}
-use Rattle.age_fileset.specs.FileSet.{Event, Opened, Prepared, Created, Made, Replaced, Closed, Reading}
+use Rattle.age_fileset.specs.FileSet.{Event, Open, Prepare, Create, Make, Replace, Close, Reading}
 use Rattle.age_fileset.specs.FileSet.{Doings, Outcome, Found, FoundOrEmpty, Unread, Unwritten, Absent, Gave}
 use Rattle.age_fileset.specs.FileSet.{Settled, Put, Alike, OneStream, InUse, Terminal}
 
@@ -15,25 +15,25 @@ abbrev Parts : Type 0
 Parts = ℕ × (List ℕ × Option (List ℕ))
 
 abbrev split : Event → Parts
-split (Opened name) = (0, (name, None))
-split (Prepared name spared) = (1, (name, spared))
-split (Created name) = (2, (name, None))
-split (Made name) = (3, (name, None))
-split (Replaced name Synced) = (4, (name, None))
-split (Replaced name Buffered) = (5, (name, None))
-split (Closed Synced) = (6, ([], None))
-split (Closed Buffered) = (7, ([], None))
+split (Open name) = (0, (name, None))
+split (Prepare name spared) = (1, (name, spared))
+split (Create name) = (2, (name, None))
+split (Make name) = (3, (name, None))
+split (Replace name Synced) = (4, (name, None))
+split (Replace name Buffered) = (5, (name, None))
+split (Close Synced) = (6, ([], None))
+split (Close Buffered) = (7, ([], None))
 
 abbrev join : Parts → Event
-join (which, (name, spared)) = get_or {A = Event} (Opened name ∷ Prepared name spared ∷ Created name
-    ∷ Made name ∷ Replaced name Synced ∷ Replaced name Buffered ∷ Closed Synced ∷ Closed Buffered ∷ [])
-    which (Opened name)
+join (which, (name, spared)) = get_or {A = Event} (Open name ∷ Prepare name spared ∷ Create name
+    ∷ Make name ∷ Replace name Synced ∷ Replace name Buffered ∷ Close Synced ∷ Close Buffered ∷ [])
+    which (Open name)
 
 pub join-split : (e : Event) → join (split e) ≡ e
-join-split (Replaced name Synced) = refl
-join-split (Replaced name Buffered) = refl
-join-split (Closed Synced) = refl
-join-split (Closed Buffered) = refl
+join-split (Replace name Synced) = refl
+join-split (Replace name Buffered) = refl
+join-split (Close Synced) = refl
+join-split (Close Buffered) = refl
 join-split e = refl
 
 abbrev coded_event : Coded Event

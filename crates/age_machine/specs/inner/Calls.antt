@@ -7,10 +7,10 @@ use Rattle.age_machine.specs.Calls.{Removed, Reclaimed, SyncedNames, UnwaitedNam
 use Rattle.age_machine.specs.declared.machine.Kind.TheVariants.{Regular, Device}
 
 -- which call it is, its texts, and its numbers
-abbrev Parts : Type 0
-Parts = ℕ × ((List ℕ × List ℕ) × (ℕ × ℕ))
+abbrev CallParts : Type 0
+CallParts = ℕ × ((List ℕ × List ℕ) × (ℕ × ℕ))
 
-abbrev parts_of : FileCall → Parts
+abbrev parts_of : FileCall → CallParts
 parts_of (Made path n) = (0, ((path, []), (n, 0)))
 parts_of (Opened path n (Regular false)) = (1, ((path, []), (n, 0)))
 parts_of (Opened path n (Regular true)) = (2, ((path, []), (n, 0)))
@@ -32,7 +32,7 @@ parts_of (UnwaitedNames path) = (17, ((path, []), (0, 0)))
 parts_of (Closed n) = (18, (([], []), (n, 0)))
 parts_of (Reclaimed path) = (19, ((path, []), (0, 0)))
 
-abbrev from_parts : Parts → FileCall
+abbrev from_parts : CallParts → FileCall
 from_parts (which, ((one, other), (n, k))) =
     get_or {A = FileCall} (
     Made one n ∷ Opened one n (Regular false) ∷ Opened one n (Regular true) ∷ Opened one n Device
@@ -47,6 +47,6 @@ from_parts-parts_of (Opened path n Device) = refl
 from_parts-parts_of call = refl
 
 abbrev pub coded_call : Coded FileCall
-coded_call = code_by Parts
+coded_call = code_by CallParts
     (coded× coded_ℕ (coded× (coded× (coded_list coded_ℕ) (coded_list coded_ℕ)) (coded× coded_ℕ coded_ℕ)))
     parts_of from_parts from_parts-parts_of

@@ -83,7 +83,7 @@ pub record RemovesAt (path : List ℕ) (old new : List FileCall) : Type 0 where
 -- ---- From a file that was filled to one that is at its path.
 
 -- it is at the path
-pub record IsInPlace (path : List ℕ) (n : ℕ) (bytes : List ℕ) (calls : List FileCall) : Type 0 where
+pub record IsAtPath (path : List ℕ) (n : ℕ) (bytes : List ℕ) (calls : List FileCall) : Type 0 where
   pub file : (disk : Disk) → AllAnswered path calls disk → (after_calls calls disk).file path ≡ Some n
   pub has : (disk : Disk) → AllAnswered path calls disk → AllWaited calls
       → Has n bytes (after_calls calls disk)
@@ -119,4 +119,4 @@ abbrev pub Places : {E : Type 0} → Spot → (path from : List ℕ) → ℕ →
     → (before calls : List FileCall) → Type 0
 Places to path from n result before calls = (wanted : Durability) (bytes : List ℕ)
     (old : List FileCall) → IsReady wanted path from n bytes old before
-    → HasPlaced to wanted path from n bytes (IsInPlace path n bytes calls) result old calls
+    → HasPlaced to wanted path from n bytes (IsAtPath path n bytes calls) result old calls

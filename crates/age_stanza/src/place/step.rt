@@ -9,8 +9,8 @@ use crate::argument_line::arguments_of;
 use crate::fault::HeadKind;
 use crate::header::{Header, Stanza, Stanzas};
 use crate::lengths::{COLUMNS, LINE_BYTES, VERSION};
-use crate::list::Bytes;
 use crate::text::{decode_line, mac_of};
+use age_io::Bytes;
 use std::alloc::Global;
 
 /// The first line: the version, an armored file's first line, or no age file's.

@@ -1,11 +1,10 @@
 use Rattle.std.proofs.Common.{◌++◌, ◌∷◌, [], List, refl, None}
 use Rattle.age_file.specs.{ports}
-use Rattle.age_fileset.specs.{Event, Opened, Outcome, CameSince}
+use Rattle.age_fileset.specs.{Event, Open, Outcome, CameSince}
 use Rattle.age_fileset.proofs.{came_then, does_then}
 use Rattle.age_cli_args.specs.{option_text}
 use Rattle.age_cli_args.specs.declared.request.Request.TheVariants.{Decrypt}
 use Rattle.age_command.specs.{creating, identity_order, preparing}
-use Rattle.age_cli.specs.{paths_of}
 use Rattle.age_cli.proofs.{acts_judged, acts_unopened, concluded, acts_engine, did_came, came_did, fails_then, opens_as, unopened_as}
 use Rattle.age_cli.proofs.decrypt_command.decrypt_file.Goals as goal
 
@@ -17,7 +16,7 @@ pub returns-in_err-source-clause-acts : goal.returns-in_err-source-clause-acts
 returns-in_err-source-clause-acts g c =
     let judged = c.in_ok-identity.ensures.done in
     acts_unopened _ (Decrypt c.args.asked.now) _ _ _ _ _ {Bad = λ Came. ⊥} _ c.from_residual-in_err-source.ensures
-    (fails_then judged.1 judged.2 (λ so. unopened_as so None _) c.in_err-source.ensures.fails) (λ is no. absurd no) refl
+    (fails_then judged.1 judged.2 (λ so. unopened_as so None _) c.in_err-source.ensures.fails) (λ no. absurd no) refl
 
 pub returns-clause-acts : goal.returns-clause-acts
 returns-clause-acts g c =
@@ -25,17 +24,17 @@ returns-clause-acts g c =
     let view = g.F.FileSet.view in
     let old = view c.args.files.now in
     let mid = view c.open_both.new.files in
-    let new = view c.decrypt_opened.new.files in
+    let new = view c.decrypt_ready.new.files in
     let judged = c.in_ok-identity.ensures.done in
     let both = c.in_ok-source.ensures.done in
     let xs = identity_order (option_text d.identity.pass) (option_text d.identity.shared) in
-    let ys : List Event = Opened d.from.now ∷ preparing (option_text d.save) None in
+    let ys : List Event = Open d.paths.from.now ∷ preparing (option_text d.save) None in
     let source = c.in_ok-source.source in
     let before = ports (g.F.In.Source.view source) (g.F.Out.Sink.view c.in_ok-source.out) in
-    let did = does_then xs (ys ++ creating d.clobber d.to.now ∷ []) _ _ _ judged.1 both.1 in
-    let run = c.decrypt_opened.ensures.opened old (did_came did) in
-    let grows = concluded (option_text d.save) d.durability run.after.sink run.settled run.end mid new c.decrypt_opened.result run.concludes in
+    let did = does_then xs (ys ++ creating d.paths.clobber d.paths.to.now ∷ []) _ _ _ judged.1 both.1 in
+    let run = c.decrypt_ready.ensures.runs old (did_came did) tt in
+    let grows = concluded (option_text d.save) d.paths.durability run.after.sink run.end mid new c.decrypt_ready.result run.concludes in
     let last : (o : Outcome) → CameSince old mid o → CameSince old new o = came_then grows.puts old mid new grows.grows in
-    acts_engine _ (Decrypt d) old mid new _ _ _ _ (paths_of d) before c.decrypt_opened.result xs ys (g.F.FileSet.size source)
+    acts_engine _ (Decrypt d) old mid new _ _ _ _ d.paths before c.decrypt_ready.result xs ys (g.F.FileSet.size source)
     (record { source = source; sink = c.in_ok-source.out; is = refl }) both.0.0 (last _ (did_came judged.1 _ both.0.3)) (λ refused. last _ (did_came judged.1 _ (both.0.4 refused)))
     both.0.2 run did refl refl (λ P holds. (c.in_ok-identity.identity, opens_as (λ o came. last o (came_did both.1 o came)) judged.0, holds)) refl judged.2

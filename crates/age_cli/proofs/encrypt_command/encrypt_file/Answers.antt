@@ -1,7 +1,7 @@
 use Rattle.std.proofs.Common.{◌≡◌, ◌⊎◌, ◌++◌, ◌∷◌, [], ap, inl, inr, refl, subst, None, Some, List, Result}
 use Rattle.clap.specs.Words.{Text}
 use Rattle.age_file.specs.{ports}
-use Rattle.age_fileset.specs.{Event, FilesView, Opened, Outcome, CameSince, Does, Gave, reading_of}
+use Rattle.age_fileset.specs.{Event, FilesView, Open, Outcome, CameSince, Does, Gave, reading_of}
 use Rattle.age_fileset.proofs.{all_as, came_one, came_then, does_only, does_then, gave_puts, given_as}
 use Rattle.age_cli_args.specs.{option_text}
 use Rattle.age_cli_args.specs.declared.request.Request.TheVariants.{Encrypt}
@@ -19,15 +19,15 @@ use Rattle.age_cli.proofs.encrypt_command.encrypt_file.Goals as goal
 
 -- by the name of the random bytes
 abbrev order_with : Encrypting → Text → Order
-order_with a n = writing_order (Some a.pass.now) (Some n) None None (Some a.from.now) a.clobber (Some a.to.now) None a.durability
+order_with a n = writing_order (Some a.pass.now) (Some n) None None None a.paths
 
 abbrev FailsWith : Encrypting → FilesView → FilesView → Ending → Text → Type 0
-FailsWith a old new e n = FailsEarly (Opened a.pass.now ∷ Opened n ∷ []) (NamesTwice (order_with a n).apart) (λ Came. EndsBy Came ⊥
-    (λ x. ((x ≡ Usage SameFile) × NamesOne Came (order_with a n)) ⊎ (LacksMaterial Came a n x ⊎ IsUnusable Came (Some a.to.now) x))) old new e
+FailsWith a old new e n = FailsEarly (Open a.pass.now ∷ Open n ∷ []) (NamesTwice (order_with a n).apart) (λ Came. EndsBy Came ⊥
+    (λ x. ((x ≡ Usage SameFile) × NamesOne Came (order_with a n)) ⊎ (LacksMaterial Came a n x ⊎ IsUnusable Came (Some a.paths.to.now) x))) old new e
 
 abbrev DoneWith : Encrypting → Material → FilesView → FilesView → Text → Type 0
 DoneWith a m old new n =
-    IsMaterialGiven (CameSince old new) a n m × Does (Opened a.pass.now ∷ Opened n ∷ []) old new × (NamesTwice (order_with a n).apart → ⊥)
+    IsMaterialGiven (CameSince old new) a n m × Does (Open a.pass.now ∷ Open n ∷ []) old new × (NamesTwice (order_with a n).apart → ⊥)
 
 pub returns-in_err-material-clause-acts : goal.returns-in_err-material-clause-acts
 returns-in_err-material-clause-acts g c =
@@ -39,7 +39,7 @@ returns-in_err-source-clause-acts g c =
     let a = c.args.asked.now in
     let made = subst (DoneWith a c.in_ok-material.material _ _) c.random_name-random_name.ensures c.in_ok-material.ensures.done in
     acts_unopened _ (Encrypt a) _ _ _ _ _ {Bad = λ Came. ⊥} _ c.from_residual-in_err-source.ensures
-    (fails_then made.1 made.2 (λ so. unopened_as so (Some a.to.now) _) c.in_err-source.ensures.fails) (λ is no. absurd no) refl
+    (fails_then made.1 made.2 (λ so. unopened_as so (Some a.paths.to.now) _) c.in_err-source.ensures.fails) (λ no. absurd no) refl
 
 pub returns-clause-acts : goal.returns-clause-acts
 returns-clause-acts g c =
@@ -59,22 +59,22 @@ returns-clause-acts g c =
     let before = ports (In source) (Out c.in_ok-source.out) in
     let after = ports (In run.result.source) (Out run.new.out) in
     let did = c.end_output.ensures.concludes in
-    let xs : List Event = Opened a.pass.now ∷ Opened (random_name (option_text a.random)) ∷ [] in
-    let ys : List Event = Opened a.from.now ∷ [] in
-    let gave = Gave (reading_of a.from.now (In run.result.source)) in
-    let over = c.finish.ensures.over a.from.now (run.ensures.began a.from.now both.0.1.1) in
-    let ended : Does [] opened mid = does_only opened mid (gave ∷ []) over (gave_puts (reading_of a.from.now (In run.result.source))) in
-    let all = does_then xs (ys ++ creating a.clobber a.to.now ∷ []) _ _ _ made.1 both.1 in
-    let concludes = subst (λ (n : Result (Unit {0}) Interruption). Concludes None a.durability after.sink 0 n mid new c.end_output.result) c.sealing_end.ensures did in
-    let grows = concluded None a.durability after.sink 0 (sealing_end run.result.end) mid new c.end_output.result concludes in
+    let xs : List Event = Open a.pass.now ∷ Open (random_name (option_text a.random)) ∷ [] in
+    let ys : List Event = Open a.paths.from.now ∷ [] in
+    let gave = Gave (reading_of a.paths.from.now (In run.result.source)) in
+    let over = c.finish.ensures.over a.paths.from.now (run.ensures.began a.paths.from.now both.0.1.1) in
+    let ended : Does [] opened mid = does_only opened mid (gave ∷ []) over (gave_puts (reading_of a.paths.from.now (In run.result.source))) in
+    let all = does_then xs (ys ++ creating a.paths.clobber a.paths.to.now ∷ []) _ _ _ made.1 both.1 in
+    let concludes = subst (λ (n : Result (Unit {0}) Interruption). Concludes None a.paths.durability after.sink n mid new c.end_output.result) c.sealing_end.ensures did in
+    let grows = concluded None a.paths.durability after.sink (sealing_end run.result.end) mid new c.end_output.result concludes in
     let last : (o : Outcome) → CameSince old mid o → CameSince old new o = came_then grows.puts old mid new grows.grows in
     let then : (o : Outcome) → CameSince old opened o → CameSince old new o = λ o came. last o (came_did ended o came) in
     let given : (o : Outcome) → CameSince old _ o → CameSince old new o = λ o came. then o (came_did both.1 o came) in
     let size = g.F.FileSet.size source in
     acts_engine _ (Encrypt a) old opened new _ _ _ (encrypt_engine secret)
-    (record { from = a.from.now; to = a.to.now; save = None; clobber = a.clobber }) before c.end_output.result xs ys size
+    a.paths before c.end_output.result xs ys size
     (record { source = source; sink = c.in_ok-source.out; is = refl }) both.0.1.0 (then _ (did_came made.1 _ both.0.1.3)) (λ refused. then _ (did_came made.1 _ (both.0.1.4 refused))) both.0.1.2
-    (runs_sealed _ (CameSince old new) a secret before after opened mid new _ _ _ size 0 run.result.end c.end_output.result
+    (runs_sealed _ (CameSince old new) a.paths secret before after opened mid new _ _ _ size run.result.end c.end_output.result
     (record { source = run.result.source; sink = run.new.out; is = refl }) (last gave (did_came all gave (came_one opened mid gave (ap (λ v. v.outcomes) over)))) ended
     (run.ensures.done secret both.0.0) (run.ensures.fails secret both.0.0) concludes run.ensures.silent run.ensures.shown) all refl refl (λ P holds. (
       secret,

@@ -1,24 +1,24 @@
 use Rattle.std.proofs.Common.{◌∷◌, [], Some, ap, inl, inr, refl}
-use Rattle.age_fileset.specs.{Opened}
+use Rattle.age_fileset.specs.{Open}
 use Rattle.age_fileset.proofs.{all_as, does_then, given_as}
 use Rattle.age_cli.proofs.{blamed_for, came_did, did_came, ends_as, fails_for, fails_longer, fails_then, holds_as, opens_not}
 use Rattle.age_cli.proofs.encrypt_command.read_material.Goals as goal
 
 pub returns-in_err-check_names : goal.returns-in_err-check_names
 returns-in_err-check_names g c = opens_not c.from_residual.result c.from_residual.ensures
-    (fails_for (ends_as (λ o came. came) (λ no. no) (λ x same. inl same) _) (fails_longer (Opened c.args.asked.now.pass.now ∷ Opened c.args.random_name.now ∷ []) c.in_err-check_names.ensures.fails))
+    (fails_for (ends_as (λ o came. came) (λ no. no) (λ x same. inl same) _) (fails_longer (Open c.args.asked.now.pass.now ∷ Open c.args.random_name.now ∷ []) c.in_err-check_names.ensures.fails))
 
 pub returns-in_err-pass : goal.returns-in_err-pass
 returns-in_err-pass g c =
     let checked = c.in_ok-check_names.ensures.done in
     opens_not c.from_residual-in_err-pass.result c.from_residual-in_err-pass.ensures (fails_then checked.1 checked.2
-    (λ so. blamed_for c.args.writing.now so (λ x none. inl (none.0, holds_as so (λ bytes no. no) none.1)) _) (fails_longer (Opened c.args.random_name.now ∷ []) c.in_err-pass.ensures.fails))
+    (λ so. blamed_for c.args.writing.now so (λ x none. inl (none.0, holds_as so (λ bytes no. no) none.1)) _) (fails_longer (Open c.args.random_name.now ∷ []) c.in_err-pass.ensures.fails))
 
 pub returns-in_err-random : goal.returns-in_err-random
 returns-in_err-random g c =
     let checked = c.in_ok-check_names.ensures.done in
     opens_not c.from_residual-in_err-random.result c.from_residual-in_err-random.ensures
-    (fails_then (does_then [] (Opened c.args.asked.now.pass.now ∷ []) _ _ _ checked.1 c.in_ok-pass.ensures.done.1) checked.2
+    (fails_then (does_then [] (Open c.args.asked.now.pass.now ∷ []) _ _ _ checked.1 c.in_ok-pass.ensures.done.1) checked.2
     (λ so. blamed_for c.args.writing.now so (λ x none. inr (none.0, holds_as so (λ bytes no. no) none.1)) _) c.in_err-random.ensures.fails)
 
 pub returns : goal.returns
@@ -27,7 +27,7 @@ returns g c =
     let checked = c.in_ok-check_names.ensures.done in
     let pass = c.in_ok-pass.ensures.done in
     let random = c.in_ok-random.ensures.done in
-    let before = does_then [] (Opened a.pass.now ∷ []) _ _ _ checked.1 pass.1 in
+    let before = does_then [] (Open a.pass.now ∷ []) _ _ _ checked.1 pass.1 in
     let words = pass.0 in
     let parts = random.0.2 in
     record {
@@ -50,7 +50,7 @@ returns g c =
             };
           };
         },
-        does_then (Opened a.pass.now ∷ []) (Opened c.args.random_name.now ∷ []) _ _ _ before random.1,
+        does_then (Open a.pass.now ∷ []) (Open c.args.random_name.now ∷ []) _ _ _ before random.1,
         checked.2,
       );
       fails = tt;

@@ -1,6 +1,6 @@
 use Rattle.std.proofs.Common.{inl, inr, refl}
 use Rattle.age_io.specs.{Named}
-use Rattle.age_fileset.specs.{Found, Opened, reading_of}
+use Rattle.age_fileset.specs.{Found, Open, reading_of}
 use Rattle.age_command.proofs.{all_so, given_so}
 use Rattle.age_command.proofs.FileLemmas.{over_then}
 use Rattle.age_cli.proofs.{ends_as, fails_all, fails_for, opens_not, over_does, read_why, too_few}
@@ -15,7 +15,7 @@ returns-in_err-bytes g c =
     let source = c.in_ok-source.ensures.done in
     let over = c.finish.ensures.over name (c.read_first-read.ensures.began (Named name) source.0.1) in
     let last = g.F.In.Source.view c.read_first-read.new.source in
-    opens_not c.from_residual-in_err-bytes.result c.from_residual-in_err-bytes.ensures (fails_all (over_does (Found name) name (Opened name) _ _ _ source.1 last over) (λ no. absurd no)
+    opens_not c.from_residual-in_err-bytes.result c.from_residual-in_err-bytes.ensures (fails_all (over_does (Found name) name (Open name) _ _ _ source.1 last over) (λ no. absurd no)
     (read_why _ c.in_err-bytes.ensures.faults (λ is. inr (reading_of name last, over_then name _ _ _ (g.F.In.Source.view c.in_ok-source.source) last _ source.0.0 source.0.2 over, c.in_err-bytes.ensures.failed is))))
 
 pub returns-in-Some : goal.returns-in-Some
@@ -28,7 +28,7 @@ returns-in-Some g c =
     record {
       done = (
         (c.in_ok-bytes.bytes.items, given_so name _ _ _ first last _ source.0.0 source.0.2 over _ c.in_ok-bytes.ensures.first.read, rw c.as_slice.ensures.value at c.in-Some.ensures.parts),
-        over_does (Found name) name (Opened name) _ _ _ source.1 last over,
+        over_does (Found name) name (Open name) _ _ _ source.1 last over,
         (λ no. no),
       );
       fails = tt;
@@ -44,7 +44,7 @@ returns g c =
     let few = rw c.as_slice.ensures.value at c.in-None.ensures.none in
     record {
       done = tt;
-      fails = fails_all (over_does (Found name) name (Opened name) _ _ _ source.1 last over) (λ no. absurd no) (record {
+      fails = fails_all (over_does (Found name) name (Open name) _ _ _ source.1 last over) (λ no. absurd no) (record {
         cause = inl (
           refl,
           (

@@ -1,10 +1,11 @@
 use Rattle.std.proofs.Common.{inr, Ok}
 use Rattle.std.proofs.lemmas.Result.{on_ok_weaker, IfErr-weaker}
 use Rattle.age_io.specs.{Named}
-use Rattle.age_fileset.specs.{Opened, Found}
+use Rattle.age_fileset.specs.{Open, Found}
 use Rattle.age_fileset.proofs.{opened_does, opened_came, found_plain}
 use Rattle.age_cli.proofs.{over_does, was_read, fails_as, whole_report}
-use Rattle.age_cli.specs.{FailsFile, FailsInput}
+use Rattle.age_file.specs.{HeadFails, NoHeadFault}
+use Rattle.age_cli.specs.{FailsFile}
 use Rattle.age_cli.proofs.inspect_command.report_file.Goals as goal
 
 pub returns-in-Err-Fault-clause-does : goal.returns-in-Err-Fault-clause-does
@@ -19,7 +20,7 @@ pub returns-clause-does : goal.returns-clause-does
 returns-clause-does g c =
     let name = c.args.name.now in
     let In = g.F.In.Source.view in
-    over_does (Found name) name (Opened name) _ _ _ (opened_does In g.F.FileSet.size name (Found name) (found_plain name) _ _ c.open.result c.open.ensures.noted c.open.ensures.faults)
+    over_does (Found name) name (Open name) _ _ _ (opened_does In g.F.FileSet.size name (Found name) (found_plain name) _ _ c.open.result c.open.ensures.noted c.open.ensures.faults)
     (In c.report_as-reported.new.input) (c.finish.ensures.over name (c.report_as-reported.ensures.began (Named name) c.in-Ok.ensures.named))
 
 pub returns-clause-done : goal.returns-clause-done
@@ -28,18 +29,20 @@ returns-clause-done g c =
     let In = g.F.In.Source.view in
     let first = In c.in-Ok.source in
     on_ok_weaker c.report_as-reported.result
-    (λ told. record {
-      r = told.0;
-      first = first;
-      last = In c.report_as-reported.new.input;
-      reading = was_read (Found name) name (Opened name) _ _ _
-          (opened_does In g.F.FileSet.size name (Found name) (found_plain name) _ _ c.open.result c.open.ensures.noted c.open.ensures.faults) (In c.report_as-reported.new.input)
-          (c.finish.ensures.over name (c.report_as-reported.ensures.began (Named name) c.in-Ok.ensures.named)) first (g.F.FileSet.size c.in-Ok.source) c.in-Ok.ensures.begun
-          (opened_came In g.F.FileSet.size name (Found name) (found_plain name) _ _ (Ok c.in-Ok.source) c.in-Ok.ensures.noted);
-      whole = whole_report c.known_length-length.result first.supply _ told.0 c.known_length-length.ensures.seen told.1;
-      reports = rw c.known_length-length.ensures.is at told.1.reports;
-      wrote = told.2;
-    }) c.report_as-reported.ensures.done
+    (λ told. (
+      told.0,
+      record {
+        first = first;
+        last = In c.report_as-reported.new.input;
+        reading = was_read (Found name) name (Open name) _ _ _
+            (opened_does In g.F.FileSet.size name (Found name) (found_plain name) _ _ c.open.result c.open.ensures.noted c.open.ensures.faults) (In c.report_as-reported.new.input)
+            (c.finish.ensures.over name (c.report_as-reported.ensures.began (Named name) c.in-Ok.ensures.named)) first (g.F.FileSet.size c.in-Ok.source) c.in-Ok.ensures.begun
+            (opened_came In g.F.FileSet.size name (Found name) (found_plain name) _ _ (Ok c.in-Ok.source) c.in-Ok.ensures.noted);
+        whole = whole_report c.known_length-length.result first.supply _ told.0 c.known_length-length.ensures.seen told.1;
+        reports = rw c.known_length-length.ensures.is at told.1.reports;
+      },
+      told.2,
+    )) c.report_as-reported.ensures.done
 
 pub returns-clause-fails : goal.returns-clause-fails
 returns-clause-fails g c =
@@ -47,9 +50,9 @@ returns-clause-fails g c =
     let In = g.F.In.Source.view in
     let first = In c.in-Ok.source in
     let last = In c.report_as-reported.new.input in
-    let reading = was_read (Found name) name (Opened name) _ _ _
+    let reading = was_read (Found name) name (Open name) _ _ _
     (opened_does In g.F.FileSet.size name (Found name) (found_plain name) _ _ c.open.result c.open.ensures.noted c.open.ensures.faults) last
     (c.finish.ensures.over name (c.report_as-reported.ensures.began (Named name) c.in-Ok.ensures.named)) first (g.F.FileSet.size c.in-Ok.source) c.in-Ok.ensures.begun
     (opened_came In g.F.FileSet.size name (Found name) (found_plain name) _ _ (Ok c.in-Ok.source) c.in-Ok.ensures.noted) in
-    IfErr-weaker c.report_as-reported.result _ _ (λ e fails. fails_as (FailsInput first last) (FailsFile (g.F.FileSet.view c.args.files.now) (g.F.FileSet.view c.finish.new.self) name)
+    IfErr-weaker c.report_as-reported.result _ _ (λ e fails. fails_as (HeadFails NoHeadFault first last) (FailsFile (g.F.FileSet.view c.args.files.now) (g.F.FileSet.view c.finish.new.self) name)
     (g.O.Sink.view c.args.output.now) (g.O.Sink.view c.report_as-reported.new.output) (λ f so. inr (first, last, reading, so)) e fails) c.report_as-reported.ensures.fails

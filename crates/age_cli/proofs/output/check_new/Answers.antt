@@ -9,7 +9,7 @@ returns-in-Allowed g c = record { done = (tt, does_none _, (λ no. no)); fails =
 pub returns-in_err-check_absent-in-Refused : goal.returns-in_err-check_absent-in-Refused
 returns-in_err-check_absent-in-Refused g c =
     let fails = c.in_err-check_absent-in-Refused.ensures in
-    opens_not c.from_residual.result c.from_residual.ensures (absent_fails c.args.asked.now.to.now _ fails.noted fails.faults)
+    opens_not c.from_residual.result c.from_residual.ensures (absent_fails c.args.paths.now.to.now _ fails.noted fails.faults)
 
 pub returns-in_ok-check_absent-in-Refused : goal.returns-in_ok-check_absent-in-Refused
 returns-in_ok-check_absent-in-Refused g c = record { done = (tt, does_only _ _ [] c.in_ok-check_absent-in-Refused.ensures.noted none_plain, (λ no. no)); fails = tt }

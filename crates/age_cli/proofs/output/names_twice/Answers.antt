@@ -1,23 +1,21 @@
 use Rattle.std.proofs.Common.{[], ◌∷◌, List, Option, Some}
 use Rattle.clap.specs.Words.{Text}
 use Rattle.age_cli_args.specs.{option_text}
-use Rattle.age_command.specs.{apart_from}
-use Rattle.age_command.specs.Orders.{Apart}
 use Rattle.age_cli.specs.declared.output.Writing.{Writing}
 use Rattle.age_cli.proofs.{first_name, next_name}
 use Rattle.age_cli.proofs.output.names_twice.Goals as goal
 
 abbrev reads : Writing → List (Option Text)
-reads w = Some w.from.now ∷ option_text w.first ∷ option_text w.second ∷ option_text w.old ∷ []
+reads w = Some w.paths.from.now ∷ option_text w.first ∷ option_text w.second ∷ option_text w.old ∷ []
 
-abbrev outs : Writing → Apart
-outs w = apart_from (Some w.to.now) (option_text w.position ∷ reads w)
+abbrev outs : Writing → Option Text × List (Option Text)
+outs w = (Some w.paths.to.now, option_text w.position ∷ reads w)
 
-abbrev saves : Writing → Apart
-saves w = apart_from (option_text w.save) (Some w.to.now ∷ reads w)
+abbrev saves : Writing → Option Text × List (Option Text)
+saves w = (option_text w.save, Some w.paths.to.now ∷ reads w)
 
-abbrev olds : Writing → Apart
-olds w = apart_from (option_text w.old) (Some w.from.now ∷ [])
+abbrev olds : Writing → Option Text × List (Option Text)
+olds w = (option_text w.old, Some w.paths.from.now ∷ [])
 
 pub returns-then-is_one_of : goal.returns-then-is_one_of
 returns-then-is_one_of g c =

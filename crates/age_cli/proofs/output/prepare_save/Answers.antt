@@ -1,5 +1,5 @@
 use Rattle.std.proofs.Common.{[], Ok}
-use Rattle.age_fileset.specs.{Prepared}
+use Rattle.age_fileset.specs.{Prepare}
 use Rattle.age_cli_args.specs.{option_text}
 use Rattle.age_fileset.proofs.{made_does, does_none, none_plain}
 use Rattle.age_cli.proofs.{made_fails, opens_not}
@@ -9,13 +9,13 @@ pub returns-in_err-prepare-in-Some : goal.returns-in_err-prepare-in-Some
 returns-in_err-prepare-in-Some g c =
     let save = c.in-Some.save.now in
     rw c.in-Some.is (opens_not c.from_residual.result c.from_residual.ensures
-    (made_fails save _ (Prepared save (option_text c.args.asked.now.position)) c.in_err-prepare-in-Some.ensures.noted c.in_err-prepare-in-Some.ensures.faults))
+    (made_fails save _ (Prepare save (option_text c.args.asked.now.position)) c.in_err-prepare-in-Some.ensures.noted c.in_err-prepare-in-Some.ensures.faults))
 
 pub returns-in_ok-prepare-in-Some : goal.returns-in_ok-prepare-in-Some
 returns-in_ok-prepare-in-Some g c =
     let save = c.in-Some.save.now in
     rw c.in-Some.is (record {
-      done = (tt, made_does save (Prepared save (option_text c.args.asked.now.position)) [] none_plain _ _ (Ok (tt {0})) c.in_ok-prepare-in-Some.ensures.noted tt, (λ no. no));
+      done = (tt, made_does save (Prepare save (option_text c.args.asked.now.position)) [] none_plain _ _ (Ok (tt {0})) c.in_ok-prepare-in-Some.ensures.noted tt, (λ no. no));
       fails = tt;
     })
 

@@ -1,16 +1,19 @@
-use Rattle.std.proofs.Common.{◌∙◌, ap, inl, inr, refl, subst, Some, None}
+use Rattle.std.proofs.Common.{◌≡◌, ◌∙◌, ap, inl, inr, refl, subst, Some, None}
 use Rattle.clap.specs.Walk.{texts}
 use Rattle.age_cli_args.specs.Requests.{Requests}
 use Rattle.age_cli_args.specs.declared.request.Request.TheVariants.{Inspect, Encrypt, Decrypt, Resume, Drill}
+use Rattle.age_fileset.specs.{CameSince}
 use Rattle.age_fileset.proofs.{does_none}
-use Rattle.age_cli.specs.{FailsFile, FailsInput}
+use Rattle.age_command.specs.{IsUnreadable}
+use Rattle.age_file.specs.{HeadFails, NoHeadFault}
+use Rattle.age_cli.specs.{FailsFile}
 use Rattle.age_cli.proofs.{some_words, obeyed, asked_fails, for_help, help_done, help_fails, both_done, drill_acts, inspect_acts}
 use Rattle.age_cli.proofs.program.obey.Goals as goal
 
 pub returns-in-Ok-None-clause-obeys : goal.returns-in-Ok-None-clause-obeys
 returns-in-Ok-None-clause-obeys g c = inr (inr (record {
   done = tt;
-  stops = inl (refl, refl);
+  stops = inl (inl refl, refl);
   untouched = refl;
   unread = refl;
   silent = refl;
@@ -36,34 +39,37 @@ returns-in-Err-clause-obeys g c =
 
 pub returns-in-Inspect-Some-clause-obeys : goal.returns-in-Inspect-Some-clause-obeys
 returns-in-Inspect-Some-clause-obeys g c =
-    obeyed _ _ _ _ _ _ _ _ _ (Inspect (Some c.in-Inspect-Some.name)) (subst (Requests (texts c.args.words.now)) ((rw c.in-Ok-Some.field-0-is at c.in-Inspect-Some.is) ∙ ap Inspect (rw c.in-Inspect-Some.is at c.in-Inspect-Some.field-0-is)) (rw c.in-Ok-Some.field-0-is at c.in-Ok-Some.ensures.asked))
+    obeyed _ _ _ _ _ _ _ _ _ (Inspect (Some c.in-Inspect-Some.name)) (subst (Requests (texts c.args.words.now)) (c.in-Inspect-Some.is ∙ ap Inspect (rw c.in-Inspect-Some.is at c.in-Inspect-Some.field-0-is)) (rw c.in-Ok-Some.field-0-is at c.in-Ok-Some.ensures.asked))
     (inspect_acts _ _ _ _ _ c.report_file.result refl (Some c.in-Inspect-Some.name) (FailsFile (g.F.FileSet.view c.args.files.now) (g.F.FileSet.view c.report_file.new.files) c.in-Inspect-Some.name.now)
     (g.O.Sink.view c.args.output.now) (g.O.Sink.view c.report_file.new.output) c.report_file.ensures.does c.report_file.ensures.fails)
     (refl, record { done = both_done _ _ c.report_file.result c.report_file.ensures.done c.report_file.ensures.sent; stops = c.report_file.ensures.fails; unprinted = c.report_file.ensures.unprinted }, c.report_file.ensures.does)
 
 pub returns-in-Inspect-None-clause-obeys : goal.returns-in-Inspect-None-clause-obeys
 returns-in-Inspect-None-clause-obeys g c =
-    obeyed _ _ _ _ _ _ _ _ _ (Inspect None) (subst (Requests (texts c.args.words.now)) ((rw c.in-Ok-Some.field-0-is at c.in-Inspect-None.is) ∙ ap Inspect (rw c.in-Inspect-None.is at c.in-Inspect-None.field-0-is)) (rw c.in-Ok-Some.field-0-is at c.in-Ok-Some.ensures.asked))
-    (inspect_acts _ _ _ _ _ c.report-in-Inspect-None.result refl None (FailsInput (g.I.Source.view c.args.input.now) (g.I.Source.view c.report-in-Inspect-None.new.input))
+    obeyed _ _ _ _ _ _ _ _ _ (Inspect None) (subst (Requests (texts c.args.words.now)) (c.in-Inspect-None.is ∙ ap Inspect (rw c.in-Inspect-None.is at c.in-Inspect-None.field-0-is)) (rw c.in-Ok-Some.field-0-is at c.in-Ok-Some.ensures.asked))
+    (inspect_acts _ _ _ _ _ c.report-in-Inspect-None.result refl None (HeadFails NoHeadFault (g.I.Source.view c.args.input.now) (g.I.Source.view c.report-in-Inspect-None.new.input))
     (g.O.Sink.view c.args.output.now) (g.O.Sink.view c.report-in-Inspect-None.new.output) (does_none (g.F.FileSet.view c.args.files.now)) c.report-in-Inspect-None.ensures.fails)
     (record { done = both_done _ _ c.report-in-Inspect-None.result c.report-in-Inspect-None.ensures.done c.report-in-Inspect-None.ensures.sent; stops = c.report-in-Inspect-None.ensures.fails; unprinted = c.report-in-Inspect-None.ensures.unprinted }, refl)
 
 pub returns-in-Encrypt-clause-obeys : goal.returns-in-Encrypt-clause-obeys
 returns-in-Encrypt-clause-obeys g c =
-    obeyed _ _ _ _ _ _ _ _ _ (Encrypt c.in-Encrypt.asked) (subst (Requests (texts c.args.words.now)) (rw c.in-Ok-Some.field-0-is at c.in-Encrypt.is) (rw c.in-Ok-Some.field-0-is at c.in-Ok-Some.ensures.asked))
+    obeyed _ _ _ _ _ _ _ _ _ (Encrypt c.in-Encrypt.asked) (subst (Requests (texts c.args.words.now)) c.in-Encrypt.is (rw c.in-Ok-Some.field-0-is at c.in-Ok-Some.ensures.asked))
     c.encrypt_file.ensures.acts (refl, refl)
 
 pub returns-in-Decrypt-clause-obeys : goal.returns-in-Decrypt-clause-obeys
 returns-in-Decrypt-clause-obeys g c =
-    obeyed _ _ _ _ _ _ _ _ _ (Decrypt c.in-Decrypt.asked) (subst (Requests (texts c.args.words.now)) (rw c.in-Ok-Some.field-0-is at c.in-Decrypt.is) (rw c.in-Ok-Some.field-0-is at c.in-Ok-Some.ensures.asked))
+    obeyed _ _ _ _ _ _ _ _ _ (Decrypt c.in-Decrypt.asked) (subst (Requests (texts c.args.words.now)) c.in-Decrypt.is (rw c.in-Ok-Some.field-0-is at c.in-Ok-Some.ensures.asked))
     c.decrypt_file.ensures.acts (refl, refl)
 
 pub returns-in-Resume-clause-obeys : goal.returns-in-Resume-clause-obeys
 returns-in-Resume-clause-obeys g c =
-    obeyed _ _ _ _ _ _ _ _ _ (Resume c.in-Resume.asked) (subst (Requests (texts c.args.words.now)) (rw c.in-Ok-Some.field-0-is at c.in-Resume.is) (rw c.in-Ok-Some.field-0-is at c.in-Ok-Some.ensures.asked))
+    obeyed _ _ _ _ _ _ _ _ _ (Resume c.in-Resume.asked) (subst (Requests (texts c.args.words.now)) c.in-Resume.is (rw c.in-Ok-Some.field-0-is at c.in-Ok-Some.ensures.asked))
     c.resume_file.ensures.acts (refl, refl)
 
 pub returns-in-Drill-clause-obeys : goal.returns-in-Drill-clause-obeys
 returns-in-Drill-clause-obeys g c =
-    obeyed _ _ _ _ _ _ _ _ _ (Drill c.in-Drill.asked) (subst (Requests (texts c.args.words.now)) (rw c.in-Ok-Some.field-0-is at c.in-Drill.is) (rw c.in-Ok-Some.field-0-is at c.in-Ok-Some.ensures.asked))
-    (drill_acts _ _ _ _ _ c.drill_file.result refl c.in-Drill.asked c.drill_file.ensures.order c.drill_file.ensures.order_done) (refl, c.drill_file.ensures.sent, c.drill_file.ensures.silent, c.drill_file.ensures.one, c.drill_file.ensures.order)
+    obeyed _ _ _ _ _ _ _ _ _ (Drill c.in-Drill.asked) (subst (Requests (texts c.args.words.now)) c.in-Drill.is (rw c.in-Ok-Some.field-0-is at c.in-Ok-Some.ensures.asked))
+    (drill_acts _ _ _ _ _ c.drill_file.result refl (IsUnreadable (CameSince (g.F.FileSet.view c.args.files.now) (g.F.FileSet.view c.drill_file.new.files)))
+    (c.drill_file.new.output ≡ c.args.output.now) (g.O.Sink.view c.args.output.now) (g.O.Sink.view c.drill_file.new.output) c.in-Drill.asked c.drill_file.ensures.order
+    c.drill_file.ensures.order_done c.drill_file.ensures.ends)
+    (refl, c.drill_file.ensures.ends, c.drill_file.ensures.over, c.drill_file.ensures.one, c.drill_file.ensures.does)

@@ -1,11 +1,12 @@
-use Rattle.std.proofs.Common.{None, ◌++◌, ◌∷◌, [], inr, refl, Some, List}
+use Rattle.std.proofs.Common.{None, ◌++◌, ◌∷◌, [], refl, Some, List, subst}
+use Rattle.clap.specs.Words.{Text}
 use Rattle.age_file.specs.{ports, position_text}
-use Rattle.age_fileset.specs.{Event, Opened, Outcome, CameSince}
+use Rattle.age_fileset.specs.{Event, Open, Outcome, CameSince}
 use Rattle.age_fileset.proofs.{all_as, came_then, does_then, grows_by, grows_then}
 use Rattle.age_cli_args.specs.{option_text}
 use Rattle.age_cli_args.specs.declared.request.Request.TheVariants.{Resume}
 use Rattle.age_command.specs.{HoldsOnly, creating, identity_order, preparing, making}
-use Rattle.age_cli.specs.{CameFirst, HoldsNoPosition, paths_of}
+use Rattle.age_cli.specs.{CameFirst, HoldsNoPosition, PortsOf, decrypt_engine}
 use Rattle.age_cli.specs.inner.{IsUnopened}
 use Rattle.age_cli.proofs.{acts_judged, acts_unopened, acts_engine, concluded, did_came, came_did, ends_as, fails_longer, fails_then, first_came, holds_as, opens_as}
 use Rattle.age_cli.proofs.{taken_as, then_first, unopened_as}
@@ -15,22 +16,22 @@ pub returns-in_err-identity-clause-acts : goal.returns-in_err-identity-clause-ac
 returns-in_err-identity-clause-acts g c =
     acts_judged _ (Resume c.args.asked.now) _ _ _ _ _ _ _ c.from_residual.ensures refl c.in_err-identity.ensures.fails refl
 
-pub returns-in_err-position-clause-acts : goal.returns-in_err-position-clause-acts
-returns-in_err-position-clause-acts g c =
+pub returns-in_err-old-clause-acts : goal.returns-in_err-old-clause-acts
+returns-in_err-old-clause-acts g c =
     let r = c.args.asked.now in
     let d = r.decrypting in
     let judged = c.in_ok-identity.ensures.done in
-    acts_unopened _ (Resume r) _ _ _ _ _ {Bad = λ Came. HoldsOnly Came r.position.now HoldsNoPosition} _ c.from_residual-in_err-position.ensures
+    acts_unopened _ (Resume r) _ _ _ _ _ {Bad = λ Came. HoldsOnly Came r.position.now HoldsNoPosition} _ c.from_residual-in_err-old.ensures
     (fails_then judged.1 judged.2 (λ so. ends_as so (holds_as so (λ bytes no. no)) (taken_as so None) _)
-    (fails_longer (Opened d.from.now ∷ (preparing (option_text d.save) (Some r.position.now) ++ making d.clobber (Some d.to.now) d.durability)) c.in_err-position.ensures.fails))
-    (λ is bad. inr (is, bad)) refl
+    (fails_longer (Open d.paths.from.now ∷ (preparing (option_text d.save) (Some r.position.now) ++ making d.paths.clobber d.paths.to.now d.paths.durability)) c.in_err-old.ensures.fails))
+    (λ bad. bad) refl
 
 pub returns-in_err-source-clause-acts : goal.returns-in_err-source-clause-acts
 returns-in_err-source-clause-acts g c =
     let judged = c.in_ok-identity.ensures.done in
     acts_unopened _ (Resume c.args.asked.now) _ _ _ _ _ {Bad = λ Came. ⊥} _ c.from_residual-in_err-source.ensures
-    (fails_then judged.1 judged.2 (λ so. unopened_as so None _) (fails_then {Why = IsUnopened None} c.in_ok-position.ensures.done.1 (λ no. no) (λ so. unopened_as so None _) c.in_err-source.ensures.fails))
-    (λ is no. absurd no) refl
+    (fails_then judged.1 judged.2 (λ so. unopened_as so None _) (fails_then {Why = IsUnopened None} c.in_ok-old.ensures.done.1 (λ no. no) (λ so. unopened_as so None _) c.in_err-source.ensures.fails))
+    (λ no. absurd no) refl
 
 pub returns-clause-acts : goal.returns-clause-acts
 returns-clause-acts g c =
@@ -42,29 +43,31 @@ returns-clause-acts g c =
     let old = view c.args.files.now in
     let then = view c.open_earlier.new.files in
     let mid = view c.open_both.new.files in
-    let new = view c.resume_opened.new.files in
+    let new = view c.decrypt_ready.new.files in
     let judged = c.in_ok-identity.ensures.done in
-    let earlier = c.in_ok-position.ensures.done in
+    let earlier = c.in_ok-old.ensures.done in
     let both = c.in_ok-source.ensures.done in
     let source = c.in_ok-source.source in
     let before = ports (In source) (Out c.in_ok-source.out) in
     let xs = identity_order (option_text d.identity.pass) (option_text d.identity.shared) in
-    let two : List Event = Opened r.position.now ∷ Opened r.old.now ∷ [] in
-    let ys : List Event = two ++ (Opened d.from.now ∷ preparing (option_text d.save) (Some r.position.now)) in
-    let rest : List Event = Opened d.from.now ∷ (preparing (option_text d.save) (Some r.position.now) ++ creating d.clobber d.to.now ∷ []) in
+    let two : List Event = Open r.position.now ∷ Open r.old.now ∷ [] in
+    let ys : List Event = two ++ (Open d.paths.from.now ∷ preparing (option_text d.save) (Some r.position.now)) in
+    let rest : List Event = Open d.paths.from.now ∷ (preparing (option_text d.save) (Some r.position.now) ++ creating d.paths.clobber d.paths.to.now ∷ []) in
     let opened = does_then two rest _ _ _ earlier.1 both.1 in
     let did = does_then xs (two ++ rest) _ _ _ judged.1 opened in
-    let run = c.resume_opened.ensures.opened old (did_came did) earlier.0.1 (did_came judged.1 _ (came_did both.1 _ earlier.0.3)) in
-    let grows = concluded (option_text d.save) d.durability run.after.sink run.settled run.end mid new c.resume_opened.result run.concludes in
+    let position = c.in_ok-old.old.position in
+    let run = c.decrypt_ready.ensures.runs old (did_came did) (earlier.0.3.0, did_came judged.1 _ (came_did both.1 _ earlier.0.3.1)) in
+    let grows = concluded (option_text d.save) d.paths.durability run.after.sink run.end mid new c.decrypt_ready.result run.concludes in
     let last : (o : Outcome) → CameSince old mid o → CameSince old new o = came_then grows.puts old mid new grows.grows in
     let later : (o : Outcome) → CameSince then mid o → CameSince old new o = λ o came. last o (did_came judged.1 o (did_came earlier.1 o came)) in
-    acts_engine _ (Resume r) old mid new _ _ _ _ (paths_of d) before c.resume_opened.result xs ys (g.F.FileSet.size source)
+    acts_engine _ (Resume r) old mid new _ _ _ _ d.paths before c.decrypt_ready.result xs ys (g.F.FileSet.size source)
     (record { source = source; sink = c.in_ok-source.out; is = refl }) both.0.0 (later _ both.0.3) (λ refused. later _ (both.0.4 refused)) both.0.2 run did refl refl (λ P holds. (
       c.in_ok-identity.identity,
       opens_as (λ o came. last o (came_did opened o came)) judged.0,
-      c.in_ok-position.position,
+      position,
       all_as (CameSince _ then) (CameFirst old new) (λ o came. then_first old _ new (grows_by xs old _ judged.1) o
           (first_came _ _ then new (grows_by two _ then earlier.1) (grows_then [] grows.puts then mid new (grows_by rest then mid both.1) grows.grows) o came)) r.position.now
-          (position_text c.in_ok-position.position) earlier.0.0,
-      holds,
+          (position_text position) earlier.0.0,
+      subst (λ (n : Text). P (decrypt_engine (PortsOf In Out) (CameSince old new) (option_text d.save) c.in_ok-identity.identity (Some (record { position = position; name = n }))) d.paths)
+          earlier.0.1 holds,
     )) refl judged.2

@@ -1,6 +1,6 @@
 use Rattle.std.proofs.Common.{◌∷◌, [], Err, inl, Ok}
 use Rattle.age_io.specs.{Named}
-use Rattle.age_fileset.specs.{Opened, Found, Gave, reading_of}
+use Rattle.age_fileset.specs.{Open, Found, Gave, reading_of}
 use Rattle.age_fileset.proofs.{does_only, does_then, opened_does, opened_came, opened_unread, opened_in_use, found_plain, gave_puts}
 use Rattle.age_command.proofs.{this_error, given_if, long_if}
 use Rattle.age_command.proofs.first_bytes.read_file.Goals as goal
@@ -23,14 +23,14 @@ pub returns-in_err-read-clause-does : goal.returns-in_err-read-clause-does
 returns-in_err-read-clause-does g c =
     let name = c.args.name.now in
     let In = g.F.In.Source.view in
-    does_then (Opened name ∷ []) [] _ _ _ (opened_does In g.F.FileSet.size name (Found name) (found_plain name) _ _ c.open.result c.open.ensures.noted c.open.ensures.faults)
+    does_then (Open name ∷ []) [] _ _ _ (opened_does In g.F.FileSet.size name (Found name) (found_plain name) _ _ c.open.result c.open.ensures.noted c.open.ensures.faults)
     (does_only _ _ (Gave (reading_of name (In c.read_up_to-read.new.source)) ∷ []) (c.finish.ensures.over name (c.read_up_to-read.ensures.began (Named name) c.in_ok-source.ensures.named)) (gave_puts _))
 
 pub returns-clause-does : goal.returns-clause-does
 returns-clause-does g c =
     let name = c.args.name.now in
     let In = g.F.In.Source.view in
-    does_then (Opened name ∷ []) [] _ _ _ (opened_does In g.F.FileSet.size name (Found name) (found_plain name) _ _ c.open.result c.open.ensures.noted c.open.ensures.faults)
+    does_then (Open name ∷ []) [] _ _ _ (opened_does In g.F.FileSet.size name (Found name) (found_plain name) _ _ c.open.result c.open.ensures.noted c.open.ensures.faults)
     (does_only _ _ (Gave (reading_of name (In c.read_up_to-read.new.source)) ∷ []) (c.finish.ensures.over name (c.read_up_to-read.ensures.began (Named name) c.in_ok-source.ensures.named)) (gave_puts _))
 
 pub returns-clause-given : goal.returns-clause-given

@@ -48,4 +48,4 @@ returns-clause-decrypts g c =
     let goes = fed_all opens chunk_length _ _ _ c.use_all.new.self _ c.bytes.ensures.bytes c.use_all.ensures.pulls c.turns.invariant.goes
     c.use_all.ensures.bytes c.in_ok-feed_piece.ensures.fed c.in_ok-feed_piece.ensures.goes in
     let ends = pulled_none opens chunk_length _ _ _ c.use_all.ensures.bytes goes (rw c.if-not-branch.true at c.in_ok-refill.ensures.refills) in
-    pour_ended seals opens box_valid chunk_length (omega arith) _ _ _ _ _ _ _ c.finish.result ends c.finish.ensures.ends c.finish.ensures.settled
+    pour_ended seals opens box_valid chunk_length (omega arith) _ _ _ _ _ _ _ c.finish.result ends c.finish.ensures.ends c.finish.ensures.flushed

@@ -106,5 +106,5 @@ returns-clause-sealed g c =
       };
       counted = refl;
       fails = tt;
-      settled = c.in_ok-finish.ensures.settled;
+      flushed = c.in_ok-finish.ensures.flushed;
     }

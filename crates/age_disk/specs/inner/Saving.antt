@@ -1,0 +1,12 @@
+-- What was done for a file that was replaced, at once or directly. Private: no public contract cites this module.
+use Rattle.std.specs.Prelude.{◌≡◌, ℕ, List, None, IsSomeAnd, Result, OnOk}
+use Rattle.age_io.specs.declared.durability.Durability.{Durability}
+use Rattle.age_machine.specs.Saved.{Saves}
+use Rattle.age_disk.specs.Outputs.{WritesDirectly}
+use Rattle.age_disk.specs.declared.saving.Saved.{Saved}
+
+-- the bytes were put to a path at once, or else written directly
+pub record SavesBytes {E : Type 0} (bytes : List ℕ) (durability : Durability)
+    (result : Result (Unit {0}) E) (s : Saved) : Type 0 where
+  pub saves : Saves bytes durability result s.file
+  pub direct : s.file.path ≡ None → OnOk result (IsSomeAnd s.direct (WritesDirectly bytes))

@@ -1,0 +1,143 @@
+//! Which files and streams are in use, so that none is used twice.
+
+ghost use Rattle.std.specs.Prelude.{◌≡◌, ◌≢◌, [], true, Some, Err, IfOk, IfErr, IsErr, OnOk, IfSome, IsSomeAnd};
+ghost use Rattle.std.specs.Prelude.{Contains};
+ghost use Rattle.age_fault.specs.declared.fault.FileFault.TheVariants.{Read, Write, Memory};
+ghost use Rattle.age_fileset.specs.{OpenFails};
+ghost use Rattle.age_fileset.specs.declared.files.OpenFault.TheVariants.{SameFile};
+ghost use Rattle.age_disk.specs.{IsApart, HasAll};
+ghost use Rattle.age_disk.specs.declared.names.FileId.{FileId};
+
+use crate::names::{FileId, StandardStream, StreamId};
+use crate::output::HostOut;
+use crate::prepare::Prepared;
+use age_fault::FileFault;
+use age_fileset::OpenFault;
+use age_io::Durability;
+use age_messages::RunFailures;
+use std::alloc::Global;
+use std::io;
+use std::rt::HostRuntime;
+
+/// Whether this is the file to which standard error leads.
+pub(crate) fn is_for_faults(rt: &HostRuntime, id: Option<FileId>) -> bool {
+    id.is_some() && id == FileId::of_stream(rt, StandardStream::Faults)
+}
+
+/// Keeps a stream, if it is none of those that were kept before.
+pub(crate) fn keep_stream(kept: &mut Vec<StreamId>, stream: StreamId) -> Result<(), OpenFault>
+    ensures faults { IfErr result (OpenFails Read) }
+    ensures only { result ≡ Err SameFile → kept.old.items ≢ [] }
+{
+    if kept.iter().any(|other| other.is_same(stream)) {
+        return Err(OpenFault::SameFile);
+    }
+    Ok(kept.push(stream).map_err(|_| FileFault::Memory)?)
+}
+
+/// Whether two names lead to one stream.
+fn is_one_stream(alloc: Global, rt: &HostRuntime, one: &str, other: &str) -> io::Result<bool> {
+    let one = StreamId::at(alloc, rt, one)?;
+    let other = StreamId::at(alloc, rt, other)?;
+    Ok(matches!((one, other), (Some(one), Some(other)) if one.is_same(other)))
+}
+
+/// The name among those that are given that leads to the same stream as this one.
+pub(crate) fn find_same<'n>(
+    alloc: Global,
+    rt: &HostRuntime,
+    others: &[Option<&'n str>],
+    name: &str,
+) -> io::Result<Option<&'n str>> {
+    for other in others.iter() {
+        if let Some(other) = *other
+            && is_one_stream(alloc, rt, other, name)?
+        {
+            return Ok(Some(other));
+        }
+    }
+    Ok(None)
+}
+
+/// Whether this is a file that was opened.
+pub(crate) fn is_known(opened: &[FileId], id: Option<FileId>) -> bool
+    ensures known { (one : FileId) → id ≡ Some one → Contains opened.now one → result ≡ true }
+    ensures only { result ≡ true → IsSomeAnd id (Contains opened.now) }
+{
+    match id {
+        Some(id) => opened.contains(&id),
+        None => false,
+    }
+}
+
+/// Fails if this is a file that was opened, or standard error's.
+pub(crate) fn check_unused(
+    rt: &HostRuntime,
+    opened: &[FileId],
+    id: Option<FileId>,
+) -> io::Result<()>
+    ensures { (one : FileId) → id ≡ Some one → Contains opened.now one → IsErr result }
+{
+    if is_known(opened, id) || is_for_faults(rt, id) {
+        return Err(io::Error::from(io::ErrorKind::AlreadyExists));
+    }
+    Ok(())
+}
+
+/// Keeps which file was opened.
+pub(crate) fn keep(opened: &mut Vec<FileId>, id: Option<FileId>) -> Result<(), FileFault>
+    ensures memory { IfErr result (λ fault. fault ≡ Memory) }
+    ensures known { OnOk result (IfSome id (Contains opened.new.items)) }
+    ensures before { HasAll opened.old.items opened.new.items }
+{
+    if let Some(id) = id {
+        opened.push(id)?;
+    }
+    Ok(())
+}
+
+/// Keeps which file was opened to be written, if it is none of those that were opened before.
+fn admit(opened: &mut Vec<FileId>, id: Option<FileId>) -> Result<(), OpenFault>
+    ensures apart { (one : FileId) → id ≡ Some one → Contains opened.old.items one
+        → result ≡ Err SameFile }
+    ensures only { result ≡ Err SameFile → IsSomeAnd id (Contains opened.old.items) }
+    ensures faults { IfErr result (OpenFails Write) }
+{
+    if is_known(opened.as_slice(), id) {
+        return Err(OpenFault::SameFile);
+    }
+    Ok(keep(opened, id)?)
+}
+
+/// Keeps a file that was opened to be written, if it is none of those that were opened or prepared
+/// before; otherwise it is as it was before, and its name is kept, with the other one if that is known.
+pub(crate) fn admit_out<'w>(
+    rt: &HostRuntime,
+    opened: &mut Vec<FileId>,
+    prepared: &[Prepared<'w>],
+    name: &'w str,
+    out: HostOut,
+    failures: &RunFailures<'w>,
+) -> Result<HostOut, OpenFault>
+    ensures same { IfOk result (λ o. o ≡ out) }
+    ensures apart { IfOk result (IsApart opened.old.items) }
+    ensures faults { IfErr result (OpenFails Write) }
+{
+    let id = out.id();
+    let other = prepared.iter().find(|p| p.is_of(rt, id));
+    let admitted = match other {
+        Some(_) => Err(OpenFault::SameFile),
+        None => admit(opened, id),
+    };
+    match admitted {
+        Ok(()) => Ok(out),
+        Err(fault) => {
+            match other {
+                Some(other) => failures.note_twice(other.name(), Some(name)),
+                None => failures.note_twice(name, None),
+            }
+            out.discard(rt, Durability::Buffered);
+            Err(fault)
+        }
+    }
+}

@@ -1,0 +1,2 @@
+pub mod DrillLemmas
+pub use DrillLemmas.*

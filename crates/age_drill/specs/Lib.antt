@@ -1,0 +1,3 @@
+pub mod Drills
+pub mod inner
+pub use Drills.{DrillEnds, RefusesDrill}

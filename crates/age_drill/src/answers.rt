@@ -1,0 +1,110 @@
+//! What is held after each line of a script.
+
+ghost use Rattle.std.specs.Prelude.{◌≡◌, ◌∷◌, [], IfOk, None, Some};
+ghost use Rattle.std.specs.String.{string_bytes};
+ghost use Rattle.age_drill.specs.Drills.{DrillEnds, drill_text};
+ghost use Rattle.age_drill.specs.inner.{PrintsAnswer};
+
+use crate::script::ScriptLine;
+use age_command::{Ending, put_bytes};
+use age_fault::{FileFault, flush_all};
+use age_io::Sink;
+use age_stream::{ChunkBox, Delivery, Memory, Replay, Status};
+use std::alloc::{AllocError, Global};
+
+/// A line of the output: the number of the script's line, where the reader stands, and how many
+/// bytes are held.
+fn answer(alloc: Global, number: usize, status: Status, held: usize) -> Result<String, AllocError>
+    ensures { IfOk result (λ t. string_bytes t ≡ drill_text number ((Some status, held) ∷ [])) }
+{
+    match status {
+        Status::Open => format!(in alloc; "{number} open {held}\n"),
+        Status::LastSeen => format!(in alloc; "{number} last {held}\n"),
+        Status::Done => format!(in alloc; "{number} done {held}\n"),
+        Status::Failed(fault) => {
+            let fault = fault.number();
+            format!(in alloc; "{number} failed-{fault} {held}\n")
+        }
+    }
+}
+
+/// The same after a restart that was refused.
+fn refusal(alloc: Global, number: usize, held: usize) -> Result<String, AllocError>
+    ensures { IfOk result (λ t. string_bytes t ≡ drill_text number ((None, held) ∷ [])) }
+{
+    format!(in alloc; "{number} refused-25 {held}\n")
+}
+
+/// The bytes of a piece, as far as the payload has them.
+fn part(payload: &[u8], offset: usize, len: usize) -> &[u8] {
+    let rest = &payload[offset.min(payload.len())..];
+    &rest[..len.min(rest.len())]
+}
+
+/// Inverts all bits of a byte of the payload.
+fn flip(payload: &mut [u8], offset: usize) {
+    if offset < payload.len() {
+        payload[offset] = !payload[offset];
+    }
+}
+
+/// Obeys a line of the script.
+fn obey_line<B: ChunkBox, const SEALED: usize>(
+    replay: &mut Replay<'_, B, SEALED>,
+    payload: &mut [u8],
+    line: ScriptLine,
+) -> Result<(), Memory> {
+    match line {
+        ScriptLine::Piece { offset, len } => {
+            replay.take(&Delivery::Piece(part(payload, offset, len)))
+        }
+        ScriptLine::Flip { offset } => {
+            flip(payload, offset);
+            Ok(())
+        }
+        ScriptLine::End => replay.take(&Delivery::End),
+        ScriptLine::Restart { index } => replay.take(&Delivery::Restart(index)),
+    }
+}
+
+/// Obeys a line of the script, and writes a line for it.
+fn answer_line<B: ChunkBox, O: Sink, const SEALED: usize>(
+    alloc: Global,
+    replay: &mut Replay<'_, B, SEALED>,
+    payload: &mut [u8],
+    number: usize,
+    line: ScriptLine,
+    output: &mut O,
+) -> Result<(), FileFault>
+    ensures { PrintsAnswer number (O.view output.old) (O.view output.new) (output.new ≡ output.old) result }
+{
+    let refused = replay.refused();
+    if obey_line(replay, payload, line).is_err() {
+        return Err(FileFault::Memory);
+    }
+    let held = replay.text().len();
+    if replay.refused() > refused {
+        let text = refusal(alloc, number, held)?;
+        return put_bytes(output, text.as_bytes());
+    }
+    let text = answer(alloc, number, replay.status(), held)?;
+    put_bytes(output, text.as_bytes())
+}
+
+/// Obeys each line of the script, and writes a line for it.
+pub(crate) fn answer_lines<B: ChunkBox, O: Sink, const SEALED: usize>(
+    alloc: Global,
+    replay: &mut Replay<'_, B, SEALED>,
+    payload: &mut [u8],
+    lines: &[ScriptLine],
+    output: &mut O,
+) -> Result<(), Ending>
+    ensures { DrillEnds ⊥ (λ _. ⊥) ⊥ (O.view output.old) (O.view output.new) result }
+{
+    let mut number = 0;
+    for line in lines {
+        number += 1;
+        answer_line(alloc, replay, payload, number, *line, output)?;
+    }
+    Ok(flush_all(output)?)
+}

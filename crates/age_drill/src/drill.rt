@@ -1,0 +1,267 @@
+//! The command that delivers a payload by a script.
+
+ghost use Rattle.std.specs.Prelude.{◌≡◌, ◌<◌, ◌≤◌, ◌∷◌, [], List, IfOk, IfErr, OnOk, length, is_some, true};
+ghost use Rattle.age_io.specs.{Origin};
+ghost use Rattle.age_chunk.specs.{block_length, tag_length};
+ghost use Rattle.age_fileset.specs.{CameSince, Does, Event, Gave, Open, Reading};
+ghost use Rattle.age_command.specs.{Follows, IsUnreadable, RefusesAtOnce, opening_event, order_asked};
+ghost use Rattle.age_cli_args.specs.{option_text};
+ghost use Rattle.age_cli_args.specs.declared.request.Drilling.{Drilling as DrillingView};
+ghost use Rattle.age_cli_args.specs.declared.request.Request.TheVariants.{Drill};
+ghost use Rattle.age_drill.specs.{DrillEnds, RefusesDrill};
+ghost use Rattle.age_drill.specs.inner.{EndsUnopened, FailsBy, RefusesDelivery};
+ghost use Rattle.age_stanza.specs.{HasText, reading};
+
+use crate::answers::answer_lines;
+use crate::script::{SCRIPT_MAX, has_too_many_lines, read_lines};
+use age_cli_args::Drilling;
+use age_command::{
+    Choice, Ending, OwnPassphrase, Usage, fill_first, passphrase_in, read_file, read_up_to,
+};
+use age_fault::FileFault;
+use age_fileset::FileSet;
+use age_io::{Sink, Source};
+use age_keys::{
+    FileKey, KeyFault, PAYLOAD_NONCE_LEN, PayloadKey, Steps, WORK_FACTOR_LIMIT, open_header,
+    payload_key,
+};
+use age_stanza::{HEAD_MAX, HeadParser, HeadStep, Header};
+use age_stream::{BLOCK_LEN, ChunkBox, ClearBox, Replay};
+use std::alloc::Global;
+
+/// The most bytes of a payload.
+const PAYLOAD_MAX: usize = 16_777_216;
+
+/// The most bytes of a file that are read: one more than the longest header and payload have.
+const BYTES_MAX: usize = HEAD_MAX + PAYLOAD_NONCE_LEN + PAYLOAD_MAX + 1;
+
+/// The length of a block of a payload in the clear.
+const CLEAR_LEN: usize = 20;
+
+/// The passphrase in its file, if one is named.
+fn read_passphrase<'w, F: FileSet<'w>>(
+    alloc: Global,
+    files: &mut F,
+    name: Option<&'w str>,
+) -> Result<Option<OwnPassphrase>, Ending>
+    ensures does { Does (opening_event (option_text name.entry)) (F.view files.old) (F.view files.new) }
+    ensures fails { (asked : DrillingView) → option_text asked.pass ≡ option_text name.entry
+        → IfErr result (EndsUnopened (CameSince (F.view files.old) (F.view files.new)) asked) }
+{
+    match name {
+        None => Ok(None),
+        Some(name) => {
+            let held = Choice::PassphraseFile(name, WORK_FACTOR_LIMIT).read(alloc, files)?;
+            match passphrase_in(held, WORK_FACTOR_LIMIT) {
+                Some(pass) => Ok(Some(pass)),
+                None => Err(Ending::Usage(Usage::BadPassphraseFile)),
+            }
+        }
+    }
+}
+
+/// The bytes of the file of a script.
+fn read_script<'w, F: FileSet<'w>>(
+    alloc: Global,
+    files: &mut F,
+    name: &'w str,
+) -> Result<Vec<u8>, Ending>
+    ensures does { Does (Open name.now ∷ []) (F.view files.old) (F.view files.new) }
+    ensures fails { (asked : DrillingView) → IfErr result
+        (EndsUnopened (CameSince (F.view files.old) (F.view files.new)) asked) }
+{
+    match read_file(alloc, files, name, SCRIPT_MAX)? {
+        Some(script) if !has_too_many_lines(script.as_slice()) => Ok(script),
+        _ => Err(Ending::Usage(Usage::ScriptTooLong)),
+    }
+}
+
+/// The header that a parser finds at the beginning of a file, and its length. `read` is how reading
+/// those bytes ended: its fault comes only if the bytes before it have none.
+fn find_header(
+    parser: &mut HeadParser,
+    bytes: &[u8],
+    read: Result<(), FileFault>,
+) -> Result<(Header, usize), FileFault>
+    requires { parser.old ≡ reading [] }
+    ensures text { IfOk result (λ p. HasText p.0) }
+    ensures within { IfOk result (λ p. p.1 ≤ length bytes.now) }
+    ensures fails { IfErr result (FailsBy read) }
+{
+    match parser.feed(bytes)? {
+        HeadStep::Ready { taken, header } => Ok((header, taken)),
+        HeadStep::More => {
+            read?;
+            Err(FileFault::from(parser.end()))
+        }
+    }
+}
+
+/// The header at the beginning of a file, and its length.
+fn read_header(
+    alloc: Global,
+    bytes: &[u8],
+    read: Result<(), FileFault>,
+) -> Result<(Header, usize), FileFault>
+    ensures text { IfOk result (λ p. HasText p.0) }
+    ensures within { IfOk result (λ p. p.1 ≤ length bytes.now) }
+    ensures fails { IfErr result (FailsBy read) }
+{
+    let mut parser = HeadParser::new(alloc);
+    find_header(&mut parser, bytes, read)
+}
+
+/// The key of the payload after a header of this length, and where in the bytes it begins.
+fn payload_after(
+    key: Result<FileKey, KeyFault>,
+    len: usize,
+    bytes: &[u8],
+    read: Result<(), FileFault>,
+) -> Result<(PayloadKey, usize), FileFault>
+    requires { len ≤ length bytes.now }
+    ensures within { IfOk result (λ p. p.1 ≤ length bytes.now) }
+    ensures fails { IfErr result (FailsBy read) }
+{
+    let key = key?;
+    read?;
+    match bytes[len..].first_chunk::<PAYLOAD_NONCE_LEN>() {
+        Some(nonce) => Ok((payload_key(&key, nonce), len + PAYLOAD_NONCE_LEN)),
+        None => Err(FileFault::NonceCut),
+    }
+}
+
+/// The key of a file's payload, and where in the bytes the payload begins. Faults come in the order
+/// of the bytes: a fault of reading comes after the faults of the header and the key.
+fn open_payload(
+    alloc: Global,
+    unlock: &OwnPassphrase,
+    bytes: &[u8],
+    read: Result<(), FileFault>,
+) -> Result<(PayloadKey, usize), FileFault>
+    ensures within { IfOk result (λ p. p.1 ≤ length bytes.now) }
+    ensures fails { IfErr result (FailsBy read) }
+{
+    let (header, len) = read_header(alloc, bytes, read)?;
+    let key = open_header(alloc, &header, unlock, &mut Steps::new());
+    payload_after(key, len, bytes, read)
+}
+
+/// Checks the script whole, and then delivers a payload by it.
+fn deliver<B: ChunkBox, O: Sink, const SEALED: usize>(
+    alloc: Global,
+    key: &B,
+    payload: &mut [u8],
+    script: &[u8],
+    output: &mut O,
+) -> Result<(), Ending>
+    requires least { tag_length < SEALED }
+    requires most { SEALED ≤ block_length }
+    ensures { DrillEnds ⊥ RefusesDelivery (output.new ≡ output.old) (O.view output.old)
+        (O.view output.new) result }
+{
+    let lines = read_lines(alloc, script, payload.len())?;
+    let mut replay = Replay::<B, SEALED>::new(alloc, key);
+    answer_lines(alloc, &mut replay, payload, lines.as_slice(), output)
+}
+
+/// Delivers a payload whose chunks are in the clear.
+fn deliver_clear<S: Source, O: Sink>(
+    alloc: Global,
+    source: &mut S,
+    script: &[u8],
+    output: &mut O,
+) -> Result<(), Ending>
+    ensures ends { DrillEnds ((S.view source.new).failing ≡ true) RefusesDelivery
+        (output.new ≡ output.old) (O.view output.old) (O.view output.new) result }
+    ensures began { (from : Origin) → S.began source.old from → S.began source.new from }
+{
+    match read_up_to(alloc, source, PAYLOAD_MAX)? {
+        Some(mut payload) => deliver::<ClearBox, O, CLEAR_LEN>(
+            alloc,
+            &ClearBox,
+            payload.as_mut_slice(),
+            script,
+            output,
+        ),
+        None => Err(Ending::Usage(Usage::PayloadTooLong)),
+    }
+}
+
+/// Delivers the payload of an age file that a passphrase opens. A fault of the header, the key or
+/// the nonce is reported before a payload that is too long.
+fn deliver_sealed<S: Source, O: Sink>(
+    alloc: Global,
+    unlock: &OwnPassphrase,
+    source: &mut S,
+    script: &[u8],
+    output: &mut O,
+) -> Result<(), Ending>
+    ensures ends { DrillEnds ((S.view source.new).failing ≡ true) RefusesDelivery
+        (output.new ≡ output.old) (O.view output.old) (O.view output.new) result }
+    ensures began { (from : Origin) → S.began source.old from → S.began source.new from }
+{
+    let mut bytes = Vec::new(alloc);
+    let read = fill_first(source, &mut bytes, BYTES_MAX);
+    let (key, start) = open_payload(alloc, unlock, bytes.as_slice(), read)?;
+    let payload = &mut bytes.as_mut_slice()[start..];
+    if payload.len() > PAYLOAD_MAX {
+        return Err(Ending::Usage(Usage::PayloadTooLong));
+    }
+    deliver::<PayloadKey, O, BLOCK_LEN>(alloc, &key, payload, script, output)
+}
+
+/// Delivers the payload of a source: of an age file that a passphrase opens, or in the clear if none
+/// is given.
+fn deliver_source<S: Source, O: Sink>(
+    alloc: Global,
+    pass: Option<OwnPassphrase>,
+    source: &mut S,
+    script: &[u8],
+    output: &mut O,
+) -> Result<(), Ending>
+    ensures ends { DrillEnds ((S.view source.new).failing ≡ true) RefusesDelivery
+        (output.new ≡ output.old) (O.view output.old) (O.view output.new) result }
+    ensures began { (from : Origin) → S.began source.old from → S.began source.new from }
+{
+    match &pass {
+        Some(unlock) => deliver_sealed(alloc, unlock, source, script, output),
+        None => deliver_clear(alloc, source, script, output),
+    }
+}
+
+/// Delivers a payload as asked. No file is changed, and whatever the deliveries gave is no fault.
+pub fn drill_file<'w, F: FileSet<'w>, O: Sink>(
+    alloc: Global,
+    files: &mut F,
+    asked: &Drilling<'w>,
+    output: &mut O,
+) -> Result<(), Ending>
+    ensures order { Follows (order_asked (Drill asked.now)).whole (F.view files.old).events
+        (F.view files.new).events }
+    // Nothing was put, ended or saved.
+    ensures does { (done : List Event) × Does done (F.view files.old) (F.view files.new) }
+    ensures order_done { OnOk result (Does (order_asked (Drill asked.now)).done (F.view files.old)
+        (F.view files.new)) }
+    // What is printed is lines that say where the reader stands. It is refused for this alone.
+    ensures ends { DrillEnds (IsUnreadable (CameSince (F.view files.old) (F.view files.new)))
+        (RefusesDrill (CameSince (F.view files.old) (F.view files.new)) asked.now)
+        (output.new ≡ output.old) (O.view output.old) (O.view output.new) result }
+    // If all was done, IN was opened, and its reading is over.
+    ensures over { OnOk result ((reading : Reading)
+        × CameSince (F.view files.old) (F.view files.new) (Gave reading)
+        × (reading.name ≡ asked.now.from.now)) }
+    // Both or neither of `--clear` and `--pass`.
+    ensures one { asked.now.clear ≡ is_some (option_text asked.now.pass)
+        → RefusesAtOnce (F.view files.old).events (F.view files.new).events result }
+{
+    if asked.clear == asked.pass.is_some() {
+        return Err(Ending::Usage(Usage::GiveClearOrPass));
+    }
+    files.check_streams(alloc, &[asked.pass, Some(asked.script), Some(asked.from)])?;
+    let pass = read_passphrase(alloc, files, asked.pass)?;
+    let script = read_script(alloc, files, asked.script)?;
+    let mut source = files.open(alloc, asked.from)?;
+    let drilled = deliver_source(alloc, pass, &mut source, script.as_slice(), output);
+    files.finish(source);
+    drilled
+}

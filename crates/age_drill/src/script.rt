@@ -1,0 +1,124 @@
+//! Scripts of drills: one step a line.
+
+ghost use Rattle.std.specs.Prelude.{◌≡◌, IfErr};
+ghost use Rattle.age_fault.specs.declared.fault.FileFault.TheVariants.{Memory};
+ghost use Rattle.age_drill.specs.inner.{EndsUnread};
+
+use age_command::{Ending, Usage};
+use age_fault::FileFault;
+use std::alloc::{AllocError, Global};
+
+/// The most bytes of a script.
+pub(crate) const SCRIPT_MAX: usize = 1_048_576;
+
+/// The most lines of a script.
+const LINES_MAX: usize = 1_000;
+
+/// What a line of a script asks for.
+#[derive(Clone, Copy)]
+pub(crate) enum ScriptLine {
+    /// To deliver this many bytes of the payload, from this one on.
+    Piece { offset: usize, len: usize },
+    /// To invert all bits of this byte of the payload.
+    Flip { offset: usize },
+    /// To end the input.
+    End,
+    /// To start again at this chunk.
+    Restart { index: u64 },
+}
+
+/// Whether a script has more lines than a drill takes. What follows the last LF is a line too.
+pub(crate) fn has_too_many_lines(script: &[u8]) -> bool {
+    script.split_inclusive(|b| *b == b'\n').count() > LINES_MAX
+}
+
+/// The text of a line, with its LF.
+fn text_of(alloc: Global, line: ScriptLine) -> Result<String, AllocError> {
+    match line {
+        ScriptLine::Piece { offset, len } => format!(in alloc; "piece {offset} {len}\n"),
+        ScriptLine::Flip { offset } => format!(in alloc; "flip {offset}\n"),
+        ScriptLine::End => format!(in alloc; "end\n"),
+        ScriptLine::Restart { index } => format!(in alloc; "restart {index}\n"),
+    }
+}
+
+/// The numbers of a piece.
+fn piece(numbers: &str) -> Option<ScriptLine> {
+    let (offset, len) = numbers.split_once(' ')?;
+    match (offset.parse::<usize>(), len.parse::<usize>()) {
+        (Ok(offset), Ok(len)) => Some(ScriptLine::Piece { offset, len }),
+        _ => None,
+    }
+}
+
+/// A word and its numbers, however these are written.
+fn read_words(word: &str, numbers: &str) -> Option<ScriptLine> {
+    match word {
+        "piece" => piece(numbers),
+        "flip" => Some(ScriptLine::Flip {
+            offset: numbers.parse::<usize>().ok()?,
+        }),
+        "end" => Some(ScriptLine::End),
+        "restart" => Some(ScriptLine::Restart {
+            index: numbers.parse::<u64>().ok()?,
+        }),
+        _ => None,
+    }
+}
+
+/// What a line may ask for: it does if that is how its text is written.
+fn guess(line: &[u8]) -> Option<ScriptLine> {
+    let text = std::str::from_utf8(line.strip_suffix(b"\n")?).ok()?;
+    match text.split_once(' ') {
+        Some((word, numbers)) => read_words(word, numbers),
+        None => read_words(text, ""),
+    }
+}
+
+/// Whether a payload of this length has the bytes that a line asks for.
+fn is_within(line: ScriptLine, payload_len: usize) -> bool {
+    match line {
+        ScriptLine::Piece { offset, len } => offset <= payload_len && len <= payload_len - offset,
+        ScriptLine::Flip { offset } => offset < payload_len,
+        ScriptLine::End | ScriptLine::Restart { .. } => true,
+    }
+}
+
+/// Reads a line with its LF: words separated by one space, numbers without leading zeros.
+fn read_line(
+    alloc: Global,
+    line: &[u8],
+    payload_len: usize,
+) -> Result<Option<ScriptLine>, FileFault>
+    ensures { IfErr result (λ fault. fault ≡ Memory) }
+{
+    let Some(read) = guess(line) else {
+        return Ok(None);
+    };
+    let text = text_of(alloc, read)?;
+    if text.as_bytes() == line && is_within(read, payload_len) {
+        Ok(Some(read))
+    } else {
+        Ok(None)
+    }
+}
+
+/// The lines of a script for a payload of this length, or the first bad one.
+pub(crate) fn read_lines(
+    alloc: Global,
+    script: &[u8],
+    payload_len: usize,
+) -> Result<Vec<ScriptLine>, Ending>
+    ensures { IfErr result EndsUnread }
+{
+    let mut lines = Vec::new(alloc);
+    for line in script.split_inclusive(|b| *b == b'\n') {
+        let Some(read) = read_line(alloc, line, payload_len)? else {
+            return Err(Ending::Usage(Usage::BadScriptLine(lines.len() + 1)));
+        };
+        if lines.push(read).is_err() {
+            return Err(Ending::Fault(FileFault::Memory));
+        }
+    }
+    Ok(lines)
+}
