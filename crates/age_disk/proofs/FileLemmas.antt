@@ -84,7 +84,7 @@ module _ (durability : Durability) (out : OutView) (failed : ℕ) (failing : Boo
   pub file_closes : {E : Type 0} (r : Result (Unit {0}) E) → OnOk r (out.is_lost ≡ false)
       → (durability ≡ Synced → out.failed ≡ 0
       → OnOk r (IsSafe out.file.path (text_of out.calls) calls))
-      → (out.failed ≡ 0 → OnOk r (IsThereAs out.file (text_of out.calls) calls)) → OnErr r (0 < count)
+      → (out.failed ≡ 0 → OnOk r (IsThereAs out.file.path out.file.number (text_of out.calls) calls)) → OnErr r (0 < count)
       → OnOk r (Contains calls (Closed out.file.number))
       → Closes durability (Some out.file) (sink_of failed failing took) r (ended which)
   file_closes r sure safe there caused closed =
@@ -95,7 +95,7 @@ module _ (durability : Durability) (out : OutView) (failed : ℕ) (failing : Boo
         same = refl;
         within = within;
         kept = λ some. closed;
-        there = sure_of (λ t. IsThereAs out.file t calls) r sure there;
+        there = sure_of (λ t. IsThereAs out.file.path out.file.number t calls) r sure there;
         safe = λ synced. sure_of (λ t. IsSafe out.file.path t calls) r sure (safe synced);
         caused = caused;
       })

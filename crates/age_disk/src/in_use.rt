@@ -1,7 +1,7 @@
 //! Which files and streams are in use, so that none is used twice.
 
-ghost use Rattle.std.specs.Prelude.{◌≡◌, ◌≢◌, [], true, Some, Err, IfOk, IfErr, IsErr, OnOk, IfSome, IsSomeAnd};
-ghost use Rattle.std.specs.Prelude.{Contains};
+ghost use Rattle.std.specs.Prelude.{◌≡◌, ◌≢◌, [], true, Some, Err, IfOk, IfErr, IsErr, OnOk, IfSome};
+ghost use Rattle.std.specs.Prelude.{IsSomeAnd, Contains};
 ghost use Rattle.age_fault.specs.declared.fault.FileFault.TheVariants.{Read, Write, Memory};
 ghost use Rattle.age_fileset.specs.{OpenFails};
 ghost use Rattle.age_fileset.specs.declared.files.OpenFault.TheVariants.{SameFile};

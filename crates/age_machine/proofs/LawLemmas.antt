@@ -2,13 +2,17 @@
 use Rattle.std.proofs.lemmas.Grind.{common_steps}
 use Rattle.std.proofs.Common.{◌≡◌, inl, inr, ⊎_elim, ℕ, List, [], ◌∷◌, ◌++◌, Option, Some, None, true, false, length, refl, sym, ◌∙◌, ap, subst}
 use Rattle.std.proofs.Common.{◌<◌, ◌^◌, arith}
+use Rattle.std.specs.Prelude.{Contains}
 use Rattle.std.proofs.lemmas.Bool.{false≢true}
 use Rattle.std.proofs.lemmas.List.{append-nil, drop_all, take_all}
-use Rattle.age_machine.specs.{Made, Opened, Wrote, Cut, Synced, Linked, Renamed, Removed, SyncedNames, Locked, Regular, at_path, after_call}
-use Rattle.age_machine.specs.{after_calls, IsAmong, MayLead, MayLeave, AllAnswered, SavesWhole, IsSafe, CanLeave, filled, renamed, linked, bare, bare_but, overwritten}
-use Rattle.age_machine.specs.{put_out, HasOneLock, number_of, Node}
+use Rattle.age_machine.specs.Calls.{Measured}
+use Rattle.age_machine.specs.{FileCall, Made, Opened, Wrote, Cut, Synced, Missing, Linked, Renamed, Removed, SyncedNames, Locked, Regular, at_path, after_call}
+use Rattle.age_machine.specs.{after_calls, IsAmong, MayLead, MayLeave, IsAnswered, AllAnswered, SavesWhole, IsSafe, CanLeave, filled, renamed, linked, bare, bare_but}
+use Rattle.age_machine.specs.{overwritten, put_out, HasOneLock, OutFile, opening_of, is_waited, IsOn, AllOn, TouchesFile, number_of, Node}
+use Rattle.age_machine.specs.declared.in_place.Opening.{Opening}
+use Rattle.age_machine.specs.declared.in_place.Opening.TheVariants as way
 use Rattle.age_machine.specs.Disk.{Disk}
-use Rattle.age_machine.proofs.OutLemmas.{opened_beside}
+use Rattle.age_machine.proofs.OutLemmas.{opened_beside, contains_none, contains_cases}
 use Rattle.age_machine.proofs.SaveLemmas.{path_same, path_other, file_same, file_renamed, file_linked, throughout_last, sized_within}
 
 -- ---- What a power cut may leave.
@@ -85,13 +89,13 @@ module _ (n : ℕ) (from path bytes : List ℕ) (apart : from ≡ path → ⊥) 
   pub both_answered : CanLeave path bytes (renamed n from path bytes) bare × CanLeave path bytes (linked n from path bytes) bare
   both_answered = (
     record {
-      answered = (tt, (tt, (tt, answered)));
-      waited = (tt, (tt, (tt, (tt, (tt, (tt, tt))))));
+      answered = (tt, (tt, (tt, (tt, answered))));
+      waited = (tt, (tt, (tt, (tt, (tt, (tt, (tt, tt)))))));
       leaves = (Some n, inl (sym at_once), (bytes, refl, λ kept. sym held));
     },
     record {
-      answered = (tt, (tt, (free, (tt, answered))));
-      waited = (tt, (tt, (tt, (tt, (tt, (tt, (tt, tt)))))));
+      answered = (tt, (tt, (free, (tt, (tt, answered)))));
+      waited = (tt, (tt, (tt, (tt, (tt, (tt, (tt, (tt, tt))))))));
       leaves = (Some n, inl (sym second), (bytes, refl, λ kept. sym held));
     },
   ) where
@@ -145,23 +149,23 @@ module _ (n : ℕ) (path bytes more : List ℕ) where
   outs_answered = (
     (
       record {
-        answered = (tt, (tt, (tt, (tt, (tt, (tt, ((refl, there_already n path bytes, refl), tt)))))));
-        waited = (tt, (tt, (tt, (tt, (tt, (tt, (tt, tt)))))));
+        answered = (tt, (tt, (tt, (tt, (tt, (tt, (tt, ((refl, there_already n path bytes, refl), tt))))))));
+        waited = (tt, (tt, (tt, (tt, (tt, (tt, (tt, (tt, tt))))))));
         leaves =
             leaves_both (after_calls (overwritten n path bytes more) (bare_but path n)) (there_already n path bytes)
             (wrote_more cut (cut_there wrote (wrote_first (bare_but path n) refl)));
       },
-      opened_beside n path (overwritten n path bytes more) (5, omega arith, refl),
+      opened_beside n path (overwritten n path bytes more) (6, omega arith, refl),
     ),
     (
       record {
-        answered = (tt, (tt, (tt, (tt, (tt, ((refl, nowhere path n), tt))))));
-        waited = (tt, (tt, (tt, (tt, (tt, (tt, tt))))));
+        answered = (tt, (tt, (tt, (tt, (tt, (tt, ((refl, nowhere path n), tt)))))));
+        waited = (tt, (tt, (tt, (tt, (tt, (tt, (tt, tt)))))));
         leaves =
             leaves_both (after_calls (put_out n path bytes more) bare) (path_same path (Some n) bare.file)
             (wrote_more (after_call (Wrote n 0 bytes) made) (wrote_first made (file_same n [] bare.bytes)));
       },
-      opened_beside n path (put_out n path bytes more) (4, omega arith, refl),
+      opened_beside n path (put_out n path bytes more) (5, omega arith, refl),
     ),
   ) where
     wrote : Disk
@@ -172,3 +176,51 @@ module _ (n : ℕ) (path bytes more : List ℕ) where
 
     made : Disk
     made = after_call (Made path n) bare
+
+-- ---- All calls of an output.
+
+module _ (path : List ℕ) (n : ℕ) where
+  -- a disk that answers the call that opened it
+  abbrev disk_for : Opening → Disk
+  disk_for way.New = bare
+  disk_for (way.Found named waited) = bare_but path n
+
+  opening_answered : (opening : Opening) → is_waited opening ≡ true → IsAnswered path (opening_of path n opening) (disk_for opening)
+  opening_answered way.New waits = (refl, nowhere path n)
+  opening_answered (way.Found named waited) waits = (ap Regular waits, path_same path (Some n) bare.file, refl)
+
+  -- no call after the first opens it
+  none_before : (first : FileCall) (calls : List FileCall) → first ∷ calls ≡ [] → ⊥
+  none_before first calls none = omega (arith, ap length none)
+
+  opens_first : (opening : Opening) (first : FileCall) (calls : List FileCall) → IsOn path n (first ∷ calls) (opening_of path n opening) → ⊥
+  opens_first way.New first calls on = none_before first calls on.2
+  opens_first (way.Found named waited) first calls on = none_before first calls on.2
+
+  later_answered : (call first : FileCall) (calls : List FileCall) (disk : Disk) → IsOn path n (first ∷ calls) call → IsAnswered path call disk
+  later_answered (Made p m) first calls disk on = absurd (none_before first calls on.2)
+  later_answered (Opened p m kind) first calls disk on = absurd (none_before first calls on.2)
+  later_answered (Measured m len) first calls disk on = absurd on
+  later_answered (Missing p) first calls disk on = absurd on
+  later_answered (Linked from to) first calls disk on = absurd on
+  later_answered call first calls disk on = tt
+
+  all_answered : (opening : Opening) → is_waited opening ≡ true → (calls : List FileCall) → AllOn path n calls
+      → Contains calls (opening_of path n opening) → AllAnswered path calls (disk_for opening)
+  all_answered opening waits [] on has = absurd (contains_none (opening_of path n opening) has)
+  all_answered opening waits (call ∷ []) on has = (
+    ⊎_elim (λ same. subst (λ (c : FileCall). IsAnswered path c (disk_for opening)) (sym same) (opening_answered opening waits))
+        (λ later. absurd (contains_none (opening_of path n opening) later)) (contains_cases (opening_of path n opening) call [] has),
+    tt,
+  )
+  all_answered opening waits (call ∷ (first ∷ calls)) on has = (
+    later_answered call first calls (after_calls (first ∷ calls) (disk_for opening)) on.0,
+    all_answered opening waits (first ∷ calls) on.1
+        (⊎_elim (λ same. absurd (opens_first opening first calls (subst (λ (c : FileCall). IsOn path n (first ∷ calls) c) same on.0)))
+        (λ later. later) (contains_cases (opening_of path n opening) call (first ∷ calls) has)),
+  )
+
+pub calls_answered : (file : OutFile) (calls : List FileCall) (touches : TouchesFile file calls) → is_waited touches.opening ≡ true
+    → (disk : Disk) × AllAnswered file.path calls disk
+calls_answered file calls touches waits =
+    (disk_for file.path file.number touches.opening, all_answered file.path file.number touches.opening waits calls touches.on touches.opened)

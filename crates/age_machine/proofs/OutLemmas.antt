@@ -10,19 +10,19 @@ use Rattle.age_machine.specs.declared.in_place.Opening.{Opening}
 use Rattle.age_machine.specs.declared.in_place.Opening.TheVariants as way
 use Rattle.age_machine.specs.declared.machine.Kind.{Kind}
 use Rattle.age_machine.specs.{Regular, sized, after_call, after_calls, IsAmong, MayLead, MayLeave, IsAnswered, AllAnswered, HasMade, SavesWhole, LeadsTo}
-use Rattle.age_machine.specs.{OutFile, opening_of, is_making, text_of, IsOn, AllOn, MayChange, IsClaimed, LocksFirst, TouchesFile, HasOneLock, IsUnchanged}
+use Rattle.age_machine.specs.{OutFile, opening_of, is_making, is_waited, text_of, IsOn, AllOn, MayChange, IsClaimed, LocksFirst, TouchesFile, HasOneLock, IsUnchanged}
 use Rattle.age_machine.specs.{HasWritten, AlwaysHasWritten, IsJustOpened, IsOut}
 use Rattle.age_machine.specs.Disk.{Disk}
-use Rattle.age_machine.specs.inner.{IsHeld, IsAtPath, StaysHeld, RemovesAt, is_waited}
+use Rattle.age_machine.specs.inner.{IsHeld, IsAtPath, StaysHeld, RemovesAt}
 use Rattle.age_machine.proofs.SaveLemmas.{path_same, file_same, file_other, led, leaves_fewer, leaves_new, leaves_synced, contains_first, contains_later}
 use Rattle.age_machine.proofs.SaveLemmas.{if_either, if_made, if_waited, saves_loudly, saves_none, saves_quietly, sized_within}
 
 -- ---- What calls contain.
 
-contains_none : (call : FileCall) → Contains [] call → ⊥
+pub contains_none : (call : FileCall) → Contains [] call → ⊥
 contains_none call held = omega (arith, held.1)
 
-contains_cases : (call first : FileCall) (calls : List FileCall) → Contains (first ∷ calls) call → (first ≡ call) ⊎ Contains calls call
+pub contains_cases : (call first : FileCall) (calls : List FileCall) → Contains (first ∷ calls) call → (first ≡ call) ⊎ Contains calls call
 contains_cases call first calls (zero, short, is) = inl is
 contains_cases call first calls (suc k, short, is) = inr (k, omega arith, is)
 

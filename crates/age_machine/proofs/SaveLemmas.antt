@@ -8,10 +8,10 @@ use Rattle.std.proofs.lemmas.Bool.{false_from_ne_true, eq-eqb, ne_eqb}
 use Rattle.std.proofs.lemmas.Slice.Eq.{bytes_eq-Decides}
 use Rattle.age_machine.specs.{FileCall, Made, Wrote, Closed, IsOf, Linked, Renamed, Removed, Reclaimed, SyncedNames, at_path, for_file, changed, after_call, IsAmong, MayLead}
 use Rattle.age_machine.specs.{MayLeaveFile, MayLeave, Synced, Unwaited, Missing, UnwaitedNames, MayHave, Waited, after_calls, sized, written, AllAnswered, AllWaited, IsBeside, IsKept}
-use Rattle.age_machine.specs.{AtEachMoment, Throughout, SavesWhole, SparesFile, HasMade, IsLonger, IsWithin, AllWithin, Touches, IsSafe, LeadsTo, Replaces, HasBeside, Reclaims}
+use Rattle.age_machine.specs.{AtEachMoment, Throughout, SavesWhole, SparesFile, HasMade, IsLonger, IsWithin, AllWithin, Touches, IsSafe, IsThereAs, Replaces, HasBeside, Reclaims}
 use Rattle.age_machine.specs.Beside.{AllReclaimed}
 use Rattle.age_machine.specs.Disk.{Disk}
-use Rattle.age_machine.specs.inner.{Has, AllOf, IsAbout, HasTried, HasPlaced, Gets, Fills, IsAtPath, IsReady, WritesOver, CutsOff}
+use Rattle.age_machine.specs.inner.{Has, AllOf, IsAbout, HasTried, HasPlaced, Gets, Fills, IsAtPath, IsReady, StaysSound, WritesOver, CutsOff}
 use Rattle.std.proofs.lemmas.List.{append-nil, take_at, drop_at, take_all, drop-drop, length-take-le}
 use Rattle.std.proofs.lemmas.List.Elements.{Contains-append_left, Contains-append_right}
 use Rattle.std.proofs.lemmas.Result.{on_ok_weaker}
@@ -497,20 +497,23 @@ writes_more n at m bytes old new later begun within writes is = grind (arith, co
 whole : (bytes held : List ℕ) → take (length bytes) (take (length bytes) bytes ++ drop (length bytes) held) ≡ bytes
 whole bytes held = grind (arith, common_steps, take_all, take_at)
 
+abbrev Holding : ℕ → List ℕ → List FileCall → List FileCall → Type 0
+Holding n bytes old new = StaysSound n old new
+    × ((path : List ℕ) (disk : Disk) → AllAnswered path new disk → (after_calls new disk).bytes n ≡ bytes)
+
 -- also if that is not waited for
 pub gets_all : (n : ℕ) (bytes : List ℕ) (old wrote cut settled new : List FileCall) → WritesOver n (length bytes) bytes old wrote
     → CutsOff n (length bytes) wrote cut → (settled ≡ cut) ⊎ Waited (Synced n) (Unwaited n) cut settled → new ≡ Closed n ∷ settled → Gets n bytes old new
-gets_all n bytes old wrote cut settled new writes cuts either closed = rw closed (more (if_either (Gets n bytes old) (Synced n) (Unwaited n) cut settled all
-    (record { sound = all.sound; holds = λ path disk answers. all.holds path disk answers.1 })
-    (record { sound = all.sound; holds = λ path disk answers. all.holds path disk answers.1 }) either)) where
-      all : Gets n bytes old cut
-      all = record {
-        sound = λ disk. cuts.sound disk ∙ writes.sound disk;
-        holds = λ path disk answers. cuts.bytes path disk answers ∙ (ap (λ (l : List ℕ). take (length bytes) l) (writes.bytes disk) ∙ whole bytes ((after_calls old disk).bytes n));
-      }
+gets_all n bytes old wrote cut settled new writes cuts either closed = rw closed (close (if_either (Holding n bytes old) (Synced n) (Unwaited n) cut settled all
+    (all.0, λ path disk answers. all.1 path disk answers.1) (all.0, λ path disk answers. all.1 path disk answers.1) either)) where
+      all : Holding n bytes old cut
+      all = (
+        λ disk. cuts.sound disk ∙ writes.sound disk,
+        λ path disk answers. cuts.bytes path disk answers ∙ (ap (λ (l : List ℕ). take (length bytes) l) (writes.bytes disk) ∙ whole bytes ((after_calls old disk).bytes n)),
+      )
 
-      more : Gets n bytes old settled → Gets n bytes old (Closed n ∷ settled)
-      more gets = record { sound = gets.sound; holds = λ path disk answers. gets.holds path disk answers.1 }
+      close : Holding n bytes old settled → Gets n bytes old (Closed n ∷ settled)
+      close held = record { sound = held.0; closed = contains_first (Closed n) settled; holds = λ path disk answers. held.1 path disk answers.1 }
 
 pub fills_waited : (n : ℕ) (bytes : List ℕ) (old wrote cut waited : List FileCall)
     → WritesOver n (length bytes) bytes old wrote → CutsOff n (length bytes) wrote cut
@@ -566,6 +569,7 @@ module _ (path from : List ℕ) (n : ℕ) (bytes : List ℕ) (old : List FileCal
       record {
         tried = tried_beside spot.Free new beside;
         apart = beside.apart;
+        closed = gets.closed;
         file = beside.file;
         holds = λ disk answers. (gets.holds path disk answers, gets.sound disk ∙ kept.sound disk);
         has = λ synced disk answers waited. (fills synced).on path disk answers waited (kept.sound disk);
@@ -588,6 +592,7 @@ module _ (path from : List ℕ) (n : ℕ) (bytes : List ℕ) (old : List FileCal
   ready_missing calls ready = record {
     tried = tried_more spot.Free (Missing path) calls (λ since made. refl) (λ free disk answers m is. is) (λ synced disk answers waited left leaves. inl leaves) ready.tried;
     apart = ready.apart;
+    closed = contains_later (Missing path) (Closed n) calls ready.closed;
     file = λ disk answers. ready.file disk answers.1;
     holds = λ disk answers. ready.holds disk answers.1;
     has = λ synced disk answers waited. ready.has synced disk answers.1 waited.1;
@@ -599,6 +604,7 @@ module _ (path from : List ℕ) (n : ℕ) (bytes : List ℕ) (old : List FileCal
         (λ synced disk answers waited. leaves_linked n from path (after_calls calls disk) ready.apart (ready.file disk answers.1) bytes
         (ready.has synced disk answers.1 waited.1)) ready.tried;
     apart = ready.apart;
+    closed = contains_later (Linked from path) (Closed n) calls ready.closed;
     file = λ disk answers. path_other path from _ (after_calls calls disk).file (λ same. ready.apart (sym same)) ∙ ready.file disk answers.1;
     holds = λ disk answers. ready.holds disk answers.1;
     has = λ synced disk answers waited. ready.has synced disk answers.1 waited.1;
@@ -630,20 +636,29 @@ module _ (path from : List ℕ) (n : ℕ) (bytes : List ℕ) (old : List FileCal
   put_renamed : (calls new : List FileCall) → Ready calls → wanted ≡ wait.Synced → new ≡ Renamed from path ∷ calls → IsAtPath path n bytes new
   put_renamed calls new ready synced is = grind (arith, common_steps, file_renamed)
 
-  leads_renamed : (calls new : List FileCall) → Ready calls → new ≡ Renamed from path ∷ calls → LeadsTo path n bytes new
-  leads_renamed calls new ready is = rw is (λ disk answers.
-      let holds = ready.holds disk answers.1 in
-      (file_renamed n from path (after_calls calls disk) ready.apart (ready.file disk answers.1), holds.0, holds.1))
+  there_renamed : (calls new : List FileCall) → Ready calls → new ≡ Renamed from path ∷ calls → IsThereAs path n bytes new
+  there_renamed calls new ready is = rw is (
+    λ disk answers.
+        let holds = ready.holds disk answers.1 in
+        (file_renamed n from path (after_calls calls disk) ready.apart (ready.file disk answers.1), holds.0, holds.1),
+    contains_later (Renamed from path) (Closed n) calls ready.closed,
+  )
 
-  leads_linked : (calls linked new : List FileCall) → Ready calls → linked ≡ Linked from path ∷ calls
-      → MayHave (Removed from) linked new → LeadsTo path n bytes new
-  leads_linked calls linked new ready is =
-      if_made (LeadsTo path n bytes) (Removed from) linked new leads (λ disk answers.
-      let led = leads disk answers.1 in (path_other from path None (after_calls linked disk).file ready.apart ∙ led.0, led.1, led.2)) where
-        leads : LeadsTo path n bytes linked
-        leads = rw is (λ disk answers.
-            let holds = ready.holds disk answers.1 in
-            (file_linked n from path (after_calls calls disk) ready.apart (ready.file disk answers.1), holds.0, holds.1))
+  there_linked : (calls linked new : List FileCall) → Ready calls → linked ≡ Linked from path ∷ calls
+      → MayHave (Removed from) linked new → IsThereAs path n bytes new
+  there_linked calls linked new ready is =
+      if_made (IsThereAs path n bytes) (Removed from) linked new there (
+        λ disk answers.
+            let led = there.0 disk answers.1 in (path_other from path None (after_calls linked disk).file ready.apart ∙ led.0, led.1, led.2),
+        contains_later (Removed from) (Closed n) linked there.1,
+      ) where
+        there : IsThereAs path n bytes linked
+        there = rw is (
+          λ disk answers.
+              let holds = ready.holds disk answers.1 in
+              (file_linked n from path (after_calls calls disk) ready.apart (ready.file disk answers.1), holds.0, holds.1),
+          contains_later (Linked from path) (Closed n) calls ready.closed,
+        )
 
   module _ {E : Type 0} where
     abbrev Placed : Spot → Result (Unit {0}) E → List FileCall → Type 0
@@ -657,7 +672,7 @@ module _ (path from : List ℕ) (n : ℕ) (bytes : List ℕ) (old : List FileCal
           if_made (Tried spot.Taken) (Renamed from path) calls new (tried_ready spot.Taken calls ready)
           (renamed spot.Taken calls ready (λ free. cc)) may;
       done = λ synced. on_ok_weaker r (put_renamed calls new ready synced) is;
-      there = on_ok_weaker r (leads_renamed calls new ready) is;
+      there = on_ok_weaker r (there_renamed calls new ready) is;
     }
 
     -- where nothing was seen
@@ -669,7 +684,7 @@ module _ (path from : List ℕ) (n : ℕ) (bytes : List ℕ) (old : List FileCal
           tried = if_made (Tried spot.Free) (Renamed from path) looked new (tried_ready spot.Free looked seen)
               (renamed spot.Free looked seen (rw missing (λ free disk answers. answers.0))) may;
           done = λ synced. on_ok_weaker r (put_renamed looked new seen synced) is;
-          there = on_ok_weaker r (leads_renamed looked new seen) is;
+          there = on_ok_weaker r (there_renamed looked new seen) is;
         }
 
     -- it is linked where nothing is
@@ -685,7 +700,7 @@ module _ (path from : List ℕ) (n : ℕ) (bytes : List ℕ) (old : List FileCal
             file = λ disk answers. path_other from path None (after_calls linked disk).file ready.apart ∙ put.file disk answers.1;
             has = λ disk answers waited. put.has disk answers.1 waited.1;
           }) may;
-      there = leads_linked calls linked new ready is may;
+      there = there_linked calls linked new ready is may;
     }
 
     -- and its name is waited for
@@ -696,6 +711,7 @@ module _ (path from : List ℕ) (n : ℕ) (bytes : List ℕ) (old : List FileCal
     placed_named to r calls new placed either waited = record {
       tried = tried_named to calls new placed.tried either;
       done = λ synced. on_ok_weaker r (λ waits. safe_named path n bytes calls new (placed.done synced) (waits synced)) waited;
-      there = on_ok r (if_either (LeadsTo path n bytes) (SyncedNames path) (UnwaitedNames path) calls new placed.there
-          (λ disk answers. placed.there disk answers.1) (λ disk answers. placed.there disk answers.1) either);
+      there = on_ok r (if_either (IsThereAs path n bytes) (SyncedNames path) (UnwaitedNames path) calls new placed.there
+          (λ disk answers. placed.there.0 disk answers.1, contains_later (SyncedNames path) (Closed n) calls placed.there.1)
+          (λ disk answers. placed.there.0 disk answers.1, contains_later (UnwaitedNames path) (Closed n) calls placed.there.1) either);
     }

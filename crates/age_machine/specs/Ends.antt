@@ -6,8 +6,8 @@ use Rattle.age_io.specs.declared.durability.Durability.{Durability}
 use Rattle.age_io.specs.declared.durability.Durability.TheVariants.{Synced}
 use Rattle.age_machine.specs.Calls.{FileCall, Closed, Opened}
 use Rattle.age_machine.specs.declared.machine.Kind.TheVariants.{Device}
-use Rattle.age_machine.specs.Outs.{OutFile, TouchesFile, IsThereAs, has_changed}
-use Rattle.age_machine.specs.Saves.{IsSafe, SavesWhole}
+use Rattle.age_machine.specs.Outs.{OutFile, TouchesFile, has_changed}
+use Rattle.age_machine.specs.Saves.{IsSafe, IsThereAs, SavesWhole}
 
 -- an output that was ended
 pub record EndedFile : Type 0 where
@@ -34,7 +34,7 @@ TouchesItself e =
 
 -- it is there, with exactly what its sink took
 abbrev pub IsThere : EndedFile → Type 0
-IsThere e = IfSome e.file (λ f. IsThereAs f e.took e.calls)
+IsThere e = IfSome e.file (λ f. IsThereAs f.path f.number e.took e.calls)
 
 -- a power cut leaves at its path exactly what its sink took
 abbrev pub IsOnDisk : EndedFile → Type 0

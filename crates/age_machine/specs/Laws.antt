@@ -2,12 +2,12 @@
 -- in another order.
 use Rattle.std.specs.Prelude.{◌≡◌, ◌≢◌, ◌<◌, ◌^◌, ℕ, List, [], ◌∷◌, ◌++◌, length, Some, None, true}
 use Rattle.std.specs.Prelude.{false, Contains}
-use Rattle.age_machine.specs.Calls.{FileCall, Made, Opened, Wrote, Cut, Measured, Synced, Locked}
-use Rattle.age_machine.specs.Calls.{Unlockable, Linked, Renamed, Removed, SyncedNames}
+use Rattle.age_machine.specs.Calls.{FileCall, Made, Opened, Wrote, Cut, Measured, Synced, Closed}
+use Rattle.age_machine.specs.Calls.{Locked, Unlockable, Linked, Renamed, Removed, SyncedNames}
 use Rattle.age_machine.specs.declared.machine.Kind.TheVariants.{Regular}
 use Rattle.age_machine.specs.Disk.{Disk, at_path, after_calls, MayLeave}
 use Rattle.age_machine.specs.Saves.{AllAnswered, AllWaited, SavesWhole, IsSafe, HasMade}
-use Rattle.age_machine.specs.Outs.{AllOn, MayChange, LocksFirst}
+use Rattle.age_machine.specs.Outs.{OutFile, AllOn, is_waited, MayChange, LocksFirst, TouchesFile}
 use Rattle.age_machine.specs.Numbers.{number_of}
 use Rattle.age_machine.specs.declared.node.Node.{Node}
 
@@ -17,11 +17,11 @@ filled n from bytes = Measured n (length bytes) ∷ Wrote n 0 bytes ∷ Made fro
 
 abbrev pub renamed : ℕ → List ℕ → List ℕ → List ℕ → List FileCall
 renamed n from path bytes =
-    SyncedNames path ∷ Renamed from path ∷ Synced n ∷ filled n from bytes
+    SyncedNames path ∷ Renamed from path ∷ Closed n ∷ Synced n ∷ filled n from bytes
 
 abbrev pub linked : ℕ → List ℕ → List ℕ → List ℕ → List FileCall
 linked n from path bytes =
-    SyncedNames path ∷ Removed from ∷ Linked from path ∷ Synced n ∷ filled n from bytes
+    SyncedNames path ∷ Removed from ∷ Linked from path ∷ Closed n ∷ Synced n ∷ filled n from bytes
 
 -- a disk without files
 abbrev pub bare : Disk
@@ -67,13 +67,13 @@ bare_but path n = record bare { file = at_path path (Some n) bare.file }
 -- the newest first
 abbrev pub overwritten : ℕ → List ℕ → (bytes more : List ℕ) → List FileCall
 overwritten n path bytes more =
-    SyncedNames path ∷ Synced n ∷ Wrote n (length bytes) more ∷ Cut n (length bytes)
+    SyncedNames path ∷ Closed n ∷ Synced n ∷ Wrote n (length bytes) more ∷ Cut n (length bytes)
     ∷ Wrote n 0 bytes ∷ Locked n ∷ Opened path n (Regular true) ∷ []
 
 abbrev pub put_out : ℕ → List ℕ → (bytes more : List ℕ) → List FileCall
 put_out n path bytes more =
-    SyncedNames path ∷ Synced n ∷ Wrote n (length bytes) more ∷ Wrote n 0 bytes ∷ Locked n
-    ∷ Made path n ∷ []
+    SyncedNames path ∷ Closed n ∷ Synced n ∷ Wrote n (length bytes) more ∷ Wrote n 0 bytes
+    ∷ Locked n ∷ Made path n ∷ []
 
 abbrev pub TornIfUnsynced : Type 0
 TornIfUnsynced = (n : ℕ) (path bytes : List ℕ)
@@ -110,6 +110,12 @@ OutsAreAnswered = (n : ℕ) (path bytes more : List ℕ)
     × HasOneLock n (overwritten n path bytes more) (Opened path n (Regular true) ∷ []))
     × (CanLeave path (bytes ++ more) (put_out n path bytes more) bare
     × HasOneLock n (put_out n path bytes more) (Opened path n (Regular true) ∷ []))
+
+-- So are those of each output that was made, or opened where its path is known to lead: what holds on
+-- each disk that answers holds on one at least.
+abbrev pub CallsAreAnswered : Type 0
+CallsAreAnswered = (file : OutFile) (calls : List FileCall) (touches : TouchesFile file calls)
+    → is_waited touches.opening ≡ true → (disk : Disk) × AllAnswered file.path calls disk
 
 abbrev pub ChangedIfLockedLate : Type 0
 ChangedIfLockedLate = (n : ℕ) (path bytes : List ℕ)

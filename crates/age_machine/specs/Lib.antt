@@ -19,14 +19,14 @@ pub use Ends.{Closes, Discards, EndedFile, IsOnDisk, IsThere, IsUntouched}
 pub use Ends.{TouchesItself}
 unfoldable pub use Held.*
 pub use Laws.{ChangedIfLockedLate, HasOneLock, IsUnchanged, LostIfNamesUnwaited, NumbersAreApart}
-pub use Laws.{CanLeave, OthersAreKept, OutsAreAnswered, SecondRunIsHarmless, TornIfCutLast}
+pub use Laws.{CallsAreAnswered, CanLeave, OthersAreKept, OutsAreAnswered, SecondRunIsHarmless, TornIfCutLast}
 pub use Laws.{TornIfRenamedFirst, TornIfUnsynced, TornIfUnwaited, WaitsAreAnswered, bare, bare_but}
 pub use Laws.{filled, linked, overwritten, put_out, renamed}
 pub use Numbers.{number_of}
 pub use Outs.{AllOn, IsClaimed, IsOn, LocksFirst, MayChange, OutFile, OutView, TouchesFile}
-pub use Outs.{is_making, IsThereAs, opening_of, text_of}
+pub use Outs.{is_making, is_waited, opening_of, text_of}
 pub use Saved.{PutsAtOnce, Replaces, SavedFile}
 pub use Saves.{AllAnswered, AllWaited, AllWithin, AtEachMoment, HasMade, IsAnswered, IsLonger}
-pub use Saves.{IsSafe, IsWithin, LeadsTo, SavesWhole, SparesFile, Throughout, Touches}
+pub use Saves.{IsSafe, IsThereAs, IsWithin, LeadsTo, SavesWhole, SparesFile, Throughout, Touches}
 pub use Rattle.age_machine.specs.declared.machine.Kind.TheVariants.{Regular}
 pub use Rattle.age_machine.specs.declared.node.Node.{Node}

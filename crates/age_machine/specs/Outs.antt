@@ -1,9 +1,8 @@
 -- A file that is written in place, by a machine that makes no other calls.
 use Rattle.std.specs.Prelude.{◌≡◌, ◌⊎◌, ◌≤◌, ℕ, List, [], ◌∷◌, ◌++◌, length, Bool, true, false}
 use Rattle.std.specs.Prelude.{Contains}
-use Rattle.age_machine.specs.Calls.{FileCall, Made, Opened, Wrote, Cut, Broke, Closed, Locked}
+use Rattle.age_machine.specs.Calls.{FileCall, Made, Opened, Wrote, Cut, Broke, Measured, Locked}
 use Rattle.age_machine.specs.Calls.{Unlockable, Removed, SyncedNames, UnwaitedNames, IsOf}
-use Rattle.age_machine.specs.Saves.{LeadsTo}
 use Rattle.age_machine.specs.declared.in_place.Opening.{Opening}
 use Rattle.age_machine.specs.declared.in_place.Opening.TheVariants as way
 use Rattle.age_machine.specs.declared.machine.Kind.TheVariants.{Regular}
@@ -31,6 +30,11 @@ abbrev pub is_making : Opening → Bool
 is_making way.New = true
 is_making (way.Found named waited) = false
 
+-- the path is known to lead to a file that was opened so, and its name is waited for
+abbrev pub is_waited : Opening → Bool
+is_waited way.New = true
+is_waited (way.Found named waited) = waited
+
 -- what was written, in order
 abbrev pub text_of : List FileCall → List ℕ
 text_of [] = []
@@ -51,6 +55,7 @@ IsOn path n before (Made p m) = (p ≡ path) × (m ≡ n) × (before ≡ [])
 IsOn path n before (Opened p m kind) = (p ≡ path) × (m ≡ n) × (before ≡ [])
 IsOn path n before (Wrote m at part) = (m ≡ n) × (at ≡ length (text_of before))
 IsOn path n before (Cut m len) = (m ≡ n) × (length (text_of before) ≤ len)
+IsOn path n before (Measured m len) = ⊥
 IsOn path n before (Removed p) = p ≡ path
 IsOn path n before (SyncedNames p) = p ≡ path
 IsOn path n before (UnwaitedNames p) = p ≡ path
@@ -59,12 +64,6 @@ IsOn path n before call = IsOf n call
 abbrev pub AllOn : List ℕ → ℕ → List FileCall → Type 0
 AllOn path n [] = Unit {0}
 AllOn path n (call ∷ calls) = IsOn path n calls call × AllOn path n calls
-
--- Its path leads to it, and it holds exactly these bytes, whatever has reached the disk; and it was
--- closed.
-abbrev pub IsThereAs : OutFile → List ℕ → List FileCall → Type 0
-IsThereAs file bytes calls =
-    LeadsTo file.path file.number bytes calls × Contains calls (Closed file.number)
 
 -- ---- Of two runs one writes to a file.
 

@@ -3,7 +3,7 @@ use Rattle.std.specs.Prelude.{◌≡◌, List, [], ℕ, Option, IfSome, Result, 
 use Rattle.age_io.specs.declared.durability.Durability.{Durability}
 use Rattle.age_io.specs.declared.durability.Durability.TheVariants.{Synced}
 use Rattle.age_machine.specs.Calls.{FileCall}
-use Rattle.age_machine.specs.Saves.{IsSafe, LeadsTo, SavesWhole, SparesFile, Touches}
+use Rattle.age_machine.specs.Saves.{IsSafe, IsThereAs, SavesWhole, SparesFile, Touches}
 use Rattle.age_machine.specs.declared.replacing.Spot.{Spot}
 use Rattle.age_machine.specs.declared.replacing.Spot.TheVariants.{Free}
 
@@ -19,9 +19,10 @@ pub record PutsAtOnce {E : Type 0} (bytes : List ℕ) (durability : Durability)
     (result : Result (Unit {0}) E) (old calls : List FileCall) (path : List ℕ) : Type 0 where
   -- Whenever the power is cut, what is there is what there might have been before, or these bytes.
   pub whole : durability ≡ Synced → SavesWhole path bytes old calls
-  -- After success it is these bytes, and the path leads to them, also if nothing was waited for.
+  -- After success it is these bytes. The path leads to them, also if nothing was waited for, and their
+  -- file was closed.
   pub safe : durability ≡ Synced → OnOk result (IsSafe path bytes calls)
-  pub there : OnOk result ((n : ℕ) × LeadsTo path n bytes calls)
+  pub there : OnOk result ((n : ℕ) × IsThereAs path n bytes calls)
   -- Only the path, new files beside it and rooms that stopped runs left there are touched.
   pub touches : Touches path old calls
 

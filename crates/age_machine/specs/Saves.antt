@@ -65,6 +65,10 @@ LeadsTo path n bytes calls = (disk : Disk) → AllAnswered path calls disk
     → ((after_calls calls disk).file path ≡ Some n) × ((after_calls calls disk).bytes n ≡ bytes)
     × ((after_calls calls disk).is_lost n ≡ false)
 
+-- It does, and the file was closed.
+abbrev pub IsThereAs : List ℕ → ℕ → List ℕ → List FileCall → Type 0
+IsThereAs path n bytes calls = LeadsTo path n bytes calls × Contains calls (Closed n)
+
 -- A file that was at a path after the old calls stays there.
 abbrev pub SparesFile : List ℕ → List FileCall → List FileCall → Type 0
 SparesFile path old = Throughout path (λ disk calls. (n : ℕ)

@@ -1,17 +1,17 @@
 //! A regular file that is written in place.
 
-ghost use Rattle.std.specs.Prelude.{◌≡◌, ◌⊎◌, ◌≤◌, ◌<◌, ◌+◌, ◌^◌, ◌∷◌, ◌++◌, [], ℕ, List, length};
+ghost use Rattle.std.specs.Prelude.{◌≡◌, ◌≢◌, ◌⊎◌, ◌≤◌, ◌<◌, ◌+◌, ◌^◌, ◌∷◌, ◌++◌, [], ℕ, List, length};
 ghost use Rattle.std.specs.Prelude.{take, string_bytes, true, false, is_some, Contains, IfOk, OnOk};
 ghost use Rattle.std.specs.Prelude.{OnErr};
 ghost use Rattle.std.specs.Io.{WritesAtMost};
 ghost use Rattle.age_io.specs.declared.durability.Durability.TheVariants as wait;
-ghost use Rattle.age_machine.specs.Calls.{FileCall, Closed, Locked, Unlockable, SyncedNames};
-ghost use Rattle.age_machine.specs.Calls.{UnwaitedNames, Waited};
-ghost use Rattle.age_machine.specs.Saves.{SavesWhole, IsSafe};
-ghost use Rattle.age_machine.specs.Outs.{opening_of, is_making, text_of, has_changed, IsClaimed};
-ghost use Rattle.age_machine.specs.Outs.{TouchesFile, IsThereAs};
+ghost use Rattle.age_machine.specs.Calls.{FileCall, Synced, Unwaited, Closed, Locked, Unlockable};
+ghost use Rattle.age_machine.specs.Calls.{SyncedNames, UnwaitedNames, Waited};
+ghost use Rattle.age_machine.specs.Saves.{SavesWhole, IsSafe, IsThereAs};
+ghost use Rattle.age_machine.specs.Outs.{opening_of, is_making, is_waited, text_of, has_changed};
+ghost use Rattle.age_machine.specs.Outs.{IsClaimed, TouchesFile};
 ghost use Rattle.age_machine.specs.Held.{AlwaysHasWritten};
-ghost use Rattle.age_machine.specs.inner.Steps.{IsAtPath, StaysHeld, RemovesAt, is_waited};
+ghost use Rattle.age_machine.specs.inner.Steps.{IsAtPath, StaysHeld, RemovesAt};
 
 use crate::beside::settle;
 use crate::machine::{Machine, Shape};
@@ -435,6 +435,8 @@ impl<M: Machine + Drop> Out<M> {
     pub fn reach(&mut self) -> io::Result<()>
         ensures file { self.new.file ≡ self.old.file }
         ensures still { text_of self.old.calls ≡ [] → self.new ≡ self.old }
+        ensures waits { OnOk result (text_of self.old.calls ≢ [] → Waited (Synced self.old.file.number)
+            (Unwaited self.old.file.number) self.old.calls self.new.calls) }
         ensures text { text_of self.new.calls ≡ text_of self.old.calls }
         ensures sound { self.new.is_lost ≡ false → (self.new.failed ≡ self.old.failed)
             × (self.old.is_lost ≡ false) }
@@ -482,8 +484,8 @@ impl<M: Machine + Drop> Out<M> {
     pub fn end(mut self, durability: Durability) -> Ended<M>
         ensures safe { durability ≡ wait.Synced → self.failed ≡ 0 → OnOk result.end
             (IsSafe self.file.path (text_of self.calls) (M.calls result.machine)) }
-        ensures there { self.failed ≡ 0 → OnOk result.end (IsThereAs self.file (text_of self.calls)
-            (M.calls result.machine)) }
+        ensures there { self.failed ≡ 0 → OnOk result.end (IsThereAs self.file.path self.file.number
+            (text_of self.calls) (M.calls result.machine)) }
         ensures sure { OnOk result.end (self.is_lost ≡ false) }
         ensures closed { OnOk result.end (Contains (M.calls result.machine) (Closed self.file.number)) }
         ensures within { TouchesFile self.file (M.calls result.machine) }

@@ -3,8 +3,8 @@
 
 ghost use Rattle.age_machine.specs.{WaitsAreAnswered, TornIfUnwaited, TornIfRenamedFirst};
 ghost use Rattle.age_machine.specs.{LostIfNamesUnwaited, OutsAreAnswered, TornIfUnsynced};
-ghost use Rattle.age_machine.specs.{TornIfCutLast, SecondRunIsHarmless, ChangedIfLockedLate};
-ghost use Rattle.age_machine.specs.{OthersAreKept, NumbersAreApart};
+ghost use Rattle.age_machine.specs.{CallsAreAnswered, TornIfCutLast, SecondRunIsHarmless};
+ghost use Rattle.age_machine.specs.{ChangedIfLockedLate, OthersAreKept, NumbersAreApart};
 
 /// There is a disk that answers the calls of a replacement, by a link or by a rename, and on which a
 /// power cut may leave the new file.
@@ -32,6 +32,12 @@ pub fn lost_if_names_unwaited()
 /// lock of its file then, though another run has opened that.
 pub fn outs_are_answered()
     ensures { OutsAreAnswered }
+{}
+
+/// There is a disk that answers the calls of each output that was made, or opened where its path is
+/// known to lead.
+pub fn calls_are_answered()
+    ensures { CallsAreAnswered }
 {}
 
 /// An output that wasn't waited for may be torn.

@@ -28,9 +28,9 @@ pub use host::{
 };
 pub use in_place::{Ended, Opening, Out};
 pub use laws::{
-    changed_if_locked_late, lost_if_names_unwaited, numbers_are_apart, others_are_kept,
-    outs_are_answered, second_run_changes_nothing, torn_if_cut_last, torn_if_renamed_first,
-    torn_if_unsynced, torn_if_unwaited, waits_are_answered,
+    calls_are_answered, changed_if_locked_late, lost_if_names_unwaited, numbers_are_apart,
+    others_are_kept, outs_are_answered, second_run_changes_nothing, torn_if_cut_last,
+    torn_if_renamed_first, torn_if_unsynced, torn_if_unwaited, waits_are_answered,
 };
 pub use machine::{Kind, Machine, Shape, Sight};
 pub use node::{Node, found_at, is_at};

@@ -1,4 +1,4 @@
--- What was done for a file that was replaced, at once or directly. Private: no public contract cites this module.
+-- What was done for a file that was replaced, at once or directly.
 use Rattle.std.specs.Prelude.{◌≡◌, ℕ, List, None, IsSomeAnd, Result, OnOk}
 use Rattle.age_io.specs.declared.durability.Durability.{Durability}
 use Rattle.age_machine.specs.Saved.{Saves}

@@ -1,16 +1,14 @@
 -- What the steps of a replacement do. Private: no public contract cites this module.
-use Rattle.std.specs.Prelude.{◌≡◌, ◌≢◌, ◌⊎◌, ℕ, List, [], ◌∷◌, ◌++◌, take, drop, Bool, true, false}
+use Rattle.std.specs.Prelude.{◌≡◌, ◌≢◌, ◌⊎◌, ℕ, List, [], ◌∷◌, ◌++◌, take, drop, true, false}
 use Rattle.std.specs.Prelude.{Some, Contains, Result, OnOk}
 use Rattle.age_io.specs.declared.durability.Durability.{Durability}
 use Rattle.age_io.specs.declared.durability.Durability.TheVariants as wait
-use Rattle.age_machine.specs.Calls.{FileCall, Removed, SyncedNames, UnwaitedNames, IsOf, MayHave}
+use Rattle.age_machine.specs.Calls.{FileCall, Closed, Removed, SyncedNames, UnwaitedNames, IsOf, MayHave}
 use Rattle.age_machine.specs.Calls.{Waited}
 use Rattle.age_machine.specs.Disk.{Disk, after_calls}
-use Rattle.age_machine.specs.Saves.{AllAnswered, AllWaited, LeadsTo, SavesWhole, SparesFile}
+use Rattle.age_machine.specs.Saves.{AllAnswered, AllWaited, IsThereAs, SavesWhole, SparesFile}
 use Rattle.age_machine.specs.Beside.{HasBeside}
 use Rattle.age_machine.specs.Outs.{AllOn, IsClaimed, LocksFirst}
-use Rattle.age_machine.specs.declared.in_place.Opening.{Opening}
-use Rattle.age_machine.specs.declared.in_place.Opening.TheVariants as way
 use Rattle.age_machine.specs.declared.replacing.Spot.{Spot}
 use Rattle.age_machine.specs.declared.replacing.Spot.TheVariants as spot
 
@@ -42,9 +40,10 @@ pub record CutsOff (n len : ℕ) (old new : List FileCall) : Type 0 where
   pub bytes : (path : List ℕ) (disk : Disk) → AllAnswered path new disk
       → (after_calls new disk).bytes n ≡ take len ((after_calls old disk).bytes n)
 
--- it comes to hold these bytes
+-- it comes to hold these bytes, and is closed
 pub record Gets (n : ℕ) (bytes : List ℕ) (old new : List FileCall) : Type 0 where
   pub sound : StaysSound n old new
+  pub closed : Contains new (Closed n)
   pub holds : (path : List ℕ) (disk : Disk) → AllAnswered path new disk
       → (after_calls new disk).bytes n ≡ bytes
 
@@ -65,11 +64,6 @@ pub record IsHeld (path : List ℕ) (n : ℕ) (opening : FileCall) (calls : List
   pub on : AllOn path n calls
   pub claimed : IsClaimed n calls
   pub locked : LocksFirst n calls
-
--- the name of a file that was opened so is waited for
-abbrev pub is_waited : Opening → Bool
-is_waited way.New = true
-is_waited (way.Found named waited) = waited
 
 abbrev pub StaysHeld : List ℕ → ℕ → FileCall → List FileCall → List FileCall → Type 0
 StaysHeld path n opening old new = IsHeld path n opening old → IsHeld path n opening new
@@ -101,13 +95,15 @@ pub record HasPlaced {E : Type 0} (to : Spot) (durability : Durability) (path fr
     : Type 0 where
   pub tried : HasTried to durability path from n bytes old calls
   pub done : durability ≡ wait.Synced → OnOk result Done
-  pub there : OnOk result (LeadsTo path n bytes calls)
+  pub there : OnOk result (IsThereAs path n bytes calls)
 
--- and before: beside the path is a file of these bytes, which a power cut leaves if it is to
+-- and before: beside the path is a file of these bytes that was closed, which a power cut leaves if it
+-- is to
 pub record IsReady (durability : Durability) (path from : List ℕ) (n : ℕ) (bytes : List ℕ)
     (old calls : List FileCall) : Type 0 where
   pub tried : HasTried spot.Free durability path from n bytes old calls
   pub apart : from ≢ path
+  pub closed : Contains calls (Closed n)
   pub file : (disk : Disk) → AllAnswered path calls disk → (after_calls calls disk).file from ≡ Some n
   pub holds : (disk : Disk) → AllAnswered path calls disk
       → ((after_calls calls disk).bytes n ≡ bytes) × ((after_calls calls disk).is_lost n ≡ false)
