@@ -16,7 +16,7 @@ use Rattle.age_cli_args.specs.declared.request.ProgressOption.TheVariants.{Shown
 use Rattle.age_command.specs.{allows_by, refuses_by}
 use Rattle.age_command.specs.declared.ending.Ending.{Ending}
 use Rattle.age_command.specs.declared.identity.Identity.{Identity}
-use Rattle.age_cli.specs.{Earlier, Engine, GoesOn, Interruption, decrypt_engine, kept_for, IsPlaced, StopsText}
+use Rattle.age_cli.specs.{Engine, GoesOn, Interruption, decrypt_engine, kept_for, IsPlaced, StopsText}
 use Rattle.age_cli.specs.{PortsOf, old_found}
 use Rattle.age_cli.specs.declared.decrypt_command.OldText.{OldText}
 use Rattle.age_cli.specs.declared.output.Writing.{Writing}
@@ -60,7 +60,7 @@ module _ (marks : Option MarksView) (settled : ℕ) (engine : Result (Unit {0}) 
 
 -- ---- It ran, and OUT was ended.
 
-module _ (IsPorts : Ports → Type 0) (Later : Outcome → Type 0) (w : Writing) (i : Identity) (earlier : Option Earlier) (from : Option Resumption)
+module _ (IsPorts : Ports → Type 0) (Later : Outcome → Type 0) (w : Writing) (i : Identity) (earlier : Option (Position × Text)) (from : Option Resumption)
     (before after : Ports) (after_is : IsPorts after) (goes : (P : Option Resumption → Ports → Ports → Type 0) → P from before after
     → GoesOn IsPorts Later earlier P before after) (old new : FilesView) (later : (o : Outcome) → CameSince old new o → Later o)
     (over : CameSince old new (Gave (reading_of w.paths.from.now after.source))) (Unshown : Type 0) (Progress : Supply → Supply → Type 0)

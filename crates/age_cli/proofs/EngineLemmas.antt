@@ -15,8 +15,8 @@ use Rattle.age_command.specs.{Follows}
 use Rattle.age_command.specs.declared.ending.Ending.{Ending}
 use Rattle.age_command.specs.declared.ending.Ending.TheVariants.{Fault}
 use Rattle.age_machine.specs.{EndedFile, OutFile, TouchesItself}
-use Rattle.age_cli.specs.{WasRead, AreNew, Engine, encrypt_engine, Returned, HasEngineEnded, HasEngineStopped, Interruption}
-use Rattle.age_cli.specs.inner.{sealing_end, Concludes, IsPut}
+use Rattle.age_cli.specs.{WasRead, Engine, encrypt_engine, Returned, HasEngineEnded, HasEngineStopped, Interruption}
+use Rattle.age_cli.specs.inner.{AreNew, sealing_end, Concludes, IsPut}
 use Rattle.age_cli.proofs.PutLemmas.{saved_as}
 
 -- ---- What an engine promises, by how it ended.
@@ -48,7 +48,8 @@ module _ (IsPorts : Ports → Type 0) (Came : Outcome → Type 0) (engine : Engi
     after = after;
     before_is = before_is;
     after_is = after_is;
-    new = new;
+    taken = new.taken;
+    failed = new.failed;
     input = input;
     fresh = fresh;
     out = out;

@@ -20,9 +20,9 @@ use Rattle.age_cli_args.specs.declared.request.Request.{Request}
 use Rattle.age_command.specs.{Follows, creating, making, replacing, NamesTwice, order_asked}
 use Rattle.age_command.specs.declared.ending.Ending.{Ending}
 use Rattle.age_cli.specs.Acts.{Acts}
-use Rattle.age_cli.specs.{AreNew, CameFirst, Engine, OfEngine, HasEngineEnded, HasEngineStopped, paths_of, ShowsProgress}
-use Rattle.age_cli.specs.{ShowsRun, encrypt_engine, WasRead, Interruption}
-use Rattle.age_cli.specs.inner.{Concludes, sealing_end, RunsEngine}
+use Rattle.age_cli.specs.{CameFirst, Engine, OfEngine, HasEngineEnded, HasEngineStopped, paths_of, ShowsProgress}
+use Rattle.age_cli.specs.{encrypt_engine, WasRead, Interruption}
+use Rattle.age_cli.specs.inner.{AreNew, Concludes, sealing_end, RunsEngine, ShowsRun}
 use Rattle.age_cli.proofs.ActLemmas.{then_closed, then_concluded}
 use Rattle.age_cli.proofs.EngineLemmas.{engine_ended, engine_stopped, sealing_ends, sealing_stops}
 use Rattle.age_cli.proofs.PutLemmas.{concluded, concludes_from}
@@ -129,7 +129,7 @@ module _ (IsPorts : Ports → Type 0) (asked : Request) (old mid new : FilesView
       let closed : new.events ≡ mid.events ++ Close p.durability ∷ [] → new.events ≡ old.events ++ (order_asked asked).done =
       λ events. then_closed xs ys p.clobber p.to.now p.durability old.events mid.events new.events noted events ∙ ap (λ (order : List Event). old.events ++ order) (sym done_is) in
       let shown : p.progress ≡ Shown → ShowsProgress Came show_old show_new p.from.now r =
-      λ is. record { first = before.source; last = run.after.source; reading = read; shown = run.shown is; whole = run.whole } in
+      λ is. record { first = before.source; last = run.after.source; reading = read; known = (run.shown is).0; shown = (run.shown is).1; whole = run.whole } in
       record {
         done = on_ok_weaker r (λ ended. of (λ n q. HasEngineEnded IsPorts Came n q old new) ended)
             (engine_ended IsPorts Came engine p before run.after before_is run.after_is begun read fresh (run.named ∙ named) old mid new grows late

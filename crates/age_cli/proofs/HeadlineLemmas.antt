@@ -36,18 +36,18 @@ use Rattle.age_cli_args.specs.declared.request.Request.{Request}
 use Rattle.age_cli_args.specs.declared.request.Request.TheVariants.{Inspect, Encrypt, Decrypt, Resume, Drill}
 use Rattle.age_cli_args.specs.Requests.{Requests}
 use Rattle.age_cli_args.proofs.{no_command, one_number}
-use Rattle.age_command.specs.{IsIdentity, IsSecretGiven, allows_by, refuses_by, identity_file, is_usage, NamesTwice, IsOneOf, random_name, IsPassphraseIn}
+use Rattle.age_command.specs.{IsPassphraseIn, allows_by, refuses_by, is_usage, NamesTwice, IsOneOf, random_name}
 use Rattle.age_command.specs.Orders.{writing_order}
 use Rattle.age_command.specs.declared.identity.Identity.{Identity}
-use Rattle.age_command.specs.declared.identity.Identity.TheVariants.{ByPassphrase, ByFileKey, ByShared}
 use Rattle.age_command.specs.declared.ending.Ending.{Ending}
 use Rattle.age_command.specs.declared.ending.Ending.TheVariants.{Words, Usage}
 use Rattle.age_cli.specs.Acts.{Acts}
-use Rattle.age_cli.specs.Commands.{MakesSecret, IsRandomIn}
+use Rattle.age_cli.specs.Commands.{MakesSecret}
 use Rattle.age_cli.specs.{CameFirst, Engine, HasEngineStopped, IsSaved, IsStored, OfEngine, OpensOf, Returned, IsUsage, stop_ending}
-use Rattle.age_cli.specs.{Earlier, WasRead, decrypt_engine, kept_for, status_by, old_found, World, Obeys, DoesOther, held_for, OpensBy, IsPositionIn}
-use Rattle.age_cli.specs.{IsRead, IsWritersInput, KeepsOut, IsWritersOld, BeginsAt, IsWritersResumption, out_of, save_of, EncryptLeavesOut}
+use Rattle.age_cli.specs.{WasRead, decrypt_engine, kept_for, status_by, old_found, World, Obeys, DoesOther, OpensBy, IsPositionIn}
+use Rattle.age_cli.specs.{IsRead, IsWritersInput, KeepsOut, IsWritersOld, BeginsAt, IsWritersResumption, out_of, save_of, EncryptLeavesOut, FileHolds}
 use Rattle.age_cli.proofs.PutLemmas.{no_usage}
+use Rattle.age_cli.proofs.ReadLemmas.{made_by}
 
 -- ---- What a decryption wrote, and read.
 
@@ -99,7 +99,7 @@ module _ (IsPorts : Ports → Type 0) (Came : Outcome → Type 0) (p : Paths) (e
       right r result h =
           let did = call_right (allows_by identity) (refuses_by identity) text run.before run.after (kept_for save) from fits result r h (is_own r result h) in
           subst (λ (out : List ℕ). AnswersRight text out result)
-          (sym (run.took ∙ (did.1.bytes ∙ ap (λ (l : List ℕ). l ++ did.0) run.new.taken))) did.2
+          (sym (run.took ∙ (did.1.bytes ∙ ap (λ (l : List ℕ). l ++ did.0) run.taken))) did.2
 
     decrypts : ((r : Run) → IsFromStart r → IsRead identity input r → IsTextsOwn r) → Leaves (decrypt_engine IsPorts Came save identity None)
     decrypts auth = (
@@ -107,17 +107,17 @@ module _ (IsPorts : Ports → Type 0) (Came : Outcome → Type 0) (p : Paths) (e
       λ settled f position (r, stop, is, stops, placed). (right None tt auth r (Err stop) stops).0,
     )
 
-    resumes : (e : Earlier)
-        → ((first : SourceView) (size : Option ℕ) → Came (old_found e.position e.name first.supply.left size) → BeginsWith e.position first.supply text)
-        → ((r : Run) → BeginsAt e.position r → IsRead identity input r → IsTextsOwn r) → Leaves (decrypt_engine IsPorts Came save identity (Some e))
+    resumes : (e : Position × Text)
+        → ((first : SourceView) (size : Option ℕ) → Came (old_found e.0 e.1 first.supply.left size) → BeginsWith e.0 first.supply text)
+        → ((r : Run) → BeginsAt e.0 r → IsRead identity input r → IsTextsOwn r) → Leaves (decrypt_engine IsPorts Came save identity (Some e))
     resumes e front auth =
-        let own : (first last : SourceView) (r : Run) → IsFrom (resumption e.position first last) r → IsRead identity input r → IsTextsOwn r =
+        let own : (first last : SourceView) (r : Run) → IsFrom (resumption e.0 first last) r → IsRead identity input r → IsTextsOwn r =
         λ first last r begun. auth r (record { index = begun.index; own = begun.own }) in
-        let fits : (first last : SourceView) → WasRead Came (old_found e.position e.name) e.name first last → Fits text (resumption e.position first last) =
-        λ first last read. begins_fits text (resumption e.position first last) (front first read.size read.found) in (
-          λ (first, last, first_is, last_is, read, (done, r, ends)). right (Some (resumption e.position first last)) (fits first last read)
+        let fits : (first last : SourceView) → WasRead Came (old_found e.0 e.1) e.1 first last → Fits text (resumption e.0 first last) =
+        λ first last read. begins_fits text (resumption e.0 first last) (front first read.size read.found) in (
+          λ (first, last, first_is, last_is, read, (done, r, ends)). right (Some (resumption e.0 first last)) (fits first last read)
               (own first last) (Some r) (Ok done) ends,
-          λ settled f position (first, last, first_is, last_is, read, (r, stop, is, stops, placed)). (right (Some (resumption e.position first last))
+          λ settled f position (first, last, first_is, last_is, read, (r, stop, is, stops, placed)). (right (Some (resumption e.0 first last))
               (fits first last read) (own first last) r (Err stop) stops).0,
         )
 
@@ -171,19 +171,6 @@ some_front : (p : Position) (text : List ℕ) (coming : Supply) (held : Option (
     → IsWritersOld held p text → BeginsWith p coming text
 some_front p text coming None there is front = absurd (true≢false (sym there ∙ ap is_some is))
 some_front p text coming (Some b) there is front = record { all = b; shown = is; within = (front b refl).0; begins = (front b refl).1 }
-
--- what opens the input is what the files make
-by_secret : (held given : Option (List ℕ)) (pass key shared : Option Text) (max_log : ℕ) (identity : Identity)
-    → ((name : Text) (bytes : List ℕ) → option_or pass shared ≡ Some name → given ≡ Some bytes → held ≡ Some bytes)
-    → IsIdentity given pass key shared max_log identity → IsIdentity held pass key shared max_log identity
-by_secret held given (Some pass) None None max_log (ByPassphrase words) was is = ((is.0.0, was pass is.0.0 refl is.0.1, is.0.2), is.1, is.2)
-by_secret held given None (Some digits) None max_log (ByFileKey known) was is = is
-by_secret held given None None (Some name) max_log (ByShared shared) was is = record {
-  bytes = was name (shared.secret ++ shared.recipient) refl is.bytes;
-  secret_length = is.secret_length;
-  recipient_length = is.recipient_length;
-}
-by_secret held given pass key shared max_log identity was is = absurd is
 
 -- ---- What the words ask for.
 
@@ -265,13 +252,6 @@ module _ (words : List Text) (IsPorts : Ports → Type 0) (before after : World)
     earlier : (q : Text) (o : Outcome) → AreOthers q puts → (c : since o) → AreOthers q (puts_in c.before)
     earlier q o other c = before_others before.files after.files was is kept_was kept_is puts grows q o other c
 
-    secret_was : (file : Option Text) (given : Option (List ℕ)) → IsSecretGiven since file given
-        → ((name : Text) → file ≡ Some name → AreOthers name puts)
-        → (name : Text) (bytes : List ℕ) → file ≡ Some name → given ≡ Some bytes → held_for olds file ≡ Some bytes
-    secret_was (Some q) (Some all) g other name bytes is_file is_given =
-        gave_all_was before.files after.files was is kept_was kept_is q all g (earlier q _ (other q refl) g.gave.found) ∙ is_given
-    secret_was file given gave other name bytes is_file is_given = cc
-
     -- what a file gave, perhaps not all of it, stood there at its beginning
     given_was : (name bytes : List ℕ) → HasGiven since name bytes → AreOthers name puts → (rest : List ℕ) × (olds name ≡ Some (bytes ++ rest))
     given_was name bytes g other =
@@ -288,9 +268,9 @@ module _ (words : List Text) (IsPorts : Ports → Type 0) (before after : World)
         → IsOneOf q (Some d.paths.from.now ∷ option_text d.identity.pass ∷ option_text d.identity.shared ∷ old_name ∷ []) → AreOthers q puts) where
       opened : (identity : Identity) → OpensOf since d identity → OpensBy olds d.identity identity
       opened identity by =
-          by_secret (held_for olds (identity_file d.identity)) by.given (option_text d.identity.pass) (option_text d.identity.file_key)
-          (option_text d.identity.shared) d.identity.max_log identity (secret_was (identity_file d.identity) by.given by.read (λ name is. others name
-          (one_identity (option_text d.identity.pass) (option_text d.identity.shared) old_name d.paths.from.now name is))) by.makes
+          made_by (HasGivenAll since) (FileHolds olds) d.identity identity (λ name bytes named given.
+          gave_all_was before.files after.files was is kept_was kept_is name bytes given (earlier name _ (others name
+          (one_identity (option_text d.identity.pass) (option_text d.identity.shared) old_name d.paths.from.now name named)) given.gave.found)) by
 
       input_was : (run : Returned IsPorts since d.paths after.files.ended)
           → (is_some (olds d.paths.from.now) ≡ true) × (olds d.paths.from.now ≡ run.before.source.supply.left)
@@ -392,13 +372,13 @@ module _ (words : List Text) (IsPorts : Ports → Type 0) (before after : World)
   resumed : (text : List ℕ) (s : Resuming) → IsWritersResumption s olds text → (identity : Identity) → OpensOf since s.decrypting identity
       → (p : Position) → HasGivenAll early s.position.now (position_text p) → let d = s.decrypting in
       Writes text d.paths (option_text d.identity.pass) (option_text d.identity.shared) (Some s.position.now) (Some s.old.now) (option_text d.save)
-      (decrypt_engine IsPorts since (option_text d.save) identity (Some (record { position = p; name = s.old.now })))
+      (decrypt_engine IsPorts since (option_text d.save) identity (Some (p, s.old.now)))
   resumed text s auth identity by p given puts grows others run =
       let d = s.decrypting in
       let at = first_was s.position.now (position_text p) given in
       let input = input_was puts grows d (Some s.old.now) others run in
       resumes IsPorts since d.paths after.files.ended run text identity (option_text d.save) (olds d.paths.from.now) input.0 input.1
-      (record { position = p; name = s.old.now })
+      (p, s.old.now)
       (front_was puts grows p s.old.now text (others s.old.now (inr (inr (inr (inl refl))))) (auth.old_text p at))
       (auth.rest p at identity (opened puts grows d (Some s.old.now) others identity by))
 
@@ -417,15 +397,20 @@ module _ (words : List Text) (IsPorts : Ports → Type 0) (before after : World)
       auth identity (same_opens rows e.identity d.identity mine.identity its.identity olds identity opens) run from
       (subst (λ (t : Text). IsRead identity (olds t) run) (same_text e.paths.from.now d.paths.from.now _ mine.paths.from its.paths.from) read)
 
+  -- words with a command make the request by their rows
+  rows_of : (asked : Request) (name : List ℕ) (rows : List Row) → Asks words name rows
+      → Requests words asked ⊎ ((words ≡ []) × (asked ≡ Inspect None)) → IsRequest name rows asked
+  rows_of asked name rows asks (inl made) = same_rows words asked name rows asks made
+  rows_of asked name rows asks (inr none) = absurd (no_command words name rows none.0 asks)
+
   -- with no request nothing differs, and with status 0 help was asked for
   keeps_of : (text : List ℕ) (r : Result (Unit {0}) Ending) → OnErr r (status ≡ 0 → ⊥) → Obeyed r → (name : Text) (rows : List Row)
       → Asks words name rows → (to : Text) → ((asked : Request) → DoneFor asked r → IsRequest name rows asked
       → KeepsOut (olds to) (news to) status text) → KeepsOut (olds to) (news to) status text
-  keeps_of text r failed (inl o) name rows asks to so = absurd (no_command words name rows o.none asks)
-  keeps_of text (Ok x) failed (inr (inr o)) name rows asks to so = absurd (not_help words asks.taken o.done.0)
-  keeps_of text (Err e) failed (inr (inr o)) name rows asks to so =
+  keeps_of text (Ok x) failed (inr o) name rows asks to so = absurd (not_help words asks.taken o.done.0)
+  keeps_of text (Err e) failed (inr o) name rows asks to so =
       kept_stopped (olds to) (news to) status text failed (inl (same_if o.untouched to))
-  keeps_of text r failed (inr (inl o)) name rows asks to so = so o.asked o.acts (same_rows words o.asked name rows asks o.made)
+  keeps_of text r failed (inl o) name rows asks to so = so o.asked o.acts (rows_of o.asked name rows asks o.made)
 
   pub headline_of : (text : List ℕ) (r : Result (Unit {0}) Ending) → OnErr r (status ≡ 0 → ⊥) → Obeyed r → (d : Decrypting)
       → Requests words (Decrypt d) → IsWritersInput IsFromStart d olds text → KeepsOut (olds d.paths.to.now) (news d.paths.to.now) status text
@@ -469,11 +454,8 @@ module _ (words : List Text) (IsPorts : Ports → Type 0) (before after : World)
   joined_4 a b c d e = append_assoc a (b ++ (c ++ d)) e ∙ ap (λ (l : List ℕ). a ++ l) (append_assoc b (c ++ d) e
       ∙ ap (λ (l : List ℕ). b ++ l) (append_assoc c d e))
 
-  some_is : (a b : List ℕ) → Some a ≡ Some b → a ≡ b
-  some_is a b same = cc
-
   encrypted : (e : Encrypting) → DoneFor (Encrypt e) (Ok tt)
-      → (secret : SecretView) × MakesSecret e (olds e.pass.now) (olds (random_name (option_text e.random))) secret
+      → (secret : SecretView) × MakesSecret (FileHolds olds) (FileHolds olds) e secret
       × (text : List ℕ) × (file : List ℕ) × (olds e.paths.from.now ≡ Some text) × AgeFile secret text file × (news e.paths.to.now ≡ Some file)
   encrypted e acts =
       let of = acts.done in
@@ -488,26 +470,22 @@ module _ (words : List Text) (IsPorts : Ports → Type 0) (before after : World)
       (λ q out save. ((λ here. out (ap Some here)), tt)) in
       let found = found_was before.files after.files was is kept_was kept_is e.paths.from.now ran.before.source.supply.left ran.input.size
       ran.input.found (earlier puts ends.puts e.paths.from.now _ (others e.paths.from.now (inl refl)) ran.input.found) in
-      let pass = gave_all_was before.files after.files was is kept_was kept_is e.pass.now made.pass made.pass_given
-      (earlier puts ends.puts e.pass.now _ (others e.pass.now (inr (inl refl))) made.pass_given.gave.found) in
-      let rand = given_was puts ends.puts random made.random made.random_given (others random (inr (inr (inl refl)))) in
-      let in_random = made.makes.random_is in
+      let pass = gave_all_was before.files after.files was is kept_was kept_is e.pass.now made.pass.0 made.pass.1
+      (earlier puts ends.puts e.pass.now _ (others e.pass.now (inr (inl refl))) made.pass.1.gave.found) in
+      let rand = given_was puts ends.puts random _ made.random_given (others random (inr (inr (inl refl)))) in
       let read = read_from ran.before.source.supply.left ran.after.source.supply.left done.text found.0 done.read.left in
       let rest = read.2 done.at_end.1 in
-      let took : ran.out.took ≡ done.file = ran.took ∙ (done.wrote.bytes ∙ ap (λ (l : List ℕ). l ++ done.file) ran.new.taken) in (
+      let took : ran.out.took ≡ done.file = ran.took ∙ (done.wrote.bytes ∙ ap (λ (l : List ℕ). l ++ done.file) ran.taken) in (
         secret,
         record {
-          passphrase = subst (λ (h : Option (List ℕ)). IsPassphraseIn h secret.pass) (sym pass) made.makes.passphrase;
-          log_is = made.makes.log_is;
-          within = made.makes.within;
-          random_is = record {
-            rest = in_random.rest ++ rand.0;
-            bytes = rand.1 ∙ (ap (λ (l : List ℕ). Some (l ++ rand.0)) (some_is _ _ in_random.bytes)
-                ∙ ap Some (joined_4 secret.key secret.salt secret.nonce in_random.rest rand.0));
-            key_length = in_random.key_length;
-            salt_length = in_random.salt_length;
-            nonce_length = in_random.nonce_length;
-          };
+          pass = (made.pass.0, pass, made.pass.2);
+          log_is = made.log_is;
+          within = made.within;
+          rest = made.rest ++ rand.0;
+          random_given = rand.1 ∙ ap Some (joined_4 secret.key secret.salt secret.nonce made.rest rand.0);
+          key_length = made.key_length;
+          salt_length = made.salt_length;
+          nonce_length = made.nonce_length;
         },
         done.text,
         done.file,
@@ -518,11 +496,10 @@ module _ (words : List Text) (IsPorts : Ports → Type 0) (before after : World)
 
   pub encrypted_of : (r : Result (Unit {0}) Ending) → OnErr r (status ≡ 0 → ⊥) → Obeyed r → EncryptLeavesOut words olds news status
   encrypted_of (Err ending) failed obeys e made zero = absurd (failed zero)
-  encrypted_of (Ok tt) failed (inl o) e (name, rows, asks, is_asked) zero = absurd (no_command words name rows o.none asks)
-  encrypted_of (Ok tt) failed (inr (inr o)) e (name, rows, asks, is_asked) zero = absurd (not_help words asks.taken o.done.0)
-  encrypted_of (Ok tt) failed (inr (inl o)) e (name, rows, asks, is_asked) zero = go o.asked o.acts (same_rows words o.asked name rows asks o.made) where
+  encrypted_of (Ok tt) failed (inr o) e (name, rows, asks, is_asked) zero = absurd (not_help words asks.taken o.done.0)
+  encrypted_of (Ok tt) failed (inl o) e (name, rows, asks, is_asked) zero = go o.asked o.acts (rows_of o.asked name rows asks o.made) where
     go : (asked : Request) → DoneFor asked (Ok tt) → IsRequest name rows asked
-        → (secret : SecretView) × MakesSecret e (olds e.pass.now) (olds (random_name (option_text e.random))) secret
+        → (secret : SecretView) × MakesSecret (FileHolds olds) (FileHolds olds) e secret
         × (text : List ℕ) × (file : List ℕ) × (olds e.paths.from.now ≡ Some text) × AgeFile secret text file × (news e.paths.to.now ≡ Some file)
     go (Encrypt f) acts (is_its, mine) =
         let its = is_asked.1 in
@@ -530,10 +507,14 @@ module _ (words : List Text) (IsPorts : Ports → Type 0) (before after : World)
         let random : random_name (option_text f.random) ≡ random_name (option_text e.random) = ap random_name (mine.random ∙ sym its.random) in (
           w.0,
           record {
-            passphrase = subst (λ (t : Text). IsPassphraseIn (olds t) w.0.pass) (same_text f.pass.now e.pass.now _ mine.pass its.pass) w.1.passphrase;
+            pass = subst (λ (t : Text). IsPassphraseIn (FileHolds olds t) w.0.pass) (same_text f.pass.now e.pass.now _ mine.pass its.pass) w.1.pass;
             log_is = w.1.log_is ∙ one_number 18 _ f.log e.log mine.log its.log;
             within = w.1.within;
-            random_is = subst (λ (t : Text). IsRandomIn (olds t) w.0) random w.1.random_is;
+            rest = w.1.rest;
+            random_given = subst (λ (t : Text). olds t ≡ Some (w.0.key ++ (w.0.salt ++ (w.0.nonce ++ w.1.rest)))) random w.1.random_given;
+            key_length = w.1.key_length;
+            salt_length = w.1.salt_length;
+            nonce_length = w.1.nonce_length;
           },
           w.2,
           w.3,
@@ -565,27 +546,24 @@ module _ (words : List Text) (IsPorts : Ports → Type 0) (before after : World)
 
   pub spares_asked : (r : Result (Unit {0}) Ending) → Obeyed r → (asked : Request) → Requests words asked
       → (q : Text) → (out_of asked ≡ Some q → ⊥) → (save_of asked ≡ Some q → ⊥) → news q ≡ olds q
-  spares_asked r (inl o) asked made q out save = same_if o.untouched q
-  spares_asked r (inr (inr o)) asked made q out save = same_if o.untouched q
-  spares_asked r (inr (inl o)) asked (name, rows, asks, is_asked) q out save =
-      let mine = same_names name rows asked o.asked is_asked (same_rows words o.asked name rows asks o.made) in
+  spares_asked r (inr o) asked made q out save = same_if o.untouched q
+  spares_asked r (inl o) asked (name, rows, asks, is_asked) q out save =
+      let mine = same_names name rows asked o.asked is_asked (rows_of o.asked name rows asks o.made) in
       spared o.asked r o.acts o.answers q (λ here. out (mine.0 ∙ here)) (λ here. save (mine.1 ∙ here))
 
   -- and nothing but OUT if all was done
   pub spares_done : (r : Result (Unit {0}) Ending) → OnErr r (status ≡ 0 → ⊥) → Obeyed r → (asked : Request) → Requests words asked
       → status ≡ 0 → (q : Text) → (out_of asked ≡ Some q → ⊥) → news q ≡ olds q
   spares_done (Err ending) failed obeys asked made zero q out = absurd (failed zero)
-  spares_done (Ok x) failed (inl o) asked made zero q out = same_if o.untouched q
-  spares_done (Ok x) failed (inr (inr o)) asked made zero q out = same_if o.untouched q
-  spares_done (Ok x) failed (inr (inl o)) asked (name, rows, asks, is_asked) zero q out =
-      let mine = same_names name rows asked o.asked is_asked (same_rows words o.asked name rows asks o.made) in
+  spares_done (Ok x) failed (inr o) asked made zero q out = same_if o.untouched q
+  spares_done (Ok x) failed (inl o) asked (name, rows, asks, is_asked) zero q out =
+      let mine = same_names name rows asked o.asked is_asked (rows_of o.asked name rows asks o.made) in
       by_engine o.asked _ (Ok x) o.acts.done o.answers q (λ engine p h is_out is_save. same (entry p.to.now h.leaves.run.out.took ∷ []) h.puts q
       ((λ here. out (mine.0 ∙ (is_out ∙ ap Some here))), tt))
 
   -- and nothing was put if the words are refused
   pub spares_refused : (r : Result (Unit {0}) Ending) → Obeyed r → IsErrAnd r IsUsage → (q : Text) → news q ≡ olds q
-  spares_refused r (inl o) usage q = same_if o.untouched q
-  spares_refused r (inr (inr o)) usage q = same_if o.untouched q
-  spares_refused (Ok x) (inr (inl o)) usage q = absurd usage
-  spares_refused (Err ending) (inr (inl o)) usage q = ⊎_elim (λ unbegun. same [] unbegun.none q tt) (λ stops. by_engine o.asked _ (Err ending) stops
+  spares_refused r (inr o) usage q = same_if o.untouched q
+  spares_refused (Ok x) (inl o) usage q = absurd usage
+  spares_refused (Err ending) (inl o) usage q = ⊎_elim (λ unbegun. same [] unbegun.none q tt) (λ stops. by_engine o.asked _ (Err ending) stops
       o.answers q (λ engine p s is_out is_save. absurd (usage_no_fault s.fault s.save ending s.reported usage))) o.acts.stopped

@@ -1,7 +1,7 @@
 -- What each arm of the part that obeys the words promises, from what its callee does.
 use Rattle.age_cli.proofs.FinalLemmas.{always_ok}
 use Rattle.std.proofs.Common.{◌≡◌, ◌∙◌, ◌⊎◌, sym, subst, refl, inl, inr, List, [], ◌∷◌, ℕ, Bool, true, false, true≢false, Option, Result, Ok, Err, length, Some}
-use Rattle.std.proofs.Common.{None}
+use Rattle.std.proofs.Common.{None, rules}
 use Rattle.std.specs.Borrow.{Bor}
 use Rattle.std.specs.Prelude.{OnOk, IfErr, IsOk, ◌==◌, IfSome}
 use Rattle.std.proofs.lemmas.Result.{IfErr-weaker, on_ok_weaker}
@@ -49,6 +49,11 @@ pub some_words : (ws : List (Bor Text)) (test : Bool) → test ≡ (length ws ==
 some_words ws test is false_here none =
     let zero : (length ws == 0) ≡ true = rw (some_texts ws none) refl in
     true≢false (sym zero ∙ (sym is ∙ false_here))
+
+pub no_words : (ws : List (Bor Text)) (test : Bool) → test ≡ (length ws == 0) → test ≡ true → texts ws ≡ []
+no_words [] test is true_here = refl
+no_words (w ∷ ws) true is true_here = let none : length (w ∷ ws) ≡ 0 = search rules in cc
+no_words (w ∷ ws) false is true_here = cc
 
 -- help or the version is asked for if its text is the refusal
 pub for_help : (words : List Text) (e : Error) → HasKind (refusals words) e → IsForOutput (kind_of e) → IsForHelp words
@@ -127,42 +132,41 @@ pub obeyed : (words : List Text) (IsPorts : Ports → Type 0) (before after : Wo
     → DoesOther words IsPorts before after Unread Unprinted Unshown Progress ended asked
     → Obeys words IsPorts before after Unread Unprinted Unshown Progress ended
 obeyed words IsPorts before after Unread Unprinted Unshown Progress ended asked made acts answers =
-    inr (inl (record { asked = asked; made = made; acts = acts; answers = answers }))
+    inl (record { asked = asked; made = inl made; acts = acts; answers = answers })
+
+-- no words
+pub obeyed_none : (words : List Text) (IsPorts : Ports → Type 0) (before after : World) (Unread Unprinted Unshown : Type 0)
+    (Progress : Text → Result (Unit {0}) Ending → Type 0) (ended : Result (Unit {0}) Ending) → words ≡ []
+    → Acts IsPorts (Inspect None) before.files after.files Unshown Progress ended
+    → DoesOther words IsPorts before after Unread Unprinted Unshown Progress ended (Inspect None)
+    → Obeys words IsPorts before after Unread Unprinted Unshown Progress ended
+obeyed_none words IsPorts before after Unread Unprinted Unshown Progress ended none acts answers =
+    inl (record { asked = Inspect None; made = inr (none, refl); acts = acts; answers = answers })
 
 -- ---- What is put to the sink of faults.
 
--- what an ending leaves of these two views
-abbrev pub Leaves : Ending → SinkView → SinkView → Type 0
-Leaves e old new = ReportsEnding e old.taken new.taken old.failed new.failed
-
-failed_whole : (e : Ending) (old new : SinkView) → HasRisen old.failed new.failed → Leaves e old new
-failed_whole (Fault fault) old new risen = inr risen
-failed_whole (Unsaved fault second) old new risen = inr risen
-failed_whole (Words text) old new risen = tt
-failed_whole (Usage usage) old new risen = tt
-
 second_whole : (fault second : FileFault) (old mid new : SinkView) → TakesLine fault old mid → TakesLine second mid new ⊎ HasRisen mid.failed new.failed
-    → Leaves (Unsaved fault second) old new
+    → ReportsEnding (Unsaved fault second) old new
 second_whole fault second old mid new first (inl took) = inl (Appends-trans old.taken mid.taken new.taken (fault_line fault) (fault_line second) first.0 took.0)
 second_whole fault second old mid new first (inr risen) = inr (subst (λ (n : ℕ). HasRisen n new.failed) first.1 risen)
 
 -- what was announced and the rest are the whole report
 pub reported_whole : (a : Announcement) (e : Ending) (old mid new : SinkView) (Quiet : Type 0) → (Quiet → mid ≡ old) → Announces a e old mid Quiet
-    → ReportsRest a e mid new → Leaves e old new
-reported_whole Unmade e old mid new Quiet same quiet rest = subst (λ (s : SinkView). Leaves e s new) (same quiet) rest
-reported_whole Made (Fault fault) old mid new Quiet same first rest = subst (λ (s : SinkView). Leaves (Fault fault) old s) (sym rest) (inl first.0)
+    → ReportsRest a e mid new → ReportsEnding e old new
+reported_whole Unmade e old mid new Quiet same quiet rest = subst (λ (s : SinkView). ReportsEnding e s new) (same quiet) rest
+reported_whole Made (Fault fault) old mid new Quiet same first rest = subst (λ (s : SinkView). ReportsEnding (Fault fault) old s) (sym rest) (inl first.0)
 reported_whole Made (Unsaved fault second) old mid new Quiet same first rest = second_whole fault second old mid new first rest
-reported_whole Made (Words text) old mid new Quiet same first rest = tt
-reported_whole Made (Usage usage) old mid new Quiet same first rest = tt
-reported_whole Failed e old mid new Quiet same risen rest = subst (λ (s : SinkView). Leaves e old s) (sym rest) (failed_whole e old mid risen)
+reported_whole Made (Words text) old mid new Quiet same first rest = absurd first
+reported_whole Made (Usage usage) old mid new Quiet same first rest = absurd first
+reported_whole Failed e old mid new Quiet same risen rest = subst (λ (s : SinkView). ReportsEnding e old s) (sym rest) (inr risen)
 
 -- the report of all that there is to read
-pub whole_report : (size : Option ℕ) (coming new : Supply) (r : Report) → IfSome coming.left (λ bytes. IfSome size (λ n. n ≡ length bytes))
+pub whole_report : (size : Option ℕ) (coming new : Supply) (r : Report) → IfSome coming.left (λ bytes. size ≡ Some (length bytes))
     → IsInspected size coming new r → IfSome coming.left (λ bytes. IsReport bytes r)
 whole_report size coming new r sized is = all coming.left refl sized where
-  all : (o : Option (List ℕ)) → coming.left ≡ o → IfSome o (λ bytes. IfSome size (λ n. n ≡ length bytes)) → IfSome o (λ bytes. IsReport bytes r)
+  all : (o : Option (List ℕ)) → coming.left ≡ o → IfSome o (λ bytes. size ≡ Some (length bytes)) → IfSome o (λ bytes. IsReport bytes r)
   all None there known = tt
-  all (Some bytes) there known = is.whole bytes there known
+  all (Some bytes) there known = is.whole bytes there (subst (λ (o : Option ℕ). IfSome o (λ n. n ≡ length bytes)) (sym known) refl)
 
 -- a fault of what was read is one of what this file gave
 pub fails_as : (P Q : FileFault → Type 0) (was is : SinkView) → ((f : FileFault) → P f → Q f) → (e : Ending) → FailsReport P was is e → FailsReport Q was is e

@@ -1,20 +1,21 @@
 -- What was read of the files of a command, and what it makes.
-use Rattle.std.proofs.Common.{◌≡◌, ◌∷◌, [], inl, inr, ap, refl, List, ℕ, Option, ◌++◌, ◌<◌, ◌⊎◌, ⊎_elim, length, arith, Some, None, subst}
+use Rattle.std.proofs.Common.{◌≡◌, ◌∙◌, ◌∷◌, ◌++◌, [], inl, inr, ap, refl, List, ℕ, Option, ◌⊎◌, ⊎_elim, Some, None, subst}
 use Rattle.std.specs.Prelude.{IsSomeAnd}
+use Rattle.std.specs.Option.{option_or}
+use Rattle.age_cli_args.specs.{option_text}
 use Rattle.clap.specs.Words.{Text}
 use Rattle.age_fault.specs.declared.fault.FileFault.{FileFault}
 use Rattle.age_fault.specs.declared.fault.FileFault.TheVariants.{BadPosition}
 use Rattle.age_command.specs.declared.ending.Ending.TheVariants.{Fault}
 use Rattle.age_io.specs.{SourceView}
-use Rattle.age_fileset.specs.{Event, FilesView, Outcome, Gave, CameSince, Does, reading_of, with_outcomes}
+use Rattle.age_fileset.specs.{Event, FilesView, Outcome, Gave, CameSince, Does, HasGivenAll, reading_of, with_outcomes}
 use Rattle.age_fileset.proofs.{does_only, does_then, came_one, came_then, then_came, grows_by, gave_puts, all_as}
-use Rattle.age_command.specs.{HoldsOnly, IsEnough, Makes, Chooses, IsSecretGiven, MakesBy, MakesNone, file_of, identity_file}
+use Rattle.age_command.specs.{HoldsOnly, IsEnough, HoldsBytes, IsIdentity, Makes, Chooses, IsSecretGiven, MakesBy, MakesNone, file_of, identity_file}
 use Rattle.age_command.specs.declared.choice.Choice.TheVariants.{PassphraseFile, FileKey, SharedFile}
 use Rattle.age_command.specs.declared.identity.Identity.{Identity}
 use Rattle.age_command.specs.declared.identity.Identity.TheVariants.{ByPassphrase, ByFileKey, ByShared}
 use Rattle.age_command.specs.declared.ending.Ending.{Ending}
-use Rattle.std.proofs.lemmas.List.{length-append}
-use Rattle.age_cli.specs.{IsUnusable, WasRead, HoldsNoRandom, HoldsNoPosition, OpensOf}
+use Rattle.age_cli.specs.{IsUnusable, WasRead, HoldsNoPosition, OpensOf}
 use Rattle.age_cli.specs.inner.{EndsBy, IsBlamedBy, IsUnplaced, age_file_in}
 use Rattle.age_cli.specs.declared.output.Writing.{Writing}
 use Rattle.age_cli.proofs.OpeningLemmas.{ends_as, taken_as}
@@ -40,23 +41,6 @@ module _ (How : Option (List ℕ) → Option ℕ → Outcome) (name : Text) (e :
     over = then_came [] old mid new (grows_by (e ∷ []) old mid did) (Gave (reading_of name last)) (came_one mid new (Gave (reading_of name last)) (ap (λ v. v.outcomes) over));
   }
 
--- a file with random bytes has 48 of them
-pub too_few : (bytes : List ℕ) → length bytes < 48 → HoldsNoRandom bytes
-too_few bytes few s is = absurd (omega (
-  arith,
-  few,
-  ap (λ o. length (got o)) is.bytes,
-  length-append s.key (s.salt ++ (s.nonce ++ is.rest)),
-  length-append s.salt (s.nonce ++ is.rest),
-  length-append s.nonce is.rest,
-  is.key_length,
-  is.salt_length,
-  is.nonce_length,
-)) where
-  got : Option (List ℕ) → List ℕ
-  got (Some held) = held
-  got None = []
-
 -- a file doesn't hold what it has to, or a name is in use
 pub blamed_for : {Came Later : Outcome → Type 0} {Own GivesNone : Ending → Type 0} (w : Writing) → ((o : Outcome) → Came o → Later o)
     → ((e : Ending) → Own e → GivesNone e) → (e : Ending) → EndsBy Came ⊥ (λ x. Own x ⊎ IsUnusable Came None x) e → EndsBy Later ⊥ (IsBlamedBy Later w GivesNone) e
@@ -68,24 +52,41 @@ pub some_name : {Came Later : Outcome → Type 0} {How : Text → Outcome} → (
 some_name so (Some name) came = (name, so _ came)
 some_name so None never = absurd never
 
+-- what a file gave, if one is named
+secret_of_file : {Came : Outcome → Type 0} (file : Option Text) (held : Option (List ℕ)) → IsSecretGiven Came file held → (name : Text) (bytes : List ℕ)
+    → file ≡ Some name → held ≡ Some bytes → HasGivenAll Came name bytes
+secret_of_file {Came = Came} file held given name bytes is_name is_bytes =
+    subst (λ (o : Option Text). IsSecretGiven Came o (Some bytes)) is_name (subst (λ (o : Option (List ℕ)). IsSecretGiven Came file o) is_bytes given)
+
+-- what makes an identity is what the file gave that is named
+pub made_as : (P Q : Text → List ℕ → Type 0) (pass key shared : Option Text) (max_log : ℕ) (identity : Identity)
+    → ((name : Text) (bytes : List ℕ) → option_or pass shared ≡ Some name → P name bytes → Q name bytes)
+    → IsIdentity P pass key shared max_log identity → IsIdentity Q pass key shared max_log identity
+made_as P Q (Some pass) None None max_log (ByPassphrase words) so is = ((is.0.0, so pass is.0.0 refl is.0.1, is.0.2), is.1, is.2)
+made_as P Q None (Some digits) None max_log (ByFileKey known) so is = is
+made_as P Q None None (Some name) max_log (ByShared shared) so is = record {
+  bytes = so name (shared.secret ++ shared.recipient) refl is.bytes;
+  secret_length = is.secret_length;
+  recipient_length = is.recipient_length;
+}
+made_as P Q pass key shared max_log identity so is = absurd is
+
+pub made_by : (P Q : Text → List ℕ → Type 0) (u : IdentityOptions) (identity : Identity)
+    → ((name : Text) (bytes : List ℕ) → identity_file u ≡ Some name → P name bytes → Q name bytes) → MakesBy P u identity → MakesBy Q u identity
+made_by P Q u identity so is = made_as P Q (option_text u.pass) (option_text u.file_key) (option_text u.shared) u.max_log identity so is
+
 module _ {Came Later : Outcome → Type 0} (so : (o : Outcome) → Came o → Later o) where
-  -- what the file gave that a choice names
-  secret_as : (name : Option Text) (held : Option (List ℕ)) → IsSecretGiven Came name held → IsSecretGiven Later name held
-  secret_as (Some name) (Some bytes) given = all_as Came Later so name bytes given
-  secret_as (Some name) None given = tt
-  secret_as None held given = tt
-
-  -- what a choice made of it is what the options make
-  pub opens_by : {d : Decrypting} {choice : Choice} (held : Option (List ℕ)) {identity : Identity} → Chooses d.identity choice → Makes choice held identity
+  -- what a choice made of the file that it names is what the options make
+  pub opens_by : (d : Decrypting) {choice : Choice} (held : Option (List ℕ)) (identity : Identity) → Chooses d.identity choice → Makes choice held identity
       → IsSecretGiven Came (file_of choice) held → OpensOf Later d identity
-  opens_by {choice = choice} held {identity = identity} chooses makes given = record {
-    given = held;
-    read = subst (λ (n : Option Text). IsSecretGiven Later n held) chooses.file (secret_as (file_of choice) held given);
-    makes = chooses.makes held identity makes;
-  }
+  opens_by d {choice = choice} held identity chooses makes given =
+      made_by (λ name. HoldsBytes held) (HasGivenAll Later) d.identity identity
+      (λ name bytes is_name is_bytes. all_as Came Later so name bytes (secret_of_file (file_of choice) held given name bytes (chooses.file ∙ is_name) is_bytes))
+      (chooses.makes held identity makes)
 
-  pub opens_as : {d : Decrypting} {identity : Identity} → OpensOf Came d identity → OpensOf Later d identity
-  opens_as {d = d} opens = record { given = opens.given; read = secret_as (identity_file d.identity) opens.given opens.read; makes = opens.makes }
+  pub opens_as : (d : Decrypting) (identity : Identity) → OpensOf Came d identity → OpensOf Later d identity
+  opens_as d identity opens =
+      made_by (HasGivenAll Came) (HasGivenAll Later) d.identity identity (λ name bytes is_name given. all_as Came Later so name bytes given) opens
 
   any_held : (known : List ℕ) (held other : Option (List ℕ)) (identity : Identity) → Makes (FileKey known) held identity → Makes (FileKey known) other identity
   any_held known held other (ByFileKey key) makes = makes
@@ -93,11 +94,11 @@ module _ {Came Later : Outcome → Type 0} (so : (o : Outcome) → Came o → La
   any_held known held other (ByShared shared) makes = absurd makes
 
   file_none : (u : IdentityOptions) (choice : Choice) (name : Text) (file : Option Text) → Some name ≡ file
-      → ((held : Option (List ℕ)) (identity : Identity) → MakesBy held u identity → Makes choice held identity)
+      → ((held : Option (List ℕ)) (identity : Identity) → MakesBy (λ name. HoldsBytes held) u identity → Makes choice held identity)
       → HoldsOnly Came name (λ bytes. (identity : Identity) → Makes choice (Some bytes) identity → ⊥)
-      → IsSomeAnd file (λ name. HoldsOnly Later name (λ bytes. (identity : Identity) → MakesBy (Some bytes) u identity → ⊥))
+      → IsSomeAnd file (λ name. HoldsOnly Later name (λ bytes. (identity : Identity) → MakesBy (λ name. HoldsBytes (Some bytes)) u identity → ⊥))
   file_none u choice name file is only holds =
-      subst (λ (o : Option Text). IsSomeAnd o (λ name. HoldsOnly Later name (λ bytes. (identity : Identity) → MakesBy (Some bytes) u identity → ⊥))) is
+      subst (λ (o : Option Text). IsSomeAnd o (λ name. HoldsOnly Later name (λ bytes. (identity : Identity) → MakesBy (λ name. HoldsBytes (Some bytes)) u identity → ⊥))) is
       (holds_as so (λ bytes none identity makes. none identity (only (Some bytes) identity makes)) holds)
 
   -- and if it makes nothing of it, the options make nothing

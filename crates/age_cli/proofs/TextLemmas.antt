@@ -20,7 +20,7 @@ use Rattle.age_machine.specs.{EndedFile, TouchesItself, IsUntouched}
 use Rattle.age_command.specs.{allows_by, refuses_by, order_asked, is_usage, IsUnreadable}
 use Rattle.age_command.specs.declared.ending.Ending.{Ending}
 use Rattle.age_command.specs.declared.identity.Identity.{Identity}
-use Rattle.age_cli.specs.{CameFirst, Earlier, decrypt_engine, HasEngineStopped, HasNotBegun, OfEngine, IsEndingOf, stop_ending}
+use Rattle.age_cli.specs.{CameFirst, decrypt_engine, HasEngineStopped, HasNotBegun, OfEngine, IsEndingOf, stop_ending}
 use Rattle.age_cli.specs.{Returned, SparesOut, IsUsage, FailsFile, FailsReport, World, Obeys, DoesOther, FailsWriting, IsRefusal}
 use Rattle.age_cli.specs.Acts.{Acts}
 use Rattle.age_cli.specs.{encrypt_engine, GivesText, GivesFile, GivesRest, IsBeforeText, IsForText, LeavesText, LeavesOf, kept_for}
@@ -58,7 +58,7 @@ module _ (IsPorts : Ports → Type 0) (Came : Outcome → Type 0) (p : Paths) (e
       → Gives l.run.before l.run.after text → Appends l.run.before.sink.taken l.run.after.sink.taken text → LeavesText IsPorts Came Gives p ended
   leaves Gives Promise l text gave wrote = record {
     run = l.run;
-    promise = subst (λ (t : List ℕ). Gives l.run.before l.run.after t) (sym (l.run.took ∙ (wrote.bytes ∙ ap (λ (b : List ℕ). b ++ text) l.run.new.taken))) gave;
+    promise = subst (λ (t : List ℕ). Gives l.run.before l.run.after t) (sym (l.run.took ∙ (wrote.bytes ∙ ap (λ (b : List ℕ). b ++ text) l.run.taken))) gave;
     closed = l.closed;
     there = l.there;
     safe = l.safe;
@@ -78,13 +78,13 @@ module _ (IsPorts : Ports → Type 0) (Came : Outcome → Type 0) (p : Paths) (e
         let gave = gave_text (kept_for save) (allows_by identity) (refuses_by identity) l.run.before l.run.after None h.0 h.1 h.2 in
         leaves (GivesFile identity) _ l gave.0 gave.1 gave.2.0
 
-    pub leaves_resumed : (go : Earlier) → LeavesText IsPorts Came (λ old new took. (decrypt_engine IsPorts Came save identity (Some go)).ends old new) p ended
-        → LeavesText IsPorts Came (GivesRest IsPorts Came go.name identity go.position) p ended
+    pub leaves_resumed : (go : Position × Text) → LeavesText IsPorts Came (λ old new took. (decrypt_engine IsPorts Came save identity (Some go)).ends old new) p ended
+        → LeavesText IsPorts Came (GivesRest IsPorts Came go.1 identity go.0) p ended
     leaves_resumed go l =
         let h = l.promise in
-        let gave = gave_text (kept_for save) (allows_by identity) (refuses_by identity) l.run.before l.run.after (Some (resumption go.position h.0 h.1))
+        let gave = gave_text (kept_for save) (allows_by identity) (refuses_by identity) l.run.before l.run.after (Some (resumption go.0 h.0 h.1))
         h.5.0 h.5.1 h.5.2 in
-        leaves (GivesRest IsPorts Came go.name identity go.position) _ l gave.0 (h.0, h.1, h.2, h.4, gave.1.0, gave.1.1) gave.2.0
+        leaves (GivesRest IsPorts Came go.1 identity go.0) _ l gave.0 (h.0, h.1, h.2, h.4, gave.1.0, gave.1.1) gave.2.0
 
 -- ---- One that stopped before it wrote.
 
@@ -94,8 +94,8 @@ module _ (IsPorts : Ports → Type 0) (Came : Outcome → Type 0) (p : Paths) (o
 
   untouched : run.after.sink ≡ run.before.sink → Untouched → SparesOut old ended
   untouched same so =
-      let none : run.out.took ≡ [] = run.took ∙ (ap (λ (s : SinkView). s.taken.bytes) same ∙ run.new.taken) in
-      let unfailed : run.after.sink.failed ≡ 0 = ap (λ (s : SinkView). s.failed) same ∙ run.new.failed in
+      let none : run.out.took ≡ [] = run.took ∙ (ap (λ (s : SinkView). s.taken.bytes) same ∙ run.taken) in
+      let unfailed : run.after.sink.failed ≡ 0 = ap (λ (s : SinkView). s.failed) same ∙ run.failed in
       inr (subst (λ (o : Option EndedFile). IsSomeAnd o (λ out. TouchesItself out × (out.took ≡ []) × IsUntouched 0 out)) (sym run.is)
       (run.within, none, subst (λ (n : ℕ). IsUntouched n run.out) unfailed (so none)))
 
@@ -116,12 +116,12 @@ module _ (IsPorts : Ports → Type 0) (Came : Outcome → Type 0) (p : Paths) (o
   spares_run identity from policy None stop so early stops = spares_early identity from stop so early stops
   spares_run identity from policy (Some r) stop so early stops = absurd (in_payload _ run.before run.after r stop.fault early stops.1.why)
 
-  spares_engine : (identity : Identity) (save : Option Text) (earlier : Option Earlier) (settled : ℕ) (fault : FileFault) (position : Option Position)
+  spares_engine : (identity : Identity) (save : Option Text) (earlier : Option (Position × Text)) (settled : ℕ) (fault : FileFault) (position : Option Position)
       → Untouched → IsBeforeText fault → (decrypt_engine IsPorts Came save identity earlier).stops settled fault position run.before run.after → SparesOut old ended
   spares_engine identity save None settled fault position so early (r, stop, is, stops, placed) =
       spares_run identity None (kept_for save) r stop so (subst IsBeforeText (sym is) early) stops
   spares_engine identity save (Some e) settled fault position so early (first, last, first_is, last_is, read, (r, stop, is, stops, placed)) =
-      spares_run identity (Some (resumption e.position first last)) (kept_for save) r stop so (subst IsBeforeText (sym is) early) stops
+      spares_run identity (Some (resumption e.0 first last)) (kept_for save) r stop so (subst IsBeforeText (sym is) early) stops
 
 -- of what was asked
 module _ (IsPorts : Ports → Type 0) (before after : FilesView) (ending : Ending) (fault : FileFault) (is : IsEndingOf fault ending)
@@ -129,7 +129,7 @@ module _ (IsPorts : Ports → Type 0) (before after : FilesView) (ending : Endin
   abbrev since : Outcome → Type 0
   since = CameSince before after
 
-  spares_stop : (p : Paths) (identity : Identity) (save : Option Text) (earlier : Option Earlier) (done : List Event)
+  spares_stop : (p : Paths) (identity : Identity) (save : Option Text) (earlier : Option (Position × Text)) (done : List Event)
       → HasEngineStopped IsPorts since (decrypt_engine IsPorts since save identity earlier) p done ending before after → SparesOut before.ended after.ended
   spares_stop p identity save earlier done s =
       let mine : IsBeforeText s.fault = subst IsBeforeText (same_fault fault s.fault s.save (subst (IsEndingOf fault) s.reported is)) early in
@@ -143,7 +143,7 @@ module _ (IsPorts : Ports → Type 0) (before after : FilesView) (ending : Endin
   spares_of_request asked text (inl unbegun) = unbegun.spared
   spares_of_request (Decrypt d) text (inr stop) = spares_stop d.paths stop.0 (option_text d.save) None _ stop.2
   spares_of_request (Resume r) text (inr stop) =
-      spares_stop r.decrypting.paths stop.0 (option_text r.decrypting.save) (Some (record { position = stop.2; name = r.old.now })) _ stop.4
+      spares_stop r.decrypting.paths stop.0 (option_text r.decrypting.save) (Some (stop.2, r.old.now)) _ stop.4
   spares_of_request asked text (inr stop) = absurd text
 
 -- ---- What is refused writes nothing.
@@ -182,9 +182,8 @@ module _ (words : List Text) (IsPorts : Ports → Type 0) (before after : World)
 
   -- a run that refuses its words writes nothing
   pub refused_silently : (r : Result (Unit {0}) Ending) → Obeys words IsPorts before after Unread Unprinted Unshown Progress r → IsSilent r
-  refused_silently r (inl report) = unblamed r (HeadFails NoHeadFault before.input after.input) before.output after.output report.report.stops
-  refused_silently r (inr (inl did)) = answered r did.asked did.answers
-  refused_silently r (inr (inr declined)) = IfErr-weaker r _ _ (λ e. ⊎_elim (λ refused usage. refused.1)
+  refused_silently r (inl did) = answered r did.asked did.answers
+  refused_silently r (inr declined) = IfErr-weaker r _ _ (λ e. ⊎_elim (λ refused usage. refused.1)
       (λ help usage. absurd (true≢false (sym usage ∙ ap is_usage help.1.0)))) declined.stops
 
 -- ---- What status 0 says.
@@ -209,7 +208,6 @@ leaves_asked IsPorts before after Unshown Progress other did = tt
 pub zero_leaves : (words : List Text) (IsPorts : Ports → Type 0) (before after : World) (Unread Unprinted Unshown : Type 0)
     (Progress : Text → Result (Unit {0}) Ending → Type 0) → Obeys words IsPorts before after Unread Unprinted Unshown Progress (Ok tt)
     → (words ≡ []) ⊎ (IsForHelp words ⊎ ((asked : Request) × Requests words asked × LeavesOf IsPorts (CameSince before.files after.files) after.files.ended asked))
-zero_leaves words IsPorts before after Unread Unprinted Unshown Progress (inl o) = inl o.none
-zero_leaves words IsPorts before after Unread Unprinted Unshown Progress (inr (inl o)) =
-    inr (inr (o.asked, o.made, leaves_asked IsPorts before.files after.files Unshown Progress o.asked o.acts))
-zero_leaves words IsPorts before after Unread Unprinted Unshown Progress (inr (inr o)) = inr (inl o.done.0)
+zero_leaves words IsPorts before after Unread Unprinted Unshown Progress (inl o) =
+    ⊎_elim (λ made. inr (inr (o.asked, made, leaves_asked IsPorts before.files after.files Unshown Progress o.asked o.acts))) (λ none. inl none.0) o.made
+zero_leaves words IsPorts before after Unread Unprinted Unshown Progress (inr o) = inr (inl o.done.0)

@@ -6,7 +6,6 @@ use Rattle.clap.specs.Words.{Text}
 use Rattle.age_io.specs.{SourceView, SinkView, Shown as ShownOne, ShowsReading, IsAtEnd}
 use Rattle.age_io.specs.declared.durability.Durability.{Durability}
 use Rattle.age_io.specs.declared.durability.Durability.TheVariants.{Synced}
-use Rattle.age_io.specs.Supply.{Supply}
 use Rattle.age_fault.specs.declared.fault.FileFault.{FileFault}
 use Rattle.age_fault.specs.declared.fault.FileFault.TheVariants.{Read, Write, Memory, BadPosition}
 use Rattle.age_chunk.specs.{chunk_length}
@@ -23,8 +22,8 @@ use Rattle.age_file.specs.Encrypts.{Encrypts}
 use Rattle.age_machine.specs.{EndedFile, TouchesItself, IsThere, IsOnDisk, IsUntouched, SavedFile}
 use Rattle.age_machine.specs.Saved.{Saves}
 use Rattle.age_fileset.specs.{Event, FilesView, Outcome, Found, Absent, Unwritten, Settled, Alike}
-use Rattle.age_fileset.specs.{OneStream, InUse, Terminal, CameSince, HasGivenAll, Entry, entry}
-use Rattle.age_fileset.specs.{PutsOnly, puts_in}
+use Rattle.age_fileset.specs.{OneStream, InUse, Terminal, CameSince, HasGiven, HasGivenAll, Entry}
+use Rattle.age_fileset.specs.{PutsOnly, entry, puts_in}
 use Rattle.age_cli_args.specs.{option_text}
 use Rattle.age_cli_args.specs.declared.request.ClobberOption.TheVariants.{Refused}
 use Rattle.age_cli_args.specs.declared.request.Decrypting.{Decrypting}
@@ -34,7 +33,7 @@ use Rattle.age_cli_args.specs.declared.request.ProgressOption.TheVariants.{Shown
 use Rattle.age_cli_args.specs.declared.request.Request.{Request}
 use Rattle.age_cli_args.specs.declared.request.Request.TheVariants.{Encrypt, Decrypt, Resume, Inspect, Drill}
 use Rattle.age_command.specs.{is_usage, HoldsOnly, IsUnreadable, allows_by, refuses_by, blame_by}
-use Rattle.age_command.specs.{identity_file, IsSecretGiven, MakesBy, MakesNone, Follows, Order, AreApart}
+use Rattle.age_command.specs.{MakesBy, MakesNone, Follows, Order, AreApart}
 use Rattle.age_command.specs.{HoldsNoPassphrase, NamesTwice, order_asked, random_name}
 use Rattle.age_command.specs.declared.ending.Ending.{Ending}
 use Rattle.age_command.specs.declared.ending.Ending.TheVariants.{Fault, Unsaved, Usage}
@@ -42,8 +41,7 @@ use Rattle.age_command.specs.declared.ending.Usage.TheVariants.{SameFile, OutIsT
 use Rattle.age_command.specs.declared.ending.Usage.TheVariants.{BadRandomFile}
 use Rattle.age_command.specs.declared.identity.Identity.{Identity}
 use Rattle.age_drill.specs.{RefusesDrill}
-use Rattle.age_cli.specs.Commands.{HoldsNoPosition, HoldsNoRandom, HasSecret, WasRead}
-use Rattle.age_cli.specs.Commands.{old_found}
+use Rattle.age_cli.specs.Commands.{HoldsNoPosition, MakesSecret, WasRead, old_found}
 
 -- ---- How a command or a run ended: with all done, or with an ending.
 
@@ -104,29 +102,19 @@ pub record PortsOf {In Out : Type 0} (read : In → SourceView) (wrote : Out →
   pub sink : Out
   pub is : p ≡ ports (read source) (wrote sink)
 
--- a source that gave nothing so far, and a sink that took nothing, and of which no call failed
-pub record AreNew (p : Ports) : Type 0 where
-  pub given : p.source.supply.given ≡ []
-  pub taken : p.sink.taken.bytes ≡ []
-  pub failed : p.sink.failed ≡ 0
-
--- where a decryption goes on: at a position, after the earlier output of this name
-pub record Earlier : Type 0 where
-  pub position : Position
-  pub name : Text
-
 module _ (IsPorts : Ports → Type 0) (Came : Outcome → Type 0) where
-  -- if it goes on, a second source of the set is that of the earlier output, which is found for the
-  -- position
-  abbrev pub GoesOn : Option Earlier → (Option Resumption → Ports → Ports → Type 0) → Ports → Ports → Type 0
+  -- if it goes on at a position, after the earlier output of a name, a second source of the set is that of
+  -- this, which is found for the position
+  abbrev pub GoesOn : Option (Position × Text) → (Option Resumption → Ports → Ports → Type 0)
+      → Ports → Ports → Type 0
   GoesOn None Promise before after = Promise None before after
   GoesOn (Some e) Promise before after =
       (first : SourceView) × (last : SourceView) × IsPorts (ports first before.sink)
-      × IsPorts (ports last after.sink) × WasRead Came (old_found e.position e.name) e.name first last
-      × Promise (Some (resumption e.position first last)) before after
+      × IsPorts (ports last after.sink) × WasRead Came (old_found e.0 e.1) e.1 first last
+      × Promise (Some (resumption e.0 first last)) before after
 
   -- that of `decrypt` and of `resume`
-  abbrev pub decrypt_engine : (save : Option Text) → Identity → Option Earlier → Engine
+  abbrev pub decrypt_engine : (save : Option Text) → Identity → Option (Position × Text) → Engine
   decrypt_engine save i earlier = let begun = from_either (allows_by i) (refuses_by i) in record {
     save = save;
     ends = GoesOn earlier (λ from before after. (done : Done) × (run : Run)
@@ -145,10 +133,8 @@ paths_of (Resume r) = Some r.decrypting.paths
 paths_of other = None
 
 -- the options make what opens the input, with all that the file gave that they name
-pub record OpensOf (Came : Outcome → Type 0) (d : Decrypting) (identity : Identity) : Type 0 where
-  pub given : Option (List ℕ)
-  pub read : IsSecretGiven Came (identity_file d.identity) given
-  pub makes : MakesBy given d.identity identity
+abbrev pub OpensOf : (Came : Outcome → Type 0) → Decrypting → Identity → Type 0
+OpensOf Came d identity = MakesBy (HasGivenAll Came) d.identity identity
 
 -- how a command ends before its output is written: 26 and 27 have a reason, and so has 24, of `resume`;
 -- memory is refused, or the command line is
@@ -169,7 +155,7 @@ abbrev pub GivesNone : (Came : Outcome → Type 0) → Request → Ending → Ty
 GivesNone Came (Encrypt e) ending =
     ((ending ≡ Usage BadPassphraseFile) × HoldsOnly Came e.pass.now (HoldsNoPassphrase e.log))
     ⊎ ((ending ≡ Usage BadRandomFile)
-    × HoldsOnly Came (random_name (option_text e.random)) HoldsNoRandom)
+    × HoldsOnly Came (random_name (option_text e.random)) (λ held. length held < 48))
 GivesNone Came (Decrypt d) ending = OpensNone Came d.identity ending
 GivesNone Came (Resume r) ending = OpensNone Came r.decrypting.identity ending
 GivesNone Came (Drill d) ending = RefusesDrill Came d ending
@@ -202,19 +188,16 @@ IsBlamed Came asked ending = ((ending ≡ Usage SameFile) × NamesOne Came (orde
 
 -- ---- What progress shows.
 
--- a reading: it begins with the length of the input, which is that of what it has to give, if contracts
--- see that; then counts what is read of it, and ends
-abbrev pub ShowsRun : Option ℕ → (coming left : Supply) → (old new : Option (List ShownOne)) → Type 0
-ShowsRun size coming left old new =
-    IfSome coming.left (λ bytes. size ≡ Some (length bytes)) × ShowsReading size coming left old new
-
--- a reading of the file of this name, as long as the set of files said, to its end if all was done
+-- a reading of the file of this name, to its end if all was done. It begins with the file's length, if the
+-- set of files said it, which is that of what it has to give, if contracts see that; then counts what is
+-- read of it, and ends.
 pub record ShowsProgress (Came : Outcome → Type 0) (old new : Option (List ShownOne)) (name : Text)
     (ended : Result (Unit {0}) Ending) : Type 0 where
   pub first : SourceView
   pub last : SourceView
   pub reading : WasRead Came (Found name) name first last
-  pub shown : ShowsRun reading.size first.supply last.supply old new
+  pub known : IfSome first.supply.left (λ bytes. reading.size ≡ Some (length bytes))
+  pub shown : ShowsReading reading.size first.supply last.supply old new
   pub whole : OnOk ended (IsAtEnd last.supply)
 
 -- ---- What becomes of the position of a stop, by how its save went.
@@ -260,27 +243,27 @@ module _ (IsPorts : Ports → Type 0) (Came : Outcome → Type 0) where
   -- what is asked and what was read of the files make an engine, and this holds of it and of the names;
   -- a position is read before anything is put, since its file may be that of `--save`
   abbrev pub OfEngine : (First : Outcome → Type 0) → Request → (Engine → Paths → Type 0) → Type 0
-  OfEngine First (Encrypt e) P = (secret : SecretView) × HasSecret Came e secret
-      × P (encrypt_engine secret) e.paths
+  OfEngine First (Encrypt e) P = (secret : SecretView)
+      × MakesSecret (HasGivenAll Came) (HasGiven Came) e secret × P (encrypt_engine secret) e.paths
   OfEngine First (Decrypt d) P = (identity : Identity) × OpensOf Came d identity
       × P (decrypt_engine IsPorts Came (option_text d.save) identity None) d.paths
   OfEngine First (Resume r) P =
       let d = r.decrypting in
       (identity : Identity) × OpensOf Came d identity
       × (position : Position) × HasGivenAll First r.position.now (position_text position)
-      × P (decrypt_engine IsPorts Came (option_text d.save) identity
-      (Some (record { position = position; name = r.old.now }))) d.paths
+      × P (decrypt_engine IsPorts Came (option_text d.save) identity (Some (position, r.old.now))) d.paths
   OfEngine First other P = Unit {0}
 
-  -- An engine returned, over a source and a sink of the files that were new. The source was IN's, whose
-  -- reading is over. The output that was ended last is OUT, and had taken what the sink took; none was
+  -- An engine returned, over a source and a sink of the files. The source was IN's, whose reading is over;
+  -- the sink was new. The output that was ended last is OUT, and had taken what the sink took; none was
   -- there if an existing one is refused.
   pub record Returned (p : Paths) (ended : Option EndedFile) : Type 0 where
     pub before : Ports
     pub after : Ports
     pub before_is : IsPorts before
     pub after_is : IsPorts after
-    pub new : AreNew before
+    pub taken : before.sink.taken.bytes ≡ []
+    pub failed : before.sink.failed ≡ 0
     pub input : WasRead Came (Found p.from.now) p.from.now before.source after.source
     pub fresh : p.clobber ≡ Refused → Came (Absent p.to.now)
     pub out : EndedFile

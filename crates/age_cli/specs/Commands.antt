@@ -1,5 +1,5 @@
 -- What commands find in the options and the files, and what `inspect` reports.
-use Rattle.std.specs.Prelude.{◌≡◌, ℕ, List, [], ◌∷◌, ◌++◌, length, Option, Some, ◌⊎◌, ◌<◌, ◌==◌, IfSome}
+use Rattle.std.specs.Prelude.{◌≡◌, ℕ, suc, List, [], ◌∷◌, ◌++◌, length, Option, Some, ◌⊎◌, ◌<◌, ◌==◌, IfSome}
 use Rattle.std.specs.Prelude.{if◌then◌else◌, codes, None}
 use Rattle.std.specs.List.{flat_map}
 use Rattle.std.specs.Fmt.{decimal}
@@ -15,7 +15,7 @@ use Rattle.age_file.specs.declared.position.Position.{Position}
 use Rattle.age_file.specs.declared.report.Report.{Report}
 use Rattle.age_file.specs.declared.report.StanzaReport.{StanzaReport}
 use Rattle.age_fileset.specs.{FilesView, CameSince, Outcome, Found, FoundOrEmpty, Unread, InUse, Gave}
-use Rattle.age_fileset.specs.{reading_of, HasGiven, HasGivenAll}
+use Rattle.age_fileset.specs.{reading_of}
 use Rattle.age_cli_args.specs.{option_text}
 use Rattle.age_cli_args.specs.declared.request.Encrypting.{Encrypting}
 use Rattle.age_command.specs.{random_name, IsPassphraseIn}
@@ -37,34 +37,19 @@ pub record WasRead (Came : Outcome → Type 0) (How : Option (List ℕ) → Opti
 
 -- ---- What `encrypt` makes a file of.
 
--- the first 48 bytes of a file: the file key, the stanza's salt and the payload nonce
-pub record IsRandomIn (held : Option (List ℕ)) (s : SecretView) : Type 0 where
+-- The work factor that is asked for and two files make the secret: all that the file of the passphrase
+-- gave; and what that of the random bytes gave, which begins with 48 of them: the file key, the stanza's
+-- salt and the payload nonce.
+pub record MakesSecret (GaveAll Gave : Text → List ℕ → Type 0) (asked : Encrypting) (s : SecretView)
+    : Type 0 where
+  pub pass : IsPassphraseIn (GaveAll asked.pass.now) s.pass
+  pub log_is : s.log ≡ asked.log
+  pub within : IsAllowed s.pass s.log
   pub rest : List ℕ
-  pub bytes : held ≡ Some (s.key ++ (s.salt ++ (s.nonce ++ rest)))
+  pub random_given : Gave (random_name (option_text asked.random)) (s.key ++ (s.salt ++ (s.nonce ++ rest)))
   pub key_length : length s.key ≡ 16
   pub salt_length : length s.salt ≡ 16
   pub nonce_length : length s.nonce ≡ 16
-
--- a passphrase and random bytes, in what was read of two files, and the work factor that is asked for
--- make the secret
-pub record MakesSecret (asked : Encrypting) (pass random : Option (List ℕ)) (secret : SecretView)
-    : Type 0 where
-  pub passphrase : IsPassphraseIn pass secret.pass
-  pub log_is : secret.log ≡ asked.log
-  pub within : IsAllowed secret.pass secret.log
-  pub random_is : IsRandomIn random secret
-
--- all that the file of the passphrase gave, and what that of the random bytes gave, make the secret
-pub record HasSecret (Came : Outcome → Type 0) (asked : Encrypting) (secret : SecretView) : Type 0 where
-  pub pass : List ℕ
-  pub random : List ℕ
-  pub pass_given : HasGivenAll Came asked.pass.now pass
-  pub random_given : HasGiven Came (random_name (option_text asked.random)) random
-  pub makes : MakesSecret asked (Some pass) (Some random) secret
-
--- these bytes hold no random bytes
-abbrev pub HoldsNoRandom : List ℕ → Type 0
-HoldsNoRandom held = (secret : SecretView) → IsRandomIn (Some held) secret → ⊥
 
 -- ---- Where `resume` begins.
 
@@ -98,15 +83,11 @@ report_text r = codes "version age-encryption.org/v1\nheader " ++ decimal r.head
 
 -- ---- What `inspect` did.
 
--- how long an input is, if that can be believed: a file of no length may give bytes, as in /proc
-abbrev pub believed : Option ℕ → Option ℕ
-believed None = None
-believed (Some size) = if size == 0 then None else Some size
-
--- the report of an input that was read to its end, or, if its length is known, of its header and that
+-- the report of an input by its header and how long it is; or of one that was read to its end, if that
+-- isn't known or can't be believed: a file of no length may give bytes, as in /proc
 abbrev pub ReportsAs : Option ℕ → Supply → Supply → Report → Type 0
-ReportsAs None old new r = file.Inspects old new r
-ReportsAs (Some size) old new r = file.InspectsFront size old new r
+ReportsAs (Some (suc n)) old new r = file.InspectsFront (suc n) old new r
+ReportsAs size old new r = file.Inspects old new r
 
 -- The report of what the file of this name gave, or of its header and of how long it is by the set of
 -- files; and of all that it had to give, if contracts see that.
@@ -115,7 +96,7 @@ pub record ReportsFile (Came : Outcome → Type 0) (name : Text) (r : Report) : 
   pub last : SourceView
   pub reading : WasRead Came (Found name) name first last
   pub whole : IfSome first.supply.left (λ bytes. IsReport bytes r)
-  pub reports : ReportsAs (believed reading.size) first.supply last.supply r
+  pub reports : ReportsAs reading.size first.supply last.supply r
 
 -- Reading the file of this name fails with this fault: that of the header that came; or 26 or 29, and what
 -- came has no fault of its own; or 26, since it couldn't be opened or is in use.

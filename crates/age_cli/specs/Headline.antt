@@ -18,7 +18,7 @@ use Rattle.age_cli_args.specs.declared.request.Request.TheVariants.{Encrypt, Dec
 use Rattle.age_cli_args.specs.declared.request.Resuming.{Resuming}
 use Rattle.age_cli_args.specs.declared.request.IdentityOptions.{IdentityOptions}
 use Rattle.age_cli_args.specs.declared.request.Request.{Request}
-use Rattle.age_command.specs.{allows_by, identity_file, MakesBy, random_name}
+use Rattle.age_command.specs.{allows_by, MakesBy}
 use Rattle.age_command.specs.declared.identity.Identity.{Identity}
 use Rattle.age_command.specs.declared.ending.Ending.{Ending}
 use Rattle.age_command.specs.declared.ending.Ending.TheVariants.{Fault, Unsaved}
@@ -26,21 +26,21 @@ use Rattle.age_fault.specs.declared.fault.FileFault.{FileFault}
 use Rattle.age_fault.specs.declared.fault.FileFault.TheVariants.{Stream, BadPosition, ShortText, Read}
 use Rattle.age_fault.specs.declared.fault.FileFault.TheVariants.{Write, Memory, ReadNeverEnds}
 use Rattle.age_fault.specs.declared.fault.FileFault.TheVariants.{OldTextDiffers}
-use Rattle.age_fileset.specs.{Files, FilesView, Outcome, CameSince, HasGivenAll, Shelf, seen_in, entry_of}
-use Rattle.age_cli.specs.Commands.{WasRead, old_found, FailsReport, HasSecret, MakesSecret}
+use Rattle.age_fileset.specs.{Files, FilesView, Outcome, CameSince, HasGiven, HasGivenAll, Shelf, seen_in}
+use Rattle.age_fileset.specs.{entry_of}
+use Rattle.age_cli.specs.Commands.{WasRead, old_found, FailsReport, MakesSecret}
 use Rattle.age_machine.specs.{EndedFile}
 use Rattle.age_cli.specs.Acts.{Acts, OpensOf, paths_of, LeavesText, ShowsProgress, SparesOut, IsUsage}
 use Rattle.age_cli.specs.Runs.{World, Runs, Declines, Obeys, IsRefusal}
 
 -- ---- What the options and the files make, in memory.
 
--- what the file of this name holds, if a name is given
-abbrev pub held_for : Files → Option Text → Option (List ℕ)
-held_for old (Some name) = old name
-held_for old None = None
+-- the file of this name holds just these bytes
+abbrev pub FileHolds : Files → Text → List ℕ → Type 0
+FileHolds files name bytes = files name ≡ Some bytes
 
 abbrev pub OpensBy : Files → IdentityOptions → Identity → Type 0
-OpensBy old u = MakesBy (held_for old (identity_file u)) u
+OpensBy old u = MakesBy (FileHolds old) u
 
 -- the position in a file
 abbrev pub IsPositionIn : Option (List ℕ) → Position → Type 0
@@ -66,7 +66,8 @@ pub record IsRead (identity : Identity) (input : Option (List ℕ)) (r : Run) : 
 abbrev pub IsWritersInput : (Begins : Run → Type 0) → Decrypting → Files → List ℕ → Type 0
 IsWritersInput Begins d old text =
     (identity : Identity) → OpensBy old d.identity identity → (r : Run) → Begins r
-    → IsRead identity (old d.paths.from.now) r → (chunk_count chunk_length text ≤ chunk_limit) × IsTexts text r
+    → IsRead identity (old d.paths.from.now) r
+    → (chunk_count chunk_length text ≤ chunk_limit) × IsTexts text r
 
 -- whatever the status, OUT is as it was or holds a beginning of the text; with status 0, all of it
 pub record KeepsOut (old new : Option (List ℕ)) (status : ℕ) (text : List ℕ) : Type 0 where
@@ -113,7 +114,7 @@ ResumeKeepsOut words old new status =
 -- in the files that are named.
 abbrev pub EncryptLeavesOut : List Text → (old new : Files) → ℕ → Type 0
 EncryptLeavesOut words old new status = (e : Encrypting) → Requests words (Encrypt e) → status ≡ 0
-    → (secret : SecretView) × MakesSecret e (old e.pass.now) (old (random_name (option_text e.random))) secret
+    → (secret : SecretView) × MakesSecret (FileHolds old) (FileHolds old) e secret
     × (text : List ℕ) × (file : List ℕ) × (old e.paths.from.now ≡ Some text) × AgeFile secret text file
     × (new e.paths.to.now ≡ Some file)
 
@@ -202,7 +203,8 @@ GivesText secret before after file = (text : List ℕ)
 -- its payload; and OUT is just that text. Of an encryption: OUT is the age file of the text that IN gave
 -- to its end, for the passphrase and the random bytes that the named files gave.
 abbrev pub LeavesOf : (Ports → Type 0) → (Outcome → Type 0) → Option EndedFile → Request → Type 0
-LeavesOf IsPorts Came ended (Encrypt e) = (secret : SecretView) × HasSecret Came e secret
+LeavesOf IsPorts Came ended (Encrypt e) = (secret : SecretView)
+    × MakesSecret (HasGivenAll Came) (HasGiven Came) e secret
     × LeavesText IsPorts Came (GivesText secret) e.paths ended
 LeavesOf IsPorts Came ended (Decrypt d) = (identity : Identity) × OpensOf Came d identity
     × LeavesText IsPorts Came (GivesFile identity) d.paths ended

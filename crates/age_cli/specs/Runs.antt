@@ -32,9 +32,6 @@ pub record World : Type 0 where
   pub input : SourceView
   pub output : SinkView
 
-abbrev pub world : FilesView → SourceView → SinkView → World
-world files input output = record { files = files; input = input; output = output }
-
 -- words are refused, or no request could be read of them; or memory was refused meanwhile
 abbrev pub IsRefusal : Ending → Type 0
 IsRefusal (Words text) = Unit {0}
@@ -48,44 +45,29 @@ FailsWriting old new ending = (ending ≡ Fault Write) × HasRisen old.failed ne
 abbrev pub Prints : (old new : SinkView) → Type 0
 Prints old new = (text : List ℕ) × Appends old.taken new.taken text × (new.flushed ≡ true)
 
--- such a report was written, and sent on; or it failed so, and nothing was written, unless writing failed
-pub record Reported (ended : Result (Unit {0}) Ending) (Reports : Report → Type 0) (Unprinted : Type 0)
-    (Fails : FileFault → Type 0) (output_old output_new : SinkView) : Type 0 where
-  pub done : OnOk ended (((r : Report) × Reports r
-      × Appends output_old.taken output_new.taken (report_text r)) × (output_new.flushed ≡ true))
-  pub stops : IfErr ended (FailsReport Fails output_old output_new)
-  pub unprinted : IfErr ended (λ e. FailsWriting output_old output_new e ⊎ Unprinted)
-
 -- `IsPorts` says which are the ports of the files. `Unread`, `Unprinted` and `Unshown` say that the input,
 -- the output and the progress are as they were, and `Progress` what was shown of the progress, by the
 -- name of IN and by how the run ended.
 module _ (words : List Text) (IsPorts : Ports → Type 0) (before after : World)
     (Unread Unprinted Unshown : Type 0)
     (Progress : Text → Result (Unit {0}) Ending → Type 0) (ended : Result (Unit {0}) Ending) where
-  -- the input was read to its end, and its report was written
-  abbrev pub ReportedInput : Type 0
-  ReportedInput = Reported ended (Inspects before.input.supply after.input.supply) Unprinted
-      (HeadFails NoHeadFault before.input after.input) before.output after.output
+  -- such a report was written, and sent on; or it failed so, and nothing was written, unless writing failed
+  pub record Reported (Reports : Report → Type 0) (Fails : FileFault → Type 0) : Type 0 where
+    pub done : OnOk ended (((r : Report) × Reports r
+        × Appends before.output.taken after.output.taken (report_text r)) × (after.output.flushed ≡ true))
+    pub stops : IfErr ended (FailsReport Fails before.output after.output)
+    pub unprinted : IfErr ended (λ e. FailsWriting before.output after.output e ⊎ Unprinted)
 
-  -- Without words the input is reported.
-  pub record ReportsInput : Type 0 where
-    pub none : words ≡ []
-    pub report : ReportedInput
-    -- No file was opened, made or changed.
-    pub untouched : after.files ≡ before.files
-    -- No progress was shown.
-    pub silent : Unshown
-
-  -- `inspect` reported the input, or its file. A drill printed lines, and IN's reading is over if all
-  -- was done; it is refused before a file is opened if both or neither of `--clear` and `--pass` are
-  -- given. Neither command puts anything under a name. Other commands write nothing to the output. Only
-  -- `inspect` without a file reads the input.
+  -- `inspect` reported the input, which it read to its end, or its file. A drill printed lines, and IN's
+  -- reading is over if all was done; it is refused before a file is opened if both or neither of `--clear`
+  -- and `--pass` are given. Neither command puts anything under a name. Other commands write nothing to the
+  -- output. Only `inspect` without a file reads the input.
   abbrev pub DoesOther : Request → Type 0
-  DoesOther (Inspect None) = ReportedInput × (after.files ≡ before.files)
+  DoesOther (Inspect None) = Reported (Inspects before.input.supply after.input.supply)
+      (HeadFails NoHeadFault before.input after.input) × (after.files ≡ before.files)
   DoesOther (Inspect (Some name)) = Unread
-      × Reported ended (ReportsFile (CameSince before.files after.files) name.now) Unprinted
-      (FailsFile before.files after.files name.now) before.output after.output
-      × Does (Open name.now ∷ []) before.files after.files
+      × Reported (ReportsFile (CameSince before.files after.files) name.now)
+      (FailsFile before.files after.files name.now) × Does (Open name.now ∷ []) before.files after.files
   DoesOther (Drill d) =
       let Came = CameSince before.files after.files in
       Unread × DrillEnds (IsUnreadable Came) (RefusesDrill Came d) Unprinted before.output after.output ended
@@ -95,10 +77,10 @@ module _ (words : List Text) (IsPorts : Ports → Type 0) (before after : World)
       × ((did : List Event) × Does did before.files after.files)
   DoesOther other = Unread × Unprinted
 
-  -- Words that make a request are obeyed.
+  -- Words that make a request are obeyed. No words ask for a report of the input.
   pub record DoesRequest : Type 0 where
     pub asked : Request
-    pub made : Requests words asked
+    pub made : Requests words asked ⊎ ((words ≡ []) × (asked ≡ Inspect None))
     -- What was done with files.
     pub acts : Acts IsPorts asked before.files after.files Unshown Progress ended
     -- What was written to the output.
@@ -123,7 +105,7 @@ module _ (words : List Text) (IsPorts : Ports → Type 0) (before after : World)
 
   -- A run did one of these, of its words.
   abbrev pub Obeys : Type 0
-  Obeys = ReportsInput ⊎ (DoesRequest ⊎ Declines)
+  Obeys = DoesRequest ⊎ Declines
 
 -- ---- What a run did.
 
@@ -139,7 +121,6 @@ pub record Runs (words : List Text) (IsPorts : Ports → Type 0) (before after :
   pub status_is : status ≡ status_by ended
   -- If all was done, nothing goes to `faults`.
   pub quiet : OnOk ended Quiet
-  -- Otherwise the line of a fault does, or the lines of two, unless the sink fails.
-  pub reported : IfErr ended
-      (λ e. ReportsEnding e faults_old.taken faults_new.taken faults_old.failed faults_new.failed)
+  -- Otherwise the text or the lines of the ending do, and nothing else, unless the sink fails.
+  pub reported : IfErr ended (λ e. ReportsEnding e faults_old faults_new)
   pub obeys : Obeys words IsPorts before after Unread Unprinted Unshown Progress ended

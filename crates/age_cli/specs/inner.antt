@@ -5,7 +5,7 @@ use Rattle.std.specs.Prelude.{if◌then◌else◌, IfOk, ◌<◌, ◌*◌}
 use Rattle.clap.specs.Words.{Text}
 use Rattle.clap.specs.declared.error.kind.ErrorKind.{ErrorKind}
 use Rattle.clap.specs.declared.error.kind.ErrorKind.TheVariants.{DisplayHelp, DisplayVersion}
-use Rattle.age_io.specs.{SinkView, SourceView, Origin, Named, IsAtEnd}
+use Rattle.age_io.specs.{SinkView, SourceView, Origin, Named, IsAtEnd, Shown as ShownOne, ShowsReading}
 use Rattle.age_io.specs.declared.durability.Durability.{Durability}
 use Rattle.age_fault.specs.declared.fault.FileFault.{FileFault}
 use Rattle.age_fault.specs.declared.fault.FileFault.TheVariants.{Write, Read, Memory, BadPosition}
@@ -21,14 +21,14 @@ use Rattle.age_keys.specs.{IsAllowed, PassphraseIdentity}
 use Rattle.age_command.specs.declared.ending.Ending.{Ending}
 use Rattle.age_command.specs.declared.ending.Ending.TheVariants.{Fault, Usage}
 use Rattle.age_machine.specs.{Closes, EndedFile, OutFile, TouchesItself, IsUntouched}
-use Rattle.age_cli.specs.Acts.{stop_ending, Earlier, IsSaved, Engine}
-use Rattle.age_cli.specs.Acts.{AreNew, SparesOut, AreSame, IsUnusable, NamesOne, IsThereUnlessFailed}
+use Rattle.age_cli.specs.Acts.{stop_ending, IsSaved, Engine}
+use Rattle.age_cli.specs.Acts.{SparesOut, AreSame, IsUnusable, NamesOne, IsThereUnlessFailed}
 use Rattle.age_cli.specs.declared.interruption.Interruption.{Interruption}
 use Rattle.age_io.specs.Supply.{Supply}
 use Rattle.age_chunk.specs.{chunk_length}
 use Rattle.age_file.specs.{IsMarked, IsReport, MarksView, Ports, ports, Resumption, resumption, SecretView}
 use Rattle.age_file.specs.declared.report.Report.{Report}
-use Rattle.age_cli.specs.Commands.{ReportsAs, old_found, HoldsNoRandom, HoldsNoPosition, MakesSecret}
+use Rattle.age_cli.specs.Commands.{ReportsAs, old_found, HoldsNoPosition, MakesSecret}
 use Rattle.age_file.specs.declared.position.Position.{Position}
 use Rattle.age_cli_args.specs.{option_text}
 use Rattle.age_cli_args.specs.declared.request.ClobberOption.TheVariants.{Refused}
@@ -177,6 +177,14 @@ pub record RunsEngine (IsPorts : Ports → Type 0) (Came : Outcome → Type 0) (
   pub shown : p.progress ≡ Shown → IsShown before.source.supply after.source.supply
   pub whole : OnOk result (IsAtEnd after.source.supply)
 
+-- ---- What progress shows.
+
+-- a reading: it begins with the length of the input, which is that of what it has to give, if contracts
+-- see that; then counts what is read of it, and ends
+abbrev pub ShowsRun : Option ℕ → (coming left : Supply) → (old new : Option (List ShownOne)) → Type 0
+ShowsRun size coming left old new =
+    IfSome coming.left (λ bytes. size ≡ Some (length bytes)) × ShowsReading size coming left old new
+
 -- ---- Where a decryption goes on.
 
 -- by what was seen of the earlier output before and after
@@ -192,8 +200,8 @@ IsSameOld began None None = Unit {0}
 IsSameOld began old new = ⊥
 
 -- its position and its name
-abbrev pub earlier_of : {In : Type 0} → OldText In → Earlier
-earlier_of e = record { position = e.position; name = e.name.now }
+abbrev pub earlier_of : {In : Type 0} → OldText In → Position × Text
+earlier_of e = (e.position, e.name.now)
 
 -- it was found for the position, and nothing was read of it so far
 abbrev pub IsNewOld : {In : Type 0} → (In → SourceView) → (In → Option ℕ) → (Came : Outcome → Type 0)
@@ -256,6 +264,12 @@ pub record OpensFiles {A : Type 0} (order whole : List Event) (IsTwice : Type 0)
   pub done : IfOk result (λ x. IsNew x × Does order old new × (IsTwice → ⊥))
   pub fails : IfErr result (FailsEarly whole IsTwice Why old new)
 
+-- a source that gave nothing so far, and a sink that took nothing, and of which no call failed
+pub record AreNew (p : Ports) : Type 0 where
+  pub given : p.source.supply.given ≡ []
+  pub taken : p.sink.taken.bytes ≡ []
+  pub failed : p.sink.failed ≡ 0
+
 -- IN and OUT are new, and were found and made as is asked
 abbrev pub IsNewBy : {In Out : Type 0} → (In → SourceView) → (Out → SinkView) → (In → Origin → Type 0)
     → (In → Option ℕ) → (Came : Outcome → Type 0) → Paths → In → Out → Type 0
@@ -306,16 +320,12 @@ secret_of m = record {
 }
 
 -- all that the file of the passphrase gave, and what that of the random bytes gave, make it
-pub record IsMaterialGiven (Came : Outcome → Type 0) (asked : Encrypting) (random_name : Text)
-    (m : Material) : Type 0 where
-  pub pass : List ℕ
-  pub random : List ℕ
-  pub pass_given : HasGivenAll Came asked.pass.now pass
-  pub random_given : HasGiven Came random_name random
-  pub makes : MakesSecret asked (Some pass) (Some random) (secret_of m)
+abbrev pub IsMaterialGiven : (Came : Outcome → Type 0) → Encrypting → (random_name : Text) → Material → Type 0
+IsMaterialGiven Came asked random_name m =
+    MakesSecret (HasGivenAll Came) (λ name. HasGiven Came random_name) asked (secret_of m)
 
 -- one of these files doesn't hold what it has to
 abbrev pub LacksMaterial : (Came : Outcome → Type 0) → Encrypting → (random_name : Text) → Ending → Type 0
 LacksMaterial Came asked random_name ending =
     ((ending ≡ Usage BadPassphraseFile) × HoldsOnly Came asked.pass.now (HoldsNoPassphrase asked.log))
-    ⊎ ((ending ≡ Usage BadRandomFile) × HoldsOnly Came random_name HoldsNoRandom)
+    ⊎ ((ending ≡ Usage BadRandomFile) × HoldsOnly Came random_name (λ held. length held < 48))

@@ -9,10 +9,10 @@ ghost use Rattle.age_command.specs.{NamesTwice, Tells, allows_by, identity_order
 ghost use Rattle.age_io.specs.{Named, Origin};
 ghost use Rattle.age_fileset.specs.{CameSince, FilesView, Outcome};
 ghost use Rattle.age_cli.specs.Acts.{Acts};
-ghost use Rattle.age_cli.specs.{OpensNone, OpensOf, PortsOf, ShowsProgress, ShowsRun, decrypt_engine};
+ghost use Rattle.age_cli.specs.{OpensNone, OpensOf, PortsOf, ShowsProgress, decrypt_engine};
 ghost use Rattle.age_cli.specs.{kept_for};
 ghost use Rattle.age_cli.specs.inner.{EndsBy, IsBlamedBy, IsNewOld, IsSameOld, OpensFiles, RunsEngine};
-ghost use Rattle.age_cli.specs.inner.{earlier_of, goes_on, order_in};
+ghost use Rattle.age_cli.specs.inner.{ShowsRun, earlier_of, goes_on, order_in};
 
 use crate::conclusion::{Decrypted, finish_old, placed_end, positions_for};
 use crate::output::{
@@ -188,8 +188,8 @@ pub(crate) fn decrypt_ready<'w, F: FileSet<'w>, E: Sink, P: Meter>(
         → RunsEngine (PortsOf F.In.view F.Out.view) (CameSince first (F.view files.new))
         (decrypt_engine (PortsOf F.In.view F.Out.view) (CameSince first (F.view files.new))
         (option_text writing.now.save) ready.entry.identity (option_map earlier_of ready.entry.earlier))
-        writing.now.paths (ports (F.In.view ready.entry.source) (F.Out.view ready.entry.out)) (F.view files.old)
-        (F.view files.new) (progress.new ≡ progress.old) (λ coming left.
+        writing.now.paths (ports (F.In.view ready.entry.source) (F.Out.view ready.entry.out))
+        (F.view files.old) (F.view files.new) (progress.new ≡ progress.old) (λ coming left.
         ShowsRun (F.size ready.entry.source) coming left (P.shown progress.old) (P.shown progress.new))
         result }
 {

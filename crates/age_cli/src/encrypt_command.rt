@@ -14,11 +14,10 @@ ghost use Rattle.age_command.specs.declared.ending.Usage.TheVariants.{BadPassphr
 ghost use Rattle.age_file.specs.Encrypts.{Encrypts};
 ghost use Rattle.age_file.specs.{EncryptsFront, IsFrontOf, SecretView, ports};
 ghost use Rattle.age_command.specs.declared.ending.Ending.TheVariants.{Usage as UsageEnding};
-ghost use Rattle.age_cli.specs.Acts.{Acts, IsUnusable, PortsOf, ShowsProgress, ShowsRun};
-ghost use Rattle.age_cli.specs.Commands.{HoldsNoRandom};
+ghost use Rattle.age_cli.specs.Acts.{Acts, IsUnusable, PortsOf, ShowsProgress};
 ghost use Rattle.age_cli.specs.inner.{EndsBy, GivesPassphrase, IsBlamedBy, IsMaterialGiven, IsNewBy};
 ghost use Rattle.age_cli.specs.inner.{IsRandom, IsUnopened, LacksMaterial, OpensFiles, age_file_in};
-ghost use Rattle.age_cli.specs.inner.{order_in, secret_of};
+ghost use Rattle.age_cli.specs.inner.{ShowsRun, order_in, secret_of};
 
 use crate::interruption::sealing_end;
 use crate::output::{
@@ -52,7 +51,7 @@ fn read_random<'w, F: FileSet<'w>>(
     name: &'w str,
 ) -> Result<FileRandom, Ending>
     ensures { OpensFiles (Open name.now ∷ []) (Open name.now ∷ []) ⊥ (λ Came. EndsBy Came ⊥
-        (λ e. ((e ≡ UsageEnding BadRandomFile) × HoldsOnly Came name.now HoldsNoRandom)
+        (λ e. ((e ≡ UsageEnding BadRandomFile) × HoldsOnly Came name.now (λ held. length held < 48))
         ⊎ IsUnusable Came None e)) (F.view files.old) (F.view files.new)
         (λ r. (bytes : List ℕ) × HasGiven (CameSince (F.view files.old) (F.view files.new))
         name.now bytes × IsRandom bytes r) result }

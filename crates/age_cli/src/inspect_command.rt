@@ -1,6 +1,6 @@
 //! The command that reports what a file holds.
 
-ghost use Rattle.std.specs.Prelude.{◌≡◌, ◌⊎◌, [], ◌∷◌, IfOk, OnOk, IfErr, IfSome, length, true};
+ghost use Rattle.std.specs.Prelude.{◌≡◌, ◌⊎◌, [], ◌∷◌, IfOk, OnOk, IfErr, true};
 ghost use Rattle.age_io.specs.Taken.{Appends};
 ghost use Rattle.age_file.specs.declared.report.Report.{Report};
 ghost use Rattle.age_command.specs.declared.ending.Ending.TheVariants.{Fault};
@@ -9,7 +9,7 @@ ghost use Rattle.age_fileset.specs.{Open, Does, CameSince};
 ghost use Rattle.age_file.specs.{HeadFails, NoHeadFault};
 ghost use Rattle.age_file.specs.Reports.{Inspects};
 ghost use Rattle.age_cli.specs.{ReportsFile, FailsReport, FailsFile, report_text};
-ghost use Rattle.age_cli.specs.{believed, FailsWriting};
+ghost use Rattle.age_cli.specs.{FailsWriting};
 ghost use Rattle.age_cli.specs.inner.{IsInspected};
 
 use crate::print::text_of;
@@ -18,7 +18,8 @@ use age_file::{FileFault, Report, Sink, Source, flush_all, inspect, inspect_size
 use age_fileset::{FileSet, OpenFault};
 use std::alloc::Global;
 
-/// Reports what an input of this length holds. If its length isn't known, it is read to its end.
+/// Reports what an input of this length holds. If its length isn't known, it is read to its end; and so
+/// if it is 0, since a file of no length may give bytes, as in /proc.
 fn inspect_as<I: Source>(
     alloc: Global,
     length: Option<u64>,
@@ -30,8 +31,8 @@ fn inspect_as<I: Source>(
     ensures began { (from : Origin) → I.began input.old from → I.began input.new from }
 {
     match length {
-        Some(len) => inspect_sized(alloc, len, input),
-        None => inspect(alloc, input),
+        Some(len) if len > 0 => inspect_sized(alloc, len, input),
+        _ => inspect(alloc, input),
     }
 }
 
@@ -45,7 +46,8 @@ fn write_report<I: Source, O: Sink>(
     ensures done { OnOk result ((r : Report)
         × IsInspected length (I.view input.old).supply (I.view input.new).supply r
         × Appends (O.view output.old).taken (O.view output.new).taken (report_text r)) }
-    ensures fails { IfErr result (λ f. FailsReport (HeadFails NoHeadFault (I.view input.old) (I.view input.new))
+    ensures fails { IfErr result (λ f. FailsReport
+        (HeadFails NoHeadFault (I.view input.old) (I.view input.new))
         (O.view output.old) (O.view output.new) (Fault f)) }
     ensures sent { OnOk result ((O.view output.new).flushed ≡ true) }
     ensures began { (from : Origin) → I.began input.old from → I.began input.new from }
@@ -98,18 +100,6 @@ pub(crate) fn report<I: Source, O: Sink>(
     report_as(alloc, None, input, output)
 }
 
-/// How long an input is, if that can be believed: a file of no length may give bytes, as in /proc.
-fn known_length<'w, F: FileSet<'w>>(files: &F, source: &F::In) -> Option<u64>
-    ensures is { result ≡ believed (F.size source.now) }
-    ensures seen { IfSome (F.In.view source.now).supply.left
-        (λ bytes. IfSome result (λ n. n ≡ length bytes)) }
-{
-    match files.length(source) {
-        Some(len) if len > 0 => Some(len),
-        _ => None,
-    }
-}
-
 /// Writes the report on the file of this name. If its length is known, nothing is read once its
 /// header has come.
 pub(crate) fn report_file<'w, F: FileSet<'w>, O: Sink>(
@@ -135,7 +125,7 @@ pub(crate) fn report_file<'w, F: FileSet<'w>, O: Sink>(
         // This command opens one file only, so one that is in use was opened before it.
         Err(OpenFault::SameFile) => return Err(Ending::Fault(FileFault::Read)),
     };
-    let length = known_length(files, &source);
+    let length = files.length(&source);
     let reported = report_as(alloc, length, &mut source, output);
     files.finish(source);
     reported

@@ -4,7 +4,7 @@
 //! sink for faults and a meter for progress, and returns the status: 0 on success, 1 on a fault, 2
 //! on a bad command line. It is generic over all of them, so that its contract speaks of every
 //! input and every set of files; the program hands in the machine's. What `drill` does is in
-//! `age_command`; the other commands are here.
+//! `age_drill`; the other commands are here.
 //!
 //! `encrypt_file`, `decrypt_file` and `resume_file` do what one command asks for, once its words
 //! are read. Each finds what opens or seals the input, opens the files in a fixed order, runs the

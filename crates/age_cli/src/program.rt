@@ -7,7 +7,7 @@ ghost use Rattle.age_command.specs.{Tells, is_usage};
 ghost use Rattle.age_command.specs.declared.ending.Ending.TheVariants.{Fault};
 ghost use Rattle.clap.specs.Words.{kind_of};
 ghost use Rattle.clap.specs.Walk.{texts};
-ghost use Rattle.age_cli.specs.{PortsOf, ShowsProgress, world, IsRefusal, Obeys, Prints};
+ghost use Rattle.age_cli.specs.{PortsOf, ShowsProgress, IsRefusal, Obeys, Prints};
 ghost use Rattle.age_cli.specs.{FailsWriting};
 ghost use Rattle.age_cli.specs.Runs.{Runs};
 ghost use Rattle.age_cli.specs.Headline.{ZeroLeaves};
@@ -69,8 +69,8 @@ fn obey<'w, F: FileSet<'w>, I: Source, O: Sink, E: Sink, P: Meter>(
     ensures announced { Tells announced.new result (E.view faults.old) (E.view faults.new)
         (faults.new ≡ faults.old) }
     ensures obeys { Obeys (texts words.now) (PortsOf F.In.view F.Out.view)
-        (world (F.view files.old) (I.view input.old) (O.view output.old))
-        (world (F.view files.new) (I.view input.new) (O.view output.new))
+        (record { files = F.view files.old; input = I.view input.old; output = O.view output.old })
+        (record { files = F.view files.new; input = I.view input.new; output = O.view output.new })
         (input.new ≡ input.old) (output.new ≡ output.old)
         (progress.new ≡ progress.old)
         (ShowsProgress (CameSince (F.view files.old) (F.view files.new)) (P.shown progress.old)
@@ -135,8 +135,8 @@ pub fn run<'w, F: FileSet<'w>, I: Source, O: Sink, E: Sink, P: Meter>(
     ensures zero { ZeroLeaves (texts words.now) (PortsOf F.In.view F.Out.view) (F.view files.old)
         (F.view files.new) result }
     ensures runs { Runs (texts words.now) (PortsOf F.In.view F.Out.view)
-        (world (F.view files.old) (I.view input.old) (O.view output.old))
-        (world (F.view files.new) (I.view input.new) (O.view output.new))
+        (record { files = F.view files.old; input = I.view input.old; output = O.view output.old })
+        (record { files = F.view files.new; input = I.view input.new; output = O.view output.new })
         (E.view faults.old) (E.view faults.new) (faults.new ≡ faults.old)
         (input.new ≡ input.old) (output.new ≡ output.old) (progress.new ≡ progress.old)
         (ShowsProgress (CameSince (F.view files.old) (F.view files.new)) (P.shown progress.old)

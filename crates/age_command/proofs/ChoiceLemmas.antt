@@ -9,7 +9,7 @@ use Rattle.age_keys.specs.{IsAllowed, PassphraseIdentity}
 use Rattle.age_fileset.specs.{Outcome, HasGiven, HasGivenAll}
 use Rattle.age_fileset.specs.declared.files.OpenFault.{OpenFault}
 use Rattle.age_command.specs.{without_line_feed, IsEnough, Makes, file_of, file_bytes, Choice, PassphraseFile, SharedFile, Identity, ByPassphrase, ByFileKey}
-use Rattle.age_command.specs.{ByShared, HoldsNoPassphrase, HoldsOnly, IsPassphraseIn}
+use Rattle.age_command.specs.{ByShared, HoldsNoPassphrase, HoldsOnly, HoldsBytes, IsPassphraseIn}
 use Rattle.age_command.proofs.FileLemmas.{holds_as}
 
 abbrev got : Option (List ℕ) → List ℕ
@@ -62,15 +62,15 @@ module _ {Z : Type 0} (Came : Outcome → Type 0) (name : Text) (choice : Choice
 
 -- the property of a passphrase's file
 module _ (name : Bor Text) (log : ℕ) where
-  no_words : (held : Option (List ℕ)) → ((w : PassphraseIdentity) → IsPassphraseIn held w.pass → w.max_log ≡ log → IsAllowed w.pass w.max_log → ⊥)
+  no_words : (held : Option (List ℕ)) → ((w : PassphraseIdentity) → IsPassphraseIn (HoldsBytes held) w.pass → w.max_log ≡ log → IsAllowed w.pass w.max_log → ⊥)
       → (i : Identity) → Makes (PassphraseFile name log) held i → ⊥
   no_words held none (ByPassphrase words) makes = none words makes.0 makes.1 makes.2
   no_words held none (ByFileKey key) makes = makes
   no_words held none (ByShared s) makes = makes
 
   so_words : (bytes : List ℕ) → ((i : Identity) → Makes (PassphraseFile name log) (Some bytes) i → ⊥) → HoldsNoPassphrase log bytes
-  so_words bytes none pass held allowed = none (ByPassphrase (record { pass = pass; max_log = log })) (held, refl, allowed)
+  so_words bytes none allowed = none (ByPassphrase (record { pass = without_line_feed bytes; max_log = log })) ((bytes, refl, refl), refl, allowed)
 
   pub pass_only : (Came : Outcome → Type 0) (held : Option (List ℕ)) → IsEnough Came (PassphraseFile name log) held
-      → ((w : PassphraseIdentity) → IsPassphraseIn held w.pass → w.max_log ≡ log → IsAllowed w.pass w.max_log → ⊥) → HoldsOnly Came name.now (HoldsNoPassphrase log)
+      → ((w : PassphraseIdentity) → IsPassphraseIn (HoldsBytes held) w.pass → w.max_log ≡ log → IsAllowed w.pass w.max_log → ⊥) → HoldsOnly Came name.now (HoldsNoPassphrase log)
   pass_only Came held enough none = holds_as (λ o came. came) so_words (enough (no_words held none))

@@ -1,7 +1,8 @@
 -- How a run ends if it isn't done, and which lines report it.
 use Rattle.std.specs.Prelude.{◌≡◌, ◌⊎◌, ℕ, Bool, true, false, List, [], ◌++◌, codes, decimal, nat_le, Option}
 use Rattle.std.specs.Prelude.{Some, None, Result, Ok, Err, IsErrAnd, if◌then◌else◌}
-use Rattle.age_io.specs.Taken.{Taken, Appends}
+use Rattle.std.specs.String.{string_bytes}
+use Rattle.age_io.specs.Taken.{Appends}
 use Rattle.age_io.specs.{SinkView}
 use Rattle.age_fault.specs.{fault_number, name_of, fault_place, HasRisen}
 use Rattle.age_fault.specs.declared.fault.FileFault.{FileFault}
@@ -9,7 +10,13 @@ use Rattle.age_fileset.specs.{Event}
 use Rattle.age_command.specs.declared.ending.Announcement.{Announcement}
 use Rattle.age_command.specs.declared.ending.Announcement.TheVariants.{Unmade, Made, Failed}
 use Rattle.age_command.specs.declared.ending.Ending.{Ending}
-use Rattle.age_command.specs.declared.ending.Ending.TheVariants.{Fault, Unsaved}
+use Rattle.age_command.specs.declared.ending.Ending.TheVariants.{Words, Usage as BadLine, Fault, Unsaved}
+use Rattle.age_command.specs.declared.ending.Usage.{Usage}
+use Rattle.age_command.specs.declared.ending.Usage.TheVariants.{GiveOneIdentity, BadFileKey, SameFile}
+use Rattle.age_command.specs.declared.ending.Usage.TheVariants.{OutIsTerminal, BadPassphraseFile}
+use Rattle.age_command.specs.declared.ending.Usage.TheVariants.{BadSharedFile, BadRandomFile}
+use Rattle.age_command.specs.declared.ending.Usage.TheVariants.{GiveClearOrPass, ScriptTooLong}
+use Rattle.age_command.specs.declared.ending.Usage.TheVariants.{BadScriptLine, PayloadTooLong, Unread}
 
 -- ---- How a run ends.
 
@@ -23,7 +30,7 @@ is_usage other = true
 abbrev pub RefusesAtOnce : {A : Type 0} → List Event → List Event → Result A Ending → Type 0
 RefusesAtOnce before after result = (after ≡ before) × IsErrAnd result (λ e. is_usage e ≡ true)
 
--- ---- The lines in which faults are reported.
+-- ---- The lines in which it is reported.
 
 -- ` line L` of a header's fault, ` chunk I` of a payload's
 abbrev pub place_text : ℕ → Option ℕ → List ℕ
@@ -36,18 +43,33 @@ abbrev pub fault_line : FileFault → List ℕ
 fault_line fault = codes "age_tool: " ++ (decimal (fault_number fault) ++ (codes " " ++ (name_of fault
     ++ (place_text (fault_number fault) (fault_place fault) ++ codes "\n"))))
 
--- a sink took these bytes, or failed
-abbrev pub TakesOrFails : Taken → Taken → ℕ → ℕ → List ℕ → Type 0
-TakesOrFails old new failed_old failed_new bytes = Appends old new bytes
-    ⊎ HasRisen failed_old failed_new
+-- the line of what is wrong with words that the parser accepts
+abbrev pub usage_line : Usage → List ℕ
+usage_line GiveOneIdentity = codes "age_tool: give one of --pass, --file-key and --shared\n"
+usage_line BadFileKey = codes "age_tool: bad file key\n"
+usage_line SameFile = codes "age_tool: same file named twice\n"
+usage_line OutIsTerminal = codes "age_tool: the output is a terminal\n"
+usage_line BadPassphraseFile = codes "age_tool: bad passphrase file\n"
+usage_line BadSharedFile = codes "age_tool: bad shared file\n"
+usage_line BadRandomFile = codes "age_tool: bad random file\n"
+usage_line GiveClearOrPass = codes "age_tool: give one of --clear and --pass\n"
+usage_line ScriptTooLong = codes "age_tool: script too long\n"
+usage_line (BadScriptLine line) = codes "age_tool: bad script line " ++ decimal line ++ codes "\n"
+usage_line PayloadTooLong = codes "age_tool: payload too long\n"
+usage_line Unread = codes "age_tool: bad command line\n"
 
--- the line of the fault that ended a run, or the two lines, unless the sink failed
-abbrev pub ReportsEnding : Ending → Taken → Taken → ℕ → ℕ → Type 0
-ReportsEnding (Fault fault) old new failed_old failed_new =
-    TakesOrFails old new failed_old failed_new (fault_line fault)
-ReportsEnding (Unsaved fault second) old new failed_old failed_new =
-    TakesOrFails old new failed_old failed_new (fault_line fault ++ fault_line second)
-ReportsEnding other old new failed_old failed_new = Unit {0}
+-- the text of the parser that refused the words, or the line of what is wrong with them, or of a fault, or
+-- the lines of two
+abbrev pub ending_text : Ending → List ℕ
+ending_text (Words text) = string_bytes text
+ending_text (BadLine usage) = usage_line usage
+ending_text (Fault fault) = fault_line fault
+ending_text (Unsaved fault second) = fault_line fault ++ fault_line second
+
+-- a sink took just that, or failed
+abbrev pub ReportsEnding : Ending → (old new : SinkView) → Type 0
+ReportsEnding ending old new = Appends old.taken new.taken (ending_text ending)
+    ⊎ HasRisen old.failed new.failed
 
 -- a sink took the line of a fault, and counted no failure
 abbrev pub TakesLine : FileFault → (old new : SinkView) → Type 0
@@ -65,7 +87,7 @@ Announces Failed ending old new Quiet = HasRisen old.failed new.failed
 -- what was reported after an announcement: the ending, if none was made; and otherwise the line of
 -- a second fault, unless the first couldn't be put
 abbrev pub ReportsRest : Announcement → Ending → (old new : SinkView) → Type 0
-ReportsRest Unmade ending old new = ReportsEnding ending old.taken new.taken old.failed new.failed
+ReportsRest Unmade ending old new = ReportsEnding ending old new
 ReportsRest Made (Unsaved fault second) old new = TakesLine second old new
     ⊎ HasRisen old.failed new.failed
 ReportsRest Made other old new = new ≡ old

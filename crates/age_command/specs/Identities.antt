@@ -41,35 +41,37 @@ steps_by (ByPassphrase words) = passphrase_steps words
 steps_by (ByFileKey known) = 0
 steps_by (ByShared shared) = 0
 
--- the passphrase in a file
-abbrev pub IsPassphraseIn : Option (List ℕ) → List ℕ → Type 0
-IsPassphraseIn held pass = (bytes : List ℕ) × (held ≡ Some bytes) × (pass ≡ without_line_feed bytes)
+-- a file that gave this holds the passphrase
+abbrev pub IsPassphraseIn : (Gave : List ℕ → Type 0) → List ℕ → Type 0
+IsPassphraseIn Gave pass = (bytes : List ℕ) × Gave bytes × (pass ≡ without_line_feed bytes)
 
 -- these bytes hold none that may be used with this work factor
 abbrev pub HoldsNoPassphrase : ℕ → List ℕ → Type 0
-HoldsNoPassphrase log held = (pass : List ℕ) → IsPassphraseIn (Some held) pass → IsAllowed pass log → ⊥
+HoldsNoPassphrase log held = IsAllowed (without_line_feed held) log → ⊥
 
--- the shared secret in a file, followed by the recipient
-pub record IsSharedIn (held : Option (List ℕ)) (shared : Shared) : Type 0 where
-  pub bytes : held ≡ Some (shared.secret ++ shared.recipient)
+-- one that gave this holds the shared secret, followed by the recipient
+pub record IsSharedIn (Gave : List ℕ → Type 0) (shared : Shared) : Type 0 where
+  pub bytes : Gave (shared.secret ++ shared.recipient)
   pub secret_length : length shared.secret ≡ 32
   pub recipient_length : length shared.recipient ≡ 32
 
--- the one option that says what opens the file, and what the file holds that it names, make this
-abbrev pub IsIdentity : Option (List ℕ) → Option Text → Option Text → Option Text → ℕ → Identity → Type 0
-IsIdentity held (Some pass) None None max_log (ByPassphrase words) = IsPassphraseIn held words.pass
+-- the one option that says what opens the file, and all that the file gave that it names, make this
+abbrev pub IsIdentity : (GaveAll : Text → List ℕ → Type 0) → Option Text → Option Text → Option Text → ℕ
+    → Identity → Type 0
+IsIdentity GaveAll (Some pass) None None max_log (ByPassphrase words) =
+    IsPassphraseIn (GaveAll pass) words.pass
     × (words.max_log ≡ max_log) × IsAllowed words.pass words.max_log
-IsIdentity held None (Some digits) None max_log (ByFileKey known) = SpellsKey digits known
-IsIdentity held None None (Some name) max_log (ByShared shared) = IsSharedIn held shared
-IsIdentity held pass file_key shared max_log identity = ⊥
+IsIdentity GaveAll None (Some digits) None max_log (ByFileKey known) = SpellsKey digits known
+IsIdentity GaveAll None None (Some name) max_log (ByShared shared) = IsSharedIn (GaveAll name) shared
+IsIdentity GaveAll pass file_key shared max_log identity = ⊥
 
 -- the file of the passphrase or of the shared secret, if one is named
 abbrev pub identity_file : IdentityOptions → Option Text
 identity_file u = option_or (option_text u.pass) (option_text u.shared)
 
--- the options, and what the file holds that they name, make what opens the input
-abbrev pub MakesBy : Option (List ℕ) → IdentityOptions → Identity → Type 0
-MakesBy held u identity = IsIdentity held (option_text u.pass) (option_text u.file_key)
+-- the options, and all that the file gave that they name, make what opens the input
+abbrev pub MakesBy : (GaveAll : Text → List ℕ → Type 0) → IdentityOptions → Identity → Type 0
+MakesBy GaveAll u identity = IsIdentity GaveAll (option_text u.pass) (option_text u.file_key)
     (option_text u.shared) u.max_log identity
 
 -- what is to blame if these options open nothing: the file or the key that the one of them gives, or
@@ -83,11 +85,16 @@ blame_of pass file_key shared = GiveOneIdentity
 abbrev pub blame_by : IdentityOptions → Usage
 blame_by u = blame_of (option_text u.pass) (option_text u.file_key) (option_text u.shared)
 
+-- a file holds these bytes, if there are any
+abbrev pub HoldsBytes : Option (List ℕ) → List ℕ → Type 0
+HoldsBytes held bytes = held ≡ Some bytes
+
 -- the options make nothing, whatever the file holds that they name; or not of what it holds
 abbrev pub MakesNone : (Came : Outcome → Type 0) → IdentityOptions → Type 0
-MakesNone Came u = ((held : Option (List ℕ)) (identity : Identity) → MakesBy held u identity → ⊥)
+MakesNone Came u =
+    ((held : Option (List ℕ)) (identity : Identity) → MakesBy (λ name. HoldsBytes held) u identity → ⊥)
     ⊎ IsSomeAnd (identity_file u) (λ name. HoldsOnly Came name
-    (λ bytes. (identity : Identity) → MakesBy (Some bytes) u identity → ⊥))
+    (λ bytes. (identity : Identity) → MakesBy (λ name. HoldsBytes (Some bytes)) u identity → ⊥))
 
 -- ---- What opens a file, by the one option that is chosen.
 
@@ -114,10 +121,10 @@ IsSecretGiven Came name bytes = Unit {0}
 
 -- what a choice makes of the bytes of its file
 abbrev pub Makes : Choice → Option (List ℕ) → Identity → Type 0
-Makes (PassphraseFile name max_log) held (ByPassphrase words) = IsPassphraseIn held words.pass
+Makes (PassphraseFile name max_log) held (ByPassphrase words) = IsPassphraseIn (HoldsBytes held) words.pass
     × (words.max_log ≡ max_log) × IsAllowed words.pass words.max_log
 Makes (FileKey known) held (ByFileKey key) = key ≡ known
-Makes (SharedFile name) held (ByShared shared) = IsSharedIn held shared
+Makes (SharedFile name) held (ByShared shared) = IsSharedIn (HoldsBytes held) shared
 Makes choice held identity = ⊥
 
 -- what was read of its file is enough: if the choice makes nothing of it, the file holds only what it
@@ -137,6 +144,6 @@ pub record Chooses (options : IdentityOptions) (choice : Choice) : Type 0 where
   pub blame : blame_in choice ≡ blame_by options
   -- What it makes of the bytes of its file is what the options make of them, and nothing else.
   pub makes : (held : Option (List ℕ)) (identity : Identity) → Makes choice held identity
-      → MakesBy held options identity
-  pub only : (held : Option (List ℕ)) (identity : Identity) → MakesBy held options identity
-      → Makes choice held identity
+      → MakesBy (λ name. HoldsBytes held) options identity
+  pub only : (held : Option (List ℕ)) (identity : Identity)
+      → MakesBy (λ name. HoldsBytes held) options identity → Makes choice held identity

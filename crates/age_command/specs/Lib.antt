@@ -4,11 +4,11 @@ pub mod Identities
 pub mod Orders
 pub mod inner
 pub use Endings.{Announces, RefusesAtOnce, ReportsEnding, ReportsRest, TakesLine, Tells}
-pub use Endings.{fault_line, is_usage, place_text}
+pub use Endings.{ending_text, fault_line, is_usage, place_text, usage_line}
 pub use Files.{AreFirst, HoldsOnly, IsUnreadable, without_line_feed}
-pub use Identities.{Chooses, HoldsNoPassphrase, IsEnough, IsIdentity, IsPassphraseIn, IsSecretGiven}
-pub use Identities.{IsSharedIn, Makes, MakesBy, MakesNone, allows_by, blame_by, file_bytes, file_of, identity_file}
-pub use Identities.{refuses_by}
+pub use Identities.{Chooses, HoldsBytes, HoldsNoPassphrase, IsEnough, IsIdentity, IsPassphraseIn}
+pub use Identities.{IsSecretGiven, IsSharedIn, Makes, MakesBy, MakesNone, allows_by, blame_by}
+pub use Identities.{file_bytes, file_of, identity_file, refuses_by}
 pub use Orders.{AreApart, Follows, IsOneOf, NamesTwice, Order, creating, identity_order}
 pub use Orders.{making, opening_event, order_asked, preparing, random_name, replacing}
 pub use Rattle.age_command.specs.declared.choice.Choice.{Choice}

@@ -6,8 +6,9 @@ ghost use Rattle.age_fault.specs.declared.fault.FileFault.TheVariants.{Read};
 ghost use Rattle.age_fileset.specs.{OpenFails, InUse, Does, CameSince};
 ghost use Rattle.age_fileset.specs.declared.files.OpenFault.TheVariants.{SameFile, Fault};
 ghost use Rattle.age_command.specs.Orders.{opening_event};
-ghost use Rattle.age_command.specs.Identities.{IsPassphraseIn, IsSharedIn, MakesBy, file_of, blame_by};
-ghost use Rattle.age_command.specs.Identities.{blame_in, file_bytes, Makes, Chooses, IsEnough, IsSecretGiven};
+ghost use Rattle.age_command.specs.Identities.{HoldsBytes, IsPassphraseIn, IsSharedIn, MakesBy, file_of};
+ghost use Rattle.age_command.specs.Identities.{blame_by, blame_in, file_bytes, Makes, Chooses};
+ghost use Rattle.age_command.specs.Identities.{IsEnough, IsSecretGiven};
 ghost use Rattle.age_command.specs.Files.{IsUnreadable};
 ghost use Rattle.age_command.specs.declared.identity.Identity.{Identity};
 
@@ -37,7 +38,7 @@ impl<'a> Choice<'a> {
         ensures chooses { IfOk result (Chooses options.now) }
         ensures blame { IfErr result (λ usage. usage ≡ blame_by options.now) }
         ensures none { IfErr result (λ _. (held : Option (List ℕ)) (identity : Identity)
-            → MakesBy held options.now identity → ⊥) }
+            → MakesBy (λ name. HoldsBytes held) options.now identity → ⊥) }
     {
         match (options.pass, options.file_key, options.shared) {
             (Some(name), None, None) => Ok(Choice::PassphraseFile(name, options.max_log)),
@@ -99,10 +100,10 @@ impl<'a> Choice<'a> {
 
 /// The passphrase in the bytes of its file.
 pub fn passphrase_in(secret: Option<Vec<u8>>, max_log: u32) -> Option<OwnPassphrase>
-    ensures some { IfSome result (λ words. IsPassphraseIn (file_bytes secret) words.pass
+    ensures some { IfSome result (λ words. IsPassphraseIn (HoldsBytes (file_bytes secret)) words.pass
         × (words.max_log ≡ max_log) × IsAllowed words.pass words.max_log) }
     ensures none { IfNone result ((words : PassphraseIdentity)
-        → IsPassphraseIn (file_bytes secret) words.pass → words.max_log ≡ max_log
+        → IsPassphraseIn (HoldsBytes (file_bytes secret)) words.pass → words.max_log ≡ max_log
         → IsAllowed words.pass words.max_log → ⊥) }
 {
     match secret {
@@ -113,8 +114,9 @@ pub fn passphrase_in(secret: Option<Vec<u8>>, max_log: u32) -> Option<OwnPassphr
 
 /// The shared secret and the recipient in the bytes of their file.
 fn shared_in(secret: &Option<Vec<u8>>) -> Option<SharedSecret>
-    ensures some { IfSome result (IsSharedIn (file_bytes secret.now)) }
-    ensures none { IfNone result ((shared : Shared) → IsSharedIn (file_bytes secret.now) shared → ⊥) }
+    ensures some { IfSome result (IsSharedIn (HoldsBytes (file_bytes secret.now))) }
+    ensures none { IfNone result ((shared : Shared)
+        → IsSharedIn (HoldsBytes (file_bytes secret.now)) shared → ⊥) }
 {
     match secret {
         Some(bytes) => shared_of(bytes.as_slice()),

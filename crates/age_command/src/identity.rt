@@ -2,7 +2,7 @@
 
 ghost use Rattle.std.specs.Prelude.{◌≡◌, IfSome, IfNone, Some};
 ghost use Rattle.age_keys.specs.{Shared};
-ghost use Rattle.age_command.specs.Identities.{IsSharedIn};
+ghost use Rattle.age_command.specs.Identities.{HoldsBytes, IsSharedIn};
 ghost use Rattle.age_command.specs.Files.{without_line_feed};
 
 use crate::secret::OwnPassphrase;
@@ -64,8 +64,8 @@ pub(crate) const SHARED_FILE_LEN: usize = 64;
 
 /// The shared secret, and the recipient after it.
 pub(crate) fn shared_of(bytes: &[u8]) -> Option<SharedSecret>
-    ensures some { IfSome result (IsSharedIn (Some bytes.now)) }
-    ensures none { IfNone result ((shared : Shared) → IsSharedIn (Some bytes.now) shared → ⊥) }
+    ensures some { IfSome result (IsSharedIn (HoldsBytes (Some bytes.now))) }
+    ensures none { IfNone result ((shared : Shared) → IsSharedIn (HoldsBytes (Some bytes.now)) shared → ⊥) }
 {
     let (shared, recipient) = bytes.split_first_chunk::<32>()?;
     Some(SharedSecret::new(shared, recipient.as_array::<32>()?))

@@ -3,9 +3,11 @@
 ghost use Rattle.std.specs.Prelude.{◌≡◌, ◌++◌, [], decimal, Some, true};
 ghost use Rattle.age_io.specs.{holds};
 ghost use Rattle.age_fault.specs.{fault_number, fault_place};
-ghost use Rattle.age_command.specs.{place_text, fault_line, ReportsEnding, Announces, ReportsRest};
+ghost use Rattle.age_command.specs.{place_text, fault_line, usage_line, ending_text, ReportsEnding};
+ghost use Rattle.age_command.specs.{Announces, ReportsRest};
 ghost use Rattle.age_command.specs.declared.ending.Ending.TheVariants.{Fault};
 ghost use Rattle.age_command.specs.declared.ending.Announcement.TheVariants.{Made};
+ghost use Rattle.age_command.specs.declared.ending.Usage.TheVariants.{BadScriptLine};
 ghost use Rattle.age_command.specs.inner.{PutsAll};
 
 use crate::ending::{Announcement, Ending, Usage};
@@ -104,56 +106,68 @@ fn put_fault<E: Sink>(faults: &mut E, fault: FileFault) -> Result<(), FileFault>
     }
 }
 
-/// What is reported of a bad command line; the number of a script's line follows.
-fn usage_text(usage: Usage) -> &'static str {
-    match usage {
-        Usage::GiveOneIdentity => "give one of --pass, --file-key and --shared",
-        Usage::BadFileKey => "bad file key",
-        Usage::SameFile => "same file named twice",
-        Usage::OutIsTerminal => "the output is a terminal",
-        Usage::BadPassphraseFile => "bad passphrase file",
-        Usage::BadSharedFile => "bad shared file",
-        Usage::BadRandomFile => "bad random file",
-        Usage::GiveClearOrPass => "give one of --clear and --pass",
-        Usage::ScriptTooLong => "script too long",
-        Usage::BadScriptLine(_) => "bad script line ",
-        Usage::PayloadTooLong => "payload too long",
-        Usage::Unread => "bad command line",
-    }
-}
-
-/// The text of a bad command line, which takes no memory either.
-fn put_usage_line<E: Sink>(faults: &mut E, usage: Usage) -> Result<(), FileFault> {
-    put_bytes(faults, b"age_tool: ")?;
-    match usage {
-        Usage::BadScriptLine(line) => put_number(faults, usage_text(usage), line as u64)?,
-        _ => put_bytes(faults, usage_text(usage).as_bytes())?,
-    }
+/// The line of a script's line that is malformed.
+fn put_script_line<E: Sink>(faults: &mut E, line: u64) -> Result<(), FileFault>
+    ensures { PutsAll (usage_line (BadScriptLine line)) (E.view faults.old) (E.view faults.new) result }
+{
+    put_number(faults, "age_tool: bad script line ", line)?;
     put_bytes(faults, b"\n")
 }
 
-/// One line, in one put.
-fn put_usage<E: Sink>(faults: &mut E, usage: Usage) -> Result<(), FileFault> {
-    let mut line = FaultLine::new();
-    match put_usage_line(&mut line, usage) {
-        Ok(()) => put_bytes(faults, line.bytes.as_slice()),
-        Err(_) => put_usage_line(faults, usage),
+/// The same, in one put.
+fn put_whole_script_line<E: Sink>(faults: &mut E, line: u64) -> Result<(), FileFault>
+    ensures { PutsAll (usage_line (BadScriptLine line)) (E.view faults.old) (E.view faults.new) result }
+{
+    let mut whole = FaultLine::new();
+    match put_script_line(&mut whole, line) {
+        Ok(()) => put_bytes(faults, whole.bytes.as_slice()),
+        Err(_) => put_script_line(faults, line),
     }
 }
 
+/// What is wrong with a command line: one line, in one put, which takes no memory either.
+fn put_usage<E: Sink>(faults: &mut E, usage: Usage) -> Result<(), FileFault>
+    ensures { PutsAll (usage_line usage) (E.view faults.old) (E.view faults.new) result }
+{
+    match usage {
+        Usage::GiveOneIdentity => put_bytes(
+            faults,
+            b"age_tool: give one of --pass, --file-key and --shared\n",
+        ),
+        Usage::BadFileKey => put_bytes(faults, b"age_tool: bad file key\n"),
+        Usage::SameFile => put_bytes(faults, b"age_tool: same file named twice\n"),
+        Usage::OutIsTerminal => put_bytes(faults, b"age_tool: the output is a terminal\n"),
+        Usage::BadPassphraseFile => put_bytes(faults, b"age_tool: bad passphrase file\n"),
+        Usage::BadSharedFile => put_bytes(faults, b"age_tool: bad shared file\n"),
+        Usage::BadRandomFile => put_bytes(faults, b"age_tool: bad random file\n"),
+        Usage::GiveClearOrPass => put_bytes(faults, b"age_tool: give one of --clear and --pass\n"),
+        Usage::ScriptTooLong => put_bytes(faults, b"age_tool: script too long\n"),
+        Usage::BadScriptLine(line) => put_whole_script_line(faults, line as u64),
+        Usage::PayloadTooLong => put_bytes(faults, b"age_tool: payload too long\n"),
+        Usage::Unread => put_bytes(faults, b"age_tool: bad command line\n"),
+    }
+}
+
+/// The text or the lines of an ending.
 fn put_ending<E: Sink>(faults: &mut E, ending: &Ending) -> Result<(), FileFault>
-    ensures { ReportsEnding ending.now (E.view faults.old).taken (E.view faults.new).taken
-        (E.view faults.old).failed (E.view faults.new).failed }
+    ensures { PutsAll (ending_text ending.now) (E.view faults.old) (E.view faults.new) result }
 {
     match ending {
-        Ending::Words(text) => put_bytes(faults, text.as_bytes())?,
-        Ending::Usage(usage) => put_usage(faults, *usage)?,
-        Ending::Fault(fault) => put_fault(faults, *fault)?,
+        Ending::Words(text) => put_bytes(faults, text.as_bytes()),
+        Ending::Usage(usage) => put_usage(faults, *usage),
+        Ending::Fault(fault) => put_fault(faults, *fault),
         Ending::Unsaved(fault, second) => {
             put_fault(faults, *fault)?;
-            put_fault(faults, *second)?;
+            put_fault(faults, *second)
         }
     }
+}
+
+/// That, sent on.
+fn send_ending<E: Sink>(faults: &mut E, ending: &Ending) -> Result<(), FileFault>
+    ensures { ReportsEnding ending.now (E.view faults.old) (E.view faults.new) }
+{
+    put_ending(faults, ending)?;
     flush_all(faults)
 }
 
@@ -193,7 +207,7 @@ pub fn report_ending<E: Sink>(faults: &mut E, ending: &Ending, announcement: Ann
 {
     match announcement {
         Announcement::Unmade => {
-            let _ = put_ending(faults, ending);
+            let _ = send_ending(faults, ending);
         }
         Announcement::Made => report_second(faults, ending),
         Announcement::Failed => {}

@@ -37,4 +37,4 @@ returns-clause-acts g c =
     let last : (o : Outcome) → CameSince old mid o → CameSince old new o = came_then grows.puts old mid new grows.grows in
     acts_engine _ (Decrypt d) old mid new _ _ _ _ d.paths before c.decrypt_ready.result xs ys (g.F.FileSet.size source)
     (record { source = source; sink = c.in_ok-source.out; is = refl }) both.0.0 (last _ (did_came judged.1 _ both.0.3)) (λ refused. last _ (did_came judged.1 _ (both.0.4 refused)))
-    both.0.2 run did refl refl (λ P holds. (c.in_ok-identity.identity, opens_as (λ o came. last o (came_did both.1 o came)) judged.0, holds)) refl judged.2
+    both.0.2 run did refl refl (λ P holds. (c.in_ok-identity.identity, opens_as (λ o came. last o (came_did both.1 o came)) c.args.asked.now c.in_ok-identity.identity judged.0, holds)) refl judged.2

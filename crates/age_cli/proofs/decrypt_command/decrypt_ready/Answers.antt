@@ -4,8 +4,8 @@ use Rattle.age_file.specs.{ports}
 use Rattle.age_fileset.specs.{CameSince, Gave, Outcome, reading_of}
 use Rattle.age_fileset.proofs.{came_one, came_then, does_only, does_then, gave_puts}
 use Rattle.age_cli_args.specs.{option_text}
-use Rattle.age_cli.specs.{PortsOf, ShowsRun}
-use Rattle.age_cli.specs.inner.{earlier_of, goes_on}
+use Rattle.age_cli.specs.{PortsOf}
+use Rattle.age_cli.specs.inner.{ShowsRun, earlier_of, goes_on}
 use Rattle.age_cli.proofs.{came_did, concluded, concludes_from, did_came, if_some, runs_opened, went_on}
 use Rattle.age_cli.proofs.decrypt_command.decrypt_ready.Goals as goal
 

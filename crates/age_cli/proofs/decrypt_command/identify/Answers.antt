@@ -50,6 +50,6 @@ returns g c =
     let did : Does (identity_order (option_text u.pass) (option_text u.shared)) (g.F.FileSet.view c.check_names.new.files) (g.F.FileSet.view c.read.new.files) =
     subst (λ (order : List Event). Does order (g.F.FileSet.view c.check_names.new.files) (g.F.FileSet.view c.read.new.files)) chooses.order c.read.ensures.does in
     record {
-      done = (opens_by (did_came checked.1) _ chooses c.in_ok-identity.ensures.makes c.in_ok-secret.ensures.given, does_then [] _ _ _ _ checked.1 did, checked.2);
+      done = (opens_by (did_came checked.1) c.args.asked.now _ _ chooses c.in_ok-identity.ensures.makes c.in_ok-secret.ensures.given, does_then [] _ _ _ _ checked.1 did, checked.2);
       fails = tt;
     }

@@ -79,11 +79,14 @@ returns-clause-acts g c =
     (run.ensures.done secret both.0.0) (run.ensures.fails secret both.0.0) concludes run.ensures.silent run.ensures.shown) all refl refl (λ P holds. (
       secret,
       record {
-        pass = made.0.pass;
-        random = made.0.random;
-        pass_given = all_as _ _ given a.pass.now made.0.pass made.0.pass_given;
-        random_given = given_as _ _ given (random_name (option_text a.random)) made.0.random made.0.random_given;
-        makes = made.0.makes;
+        pass = (made.0.pass.0, all_as _ _ given a.pass.now made.0.pass.0 made.0.pass.1, made.0.pass.2);
+        log_is = made.0.log_is;
+        within = made.0.within;
+        rest = made.0.rest;
+        random_given = given_as _ _ given (random_name (option_text a.random)) _ made.0.random_given;
+        key_length = made.0.key_length;
+        salt_length = made.0.salt_length;
+        nonce_length = made.0.nonce_length;
       },
       holds,
     )) refl made.2

@@ -1,5 +1,5 @@
-use Rattle.std.proofs.Common.{◌∷◌, [], Some, ap, inl, inr, refl}
-use Rattle.age_fileset.specs.{Open}
+use Rattle.std.proofs.Common.{◌∷◌, [], List, ℕ, inl, inr, subst}
+use Rattle.age_fileset.specs.{CameSince, HasGiven, Open}
 use Rattle.age_fileset.proofs.{all_as, does_then, given_as}
 use Rattle.age_cli.proofs.{blamed_for, came_did, did_came, ends_as, fails_for, fails_longer, fails_then, holds_as, opens_not}
 use Rattle.age_cli.proofs.encrypt_command.read_material.Goals as goal
@@ -33,22 +33,15 @@ returns g c =
     record {
       done = (
         record {
-          pass = words.0;
-          random = random.0.0;
-          pass_given = all_as _ _ (λ o came. did_came checked.1 o (came_did random.1 o came)) _ _ words.1;
-          random_given = given_as _ _ (did_came before) _ _ random.0.1;
-          makes = record {
-            passphrase = (words.0, refl, words.2);
-            log_is = words.3;
-            within = words.4;
-            random_is = record {
-              rest = parts.rest;
-              bytes = ap Some parts.parts;
-              key_length = parts.key_length;
-              salt_length = parts.salt_length;
-              nonce_length = parts.nonce_length;
-            };
-          };
+          pass = (words.0, all_as _ _ (λ o came. did_came checked.1 o (came_did random.1 o came)) _ _ words.1, words.2);
+          log_is = words.3;
+          within = words.4;
+          rest = parts.rest;
+          random_given = subst (λ (bytes : List ℕ). HasGiven (CameSince (g.F.FileSet.view c.args.files.now) (g.F.FileSet.view c.read_random.new.files)) c.args.random_name.now bytes)
+              parts.parts (given_as _ _ (did_came before) _ _ random.0.1);
+          key_length = parts.key_length;
+          salt_length = parts.salt_length;
+          nonce_length = parts.nonce_length;
         },
         does_then (Open a.pass.now ∷ []) (Open c.args.random_name.now ∷ []) _ _ _ before random.1,
         checked.2,

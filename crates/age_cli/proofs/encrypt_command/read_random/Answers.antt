@@ -3,7 +3,7 @@ use Rattle.age_io.specs.{Named}
 use Rattle.age_fileset.specs.{Found, Open, reading_of}
 use Rattle.age_command.proofs.{all_so, given_so}
 use Rattle.age_command.proofs.FileLemmas.{over_then}
-use Rattle.age_cli.proofs.{ends_as, fails_all, fails_for, opens_not, over_does, read_why, too_few}
+use Rattle.age_cli.proofs.{ends_as, fails_all, fails_for, opens_not, over_does, read_why}
 use Rattle.age_cli.proofs.encrypt_command.read_random.Goals as goal
 
 pub returns-in_err-source : goal.returns-in_err-source
@@ -51,7 +51,7 @@ returns g c =
             c.in_ok-bytes.bytes.items,
             inl (
               all_so name _ _ _ first last _ source.0.0 source.0.2 over _ c.in_ok-bytes.ensures.first.read (c.in_ok-bytes.ensures.first.at_end few),
-              too_few _ few,
+              few,
             ),
           ),
         );

@@ -38,8 +38,8 @@ returns-clause-done g c =
             (opened_does In g.F.FileSet.size name (Found name) (found_plain name) _ _ c.open.result c.open.ensures.noted c.open.ensures.faults) (In c.report_as-reported.new.input)
             (c.finish.ensures.over name (c.report_as-reported.ensures.began (Named name) c.in-Ok.ensures.named)) first (g.F.FileSet.size c.in-Ok.source) c.in-Ok.ensures.begun
             (opened_came In g.F.FileSet.size name (Found name) (found_plain name) _ _ (Ok c.in-Ok.source) c.in-Ok.ensures.noted);
-        whole = whole_report c.known_length-length.result first.supply _ told.0 c.known_length-length.ensures.seen told.1;
-        reports = rw c.known_length-length.ensures.is at told.1.reports;
+        whole = whole_report c.length-length.result first.supply _ told.0 c.length-length.ensures.seen told.1;
+        reports = rw c.length-length.ensures.noted at told.1.reports;
       },
       told.2,
     )) c.report_as-reported.ensures.done

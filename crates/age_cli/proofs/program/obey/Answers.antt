@@ -7,11 +7,18 @@ use Rattle.age_fileset.proofs.{does_none}
 use Rattle.age_command.specs.{IsUnreadable}
 use Rattle.age_file.specs.{HeadFails, NoHeadFault}
 use Rattle.age_cli.specs.{FailsFile}
-use Rattle.age_cli.proofs.{some_words, obeyed, asked_fails, for_help, help_done, help_fails, both_done, drill_acts, inspect_acts}
+use Rattle.age_cli.proofs.{some_words, no_words, obeyed, obeyed_none, asked_fails, for_help, help_done, help_fails, both_done, drill_acts, inspect_acts}
 use Rattle.age_cli.proofs.program.obey.Goals as goal
 
+pub returns-then-is_empty-clause-obeys : goal.returns-then-is_empty-clause-obeys
+returns-then-is_empty-clause-obeys g c =
+    obeyed_none _ _ _ _ _ _ _ _ _ (no_words c.args.words.now _ c.is_empty.ensures c.if-is_empty.true)
+    (inspect_acts _ _ _ _ _ c.report.result refl None (HeadFails NoHeadFault (g.I.Source.view c.args.input.now) (g.I.Source.view c.report.new.input))
+    (g.O.Sink.view c.args.output.now) (g.O.Sink.view c.report.new.output) (does_none (g.F.FileSet.view c.args.files.now)) c.report.ensures.fails)
+    (record { done = both_done _ _ c.report.result c.report.ensures.done c.report.ensures.sent; stops = c.report.ensures.fails; unprinted = c.report.ensures.unprinted }, refl)
+
 pub returns-in-Ok-None-clause-obeys : goal.returns-in-Ok-None-clause-obeys
-returns-in-Ok-None-clause-obeys g c = inr (inr (record {
+returns-in-Ok-None-clause-obeys g c = inr (record {
   done = tt;
   stops = inl (inl refl, refl);
   untouched = refl;
@@ -19,7 +26,7 @@ returns-in-Ok-None-clause-obeys g c = inr (inr (record {
   silent = refl;
   some = λ none. some_words c.args.words.now _ c.is_empty.ensures c.if-is_empty.false none;
   unasked = λ asked made. absurd ((rw c.in-Ok-None.field-0-is at c.in-Ok-None.ensures.unasked) asked made);
-}))
+})
 
 pub returns-in-Err-clause-obeys : goal.returns-in-Err-clause-obeys
 returns-in-Err-clause-obeys g c =
@@ -27,7 +34,7 @@ returns-in-Err-clause-obeys g c =
     let did = c.answer_refusal.ensures in
     let r = c.answer_refusal.result in
     let help = for_help w c.in-Err.error c.in-Err.ensures.refusals in
-    inr (inr (record {
+    inr (record {
       done = help_done r _ (λ ok. help (did.asked ok)) did.prints;
       stops = help_fails r _ _ _ (g.O.Sink.view c.args.output.now) (g.O.Sink.view c.answer_refusal.new.output) help did.fails;
       untouched = refl;
@@ -35,7 +42,7 @@ returns-in-Err-clause-obeys g c =
       silent = refl;
       some = λ none. some_words c.args.words.now _ c.is_empty.ensures c.if-is_empty.false none;
       unasked = λ asked made. did.memory (asked_fails w c.in-Err.error c.in-Err.ensures.refusals asked made);
-    }))
+    })
 
 pub returns-in-Inspect-Some-clause-obeys : goal.returns-in-Inspect-Some-clause-obeys
 returns-in-Inspect-Some-clause-obeys g c =

@@ -63,11 +63,11 @@ returns-clause-acts g c =
     acts_engine _ (Resume r) old mid new _ _ _ _ d.paths before c.decrypt_ready.result xs ys (g.F.FileSet.size source)
     (record { source = source; sink = c.in_ok-source.out; is = refl }) both.0.0 (later _ both.0.3) (λ refused. later _ (both.0.4 refused)) both.0.2 run did refl refl (λ P holds. (
       c.in_ok-identity.identity,
-      opens_as (λ o came. last o (came_did opened o came)) judged.0,
+      opens_as (λ o came. last o (came_did opened o came)) d c.in_ok-identity.identity judged.0,
       position,
       all_as (CameSince _ then) (CameFirst old new) (λ o came. then_first old _ new (grows_by xs old _ judged.1) o
           (first_came _ _ then new (grows_by two _ then earlier.1) (grows_then [] grows.puts then mid new (grows_by rest then mid both.1) grows.grows) o came)) r.position.now
           (position_text position) earlier.0.0,
-      subst (λ (n : Text). P (decrypt_engine (PortsOf In Out) (CameSince old new) (option_text d.save) c.in_ok-identity.identity (Some (record { position = position; name = n }))) d.paths)
+      subst (λ (n : Text). P (decrypt_engine (PortsOf In Out) (CameSince old new) (option_text d.save) c.in_ok-identity.identity (Some (position, n))) d.paths)
           earlier.0.1 holds,
     )) refl judged.2

@@ -1,5 +1,5 @@
 use Rattle.std.proofs.Common.{◌∙◌, ◌++◌, ap, sym, subst, arith, List, ℕ, length, Some}
-use Rattle.age_command.specs.{IsSharedIn}
+use Rattle.age_command.specs.{HoldsBytes, IsSharedIn}
 use Rattle.age_command.proofs.{cut_in_two, front_length}
 use Rattle.age_command.proofs.identity.shared_of.Goals as goal
 
@@ -10,7 +10,7 @@ returns-clause-some c =
     let b = c.in_ok-as_array.ensures.cases in
     let front = c.in_ok-shared.shared.now in
     let rest = c.in_ok-shared.recipient.now in
-    subst (λ s. IsSharedIn (Some xs) s) (sym c.new.ensures) (record {
+    subst (λ s. IsSharedIn (HoldsBytes (Some xs)) s) (sym c.new.ensures) (record {
       bytes =
           ap Some (cut_in_two 32 xs front rest a.0 a.1 ∙ ap (λ (t : List ℕ). front ++ t) (sym b.same));
       secret_length = front_length 32 xs front a.0 (omega (arith, a.2));
