@@ -1,2 +1,5 @@
+mod RowLemmas
 pub mod DrillLemmas
+pub mod LineLemmas
 pub use DrillLemmas.*
+pub use LineLemmas.*
