@@ -74,7 +74,7 @@
  * ERRORS. Each call but age_c_version and age_c_fault_name returns 0, the number of a fault
  * (AGE_C_NOT_AGE and so on; docs/FAULTS.md says what each means), AGE_C_MORE or AGE_C_MISUSED. One
  * that doesn't return 0 has written no byte of `out`, has set to 0 each number that it would have
- * told (as *written and *taken), and has changed nothing else, with one exception: a fault 17 to 22
+ * set (as *written and *taken), and has changed nothing else, with one exception: a fault 17 to 22
  * of age_c_block, age_c_end, age_c_feed, age_c_finish or age_c_open_at changes the reader or
  * stream, which keeps it (and then age_c_feed took *taken bytes all the same). Each later call of
  * the first four returns that fault again, unless it is misused. After an end has returned 0,
@@ -191,7 +191,7 @@ uint32_t age_c_version(void);
  * bytes and *stanzas stanzas. *work is the work factor that it demands of a passphrase (UINT32_MAX
  * if that is less), or 0 if the header isn't one valid scrypt stanza alone, so that no passphrase
  * opens it. AGE_C_MORE says that the bytes end inside the header; here the nonce isn't needed.
- * Nobody has confirmed what is told: whoever can change the file can change it. (Since 1.2.0.) */
+ * Nobody has confirmed what it says: whoever can change the file can change it. (Since 1.2.0.) */
 AGE_C_MUST_CHECK
 uint32_t age_c_header(const uint8_t *front, size_t front_len, size_t *header_len, size_t *stanzas,
                       uint32_t *work);
@@ -207,7 +207,7 @@ typedef struct age_c_stanza {
 } age_c_stanza;
 
 /* All stanzas of that header in their order, by reading it once: they are the first *count of
- * `stanzas`, which has room for as many as age_c_header tells or more. The bytes of their bodies are
+ * `stanzas`, which has room for as many as age_c_header says or more. The bytes of their bodies are
  * the first *written of `out`, which has room for front_len bytes or more. A hostile header may have
  * 174,000 stanzas. (Since 1.2.0.) */
 AGE_C_MUST_CHECK
@@ -238,7 +238,7 @@ uint32_t age_c_open_shared(const uint8_t *front, size_t front_len, const uint8_t
                            size_t secret_len, const uint8_t *recipient, size_t recipient_len,
                            age_c_reader *reader);
 
-/* Tells whether to call age_c_open_.. again. `seen` is how many bytes you had when you last got
+/* Says whether to call age_c_open_.. again. `seen` is how many bytes you had when you last got
  * AGE_C_MORE, from this call or from that one. Returns 0 if so, else AGE_C_MORE. It returns 0 at
  * the latest when the header and the nonce are there. Calling age_c_open_.. only on 0 keeps a slow
  * header linear. (At the end of the file call that in any case, to learn what is wrong.) */

@@ -75,12 +75,16 @@ class ChecksTest(unittest.TestCase):
     def test_unnoted_calls(self):
         """A call that changes files is found if it stands where no machine notes it."""
         check = loaded(TOP / "checks/trusted")
-        for line in ("let _ = File::create(rt, path);", "file.set_len(0)?;", "fs::rename(rt, one, other)?;", "calls::remove(rt, path)?;"):
-            with self.subTest(line), tempfile.TemporaryDirectory() as room:
-                place = pathlib.Path(room) / "age_disk/src/files.rt"
-                place.parent.mkdir(parents=True)
-                place.write_text(f"fn spoil() {{\n    {line}\n}}\n")
-                self.assertEqual(len([*check.unnoted([sources.Source(place, pathlib.Path(room))])]), 1)
+        spoiling = ("let _ = File::create(rt, path);", "file.set_len(0)?;", "fs::rename(rt, one, other)?;", "calls::remove(rt, path)?;")
+        spoiling += ("use age_machine::calls::{cut, close};", "use age_machine::calls as harmless;", "let _ = open_to_write(rt, name, 0o600);")
+        spoiling += ("use std::io::{self, Write};", "io::Write::write(&mut file, b\"x\")?;", "use std::io::prelude::*;", "Writing::new(file).put(b\"x\")?;")
+        for place, lines in (("files", spoiling), ("output", ("calls::remove(rt, path)?;", "use age_machine::calls::{close, cut};"))):
+            for line in lines:
+                with self.subTest(line, place=place), tempfile.TemporaryDirectory() as room:
+                    path = pathlib.Path(room) / f"age_disk/src/{place}.rt"
+                    path.parent.mkdir(parents=True)
+                    path.write_text(f"{line}\nfn spoil() {{\n    {line}\n}}\n")
+                    self.assertNotEqual([*check.unnoted([sources.Source(path, pathlib.Path(room))])], [])
 
     def test_claims(self):
         """A number that a page has and the tests don't is noticed."""

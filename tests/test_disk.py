@@ -267,6 +267,9 @@ class DiskTest(FilesCase):
     def test_no_locks(self):
         self.expect(0, b"", "decrypt --pass pass age out", "a file system without locks", {"FLOCK": errno.ENOLCK})
         self.see("a file system without locks: OUT", self.read("out") == PLAIN)
+        self.write("wrong", b"another passphrase\n")
+        self.expect(1, b"age_tool: 13 WrongKey\n", "decrypt --pass wrong age new", "a new OUT without locks", {"FLOCK": errno.ENOLCK})
+        self.see("a new OUT without locks stays, as another run may have it", self.is_there("new") and self.read("new") == b"")
 
     def sticky_folder(self, setting):
         """A folder like /tmp, with this setting of the system on until the test ends. The test is left out if it can't be changed."""

@@ -327,12 +327,19 @@ class PythonTest(BindingsCase):
             run = self.command("decrypt", "--identity", name, "made.age", "back")
             said = f"agefile: {name} is an encrypted key file: decrypt it first\n"
             self.see(f"a key file is {name}", (run.returncode, run.stderr.decode()) == (1, said), run.stderr)
+        for words, said in (
+            (("test", "--pass", "other", "made.age"), f"made.age: {agefile.WrongKey(13)}"), (("test", "--pass", "pw", "none"), "none: No such file or directory"),
+            (("test", "--pass", "none", "made.age"), "none: No such file or directory"),
+            (("test", "--identity", "plain", "made.age"), "plain: not a key of age-keygen, which begins with AGE-SECRET-KEY-1"),
+        ):
+            run = self.command(*words)
+            self.see(f"-m agefile {words} names the file", (run.returncode, run.stderr.decode()) == (1, f"agefile: {said}\n"), run.stderr)
         run = self.command("decrypt", "--pass", "pw", "made.age", "/dev/full")
         self.see("a full disk is said of OUT", (run.returncode, b"/dev/full" in run.stderr) == (1, True), run.stderr)
         data = self.path("made.age").read_bytes()
         self.see("-m agefile encrypt: age_tool doesn't read it", self.judged(data) == ((0, None), text))
         run = self.command("decrypt", "--pass", "pw", "-", "-", given=data[:-1])
-        said = f"agefile: {agefile.Damaged(17, 2)}\nagefile: OUT has the first {2 * CHUNK} bytes of the text\n".encode()
+        said = f"agefile: standard input: {agefile.Damaged(17, 2)}\nagefile: OUT has the first {2 * CHUNK} bytes of the text\n".encode()
         self.see("-m agefile", (run.returncode, run.stdout, run.stderr) == (1, text[:2 * CHUNK], said), run.stderr)
         self.write("first.age", flipped(data, -len(text) - 3 * 16))
         run = self.command("decrypt", "--pass", "pw", "first.age", "back")

@@ -193,7 +193,7 @@ class WorkersTest(BindingsCase):
         program = f"{full}; import runpy; runpy.run_module('agefile', run_name='__main__')"
         words = "decrypt --pass pw --workers 3 in.age full".split()
         run = subprocess.run([sys.executable, "-c", program, *words], cwd=self.room, env=env, capture_output=True)
-        self.see("a disk that is full", run.returncode == 1 and b"too large: 'full'" in run.stderr and not self.is_there("full"), run.stderr)
+        self.see("a disk that is full", run.returncode == 1 and run.stderr == b"agefile: full: File too large\n" and not self.is_there("full"), run.stderr)
         self.see("nothing else is left", not [it.name for it in self.room.iterdir() if it.name.endswith(".part")])
 
 

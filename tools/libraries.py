@@ -49,7 +49,8 @@ class Libraries:
         os.mkdir(f"{room}/repo/.git")
         rt.rtlib.Crate, rt.Crate.cuts_libraries, rt.Crate.allowed = rt.Crate, True, rt.handles_of(f"{room}/repo")
         self.crates = rt.crates_of(f"{room}/repo")
-        self.kept, self.proved = rt.Kept(self.crates), {}
+        # `given` are those that an earlier run kept.
+        self.kept, self.proved, self.given = rt.Kept(self.crates), {}, set()
 
     def is_proved(self, crate):
         """Whether a library is proved; proves it if it isn't yet, and shows what is said if that fails."""
@@ -63,6 +64,7 @@ class Libraries:
         key = self.kept.key(crate)
         if self.kept.give(crate, False, key):
             self.kept.is_built(crate)
+            self.given.add(crate.name)
             return True
         with tempfile.TemporaryFile("w+", errors="replace") as crate.out:
             if crate.ci(["--jobs", str(len(os.sched_getaffinity(0)))], False):
@@ -121,7 +123,8 @@ def make(name):
         for count, it in enumerate(crate.below(), 1):
             if not libraries.is_proved(it):
                 return False
-            print(f"[{count}/{of}] {it.name} proved, {int((time.monotonic() - start) / 60)} min", file=sys.stderr, flush=True)
+            how = "was proved before" if it.name in libraries.given else "proved"
+            print(f"[{count}/{of}] {it.name} {how}, {int((time.monotonic() - start) / 60)} min", file=sys.stderr, flush=True)
         if not is_made(crate, libraries.kept.key(crate)):
             jobs = os.environ.get("JOBS") or str(len(os.sched_getaffinity(0)))
             with tempfile.TemporaryFile("w+", errors="replace") as crate.out:

@@ -252,7 +252,10 @@ def identities_of(name: str) -> list[str]:
         text = file.read()
     if text.startswith(("age-encryption.org/", "-----BEGIN AGE ENCRYPTED FILE-----")):
         raise ValueError(f"{name} is an encrypted key file: decrypt it first")
-    return _keys.identities_of(text)
+    try:
+        return _keys.identities_of(text)
+    except ValueError as fault:
+        raise ValueError(f"{name}: {fault}") from None
 
 
 def opened(file: Any, words: argparse.Namespace, random_access: bool = False) -> Any:
@@ -282,13 +285,13 @@ def words_of() -> argparse.Namespace:
                                  "may be repeated")
             command.add_argument("--recipients-file", dest="files", action="append", default=[], metavar="FILE", help="a file with one to a line; "
                                  "may be repeated")
-            command.add_argument("--log", type=int, default=18, choices=FACTORS, metavar="N", help="the work factor, 1 to 22: it takes 2^N KiB (18)")
+            command.add_argument("--log", type=int, default=18, choices=FACTORS, metavar="N", help="the work factor, 1 to 22: it takes 2^N KiB (default: 18)")
         else:
-            command.add_argument("--max-log", type=int, default=22, choices=FACTORS, metavar="N", help="the greatest work factor to accept (22)")
+            command.add_argument("--max-log", type=int, default=22, choices=FACTORS, metavar="N", help="the greatest work factor to accept (default: 22)")
         command.add_argument("input", metavar="IN")
         if call is decrypt:
             command.add_argument("--workers", type=int, default=1, choices=range(1, WORKERS_MAX + 1), metavar="N", help="decrypt by so many threads, "
-                                 "from one regular file to another (1)")
+                                 "from one regular file to another (default: 1)")
         if call is resume:
             command.add_argument("--position", required=True, metavar="FILE", help="the position")
             command.add_argument("--old", required=True, metavar="FILE", help="OUT of the run that saved it")
@@ -306,12 +309,21 @@ def words_of() -> argparse.Namespace:
     return words
 
 
+def said(fault: Exception, words: argparse.Namespace) -> str:
+    """What is wrong, after the name of the file that it is about."""
+    if isinstance(fault, agefile.AgeError):
+        return f"{'standard input' if words.input == '-' else words.input}: {fault}"
+    if isinstance(fault, OSError) and isinstance(fault.filename, str) and fault.strerror:
+        return f"{fault.filename}: {fault.strerror}"
+    return str(fault)
+
+
 def main() -> int:
     words = words_of()
     try:
         return words.call(words) or 0
     except (agefile.AgeError, OSError, ValueError, ImportError) as fault:
-        print(f"agefile: {fault}", file=sys.stderr)
+        print(f"agefile: {said(fault, words)}", file=sys.stderr)
         if isinstance(fault, agefile.AgeError) and isinstance(fault.args[-1], str):
             print(f"agefile: {fault.args[-1]}", file=sys.stderr)
         return 1

@@ -100,6 +100,10 @@ class AgeFile(AgeReader):
             if len(self._blocks.held) > KEPT * BLOCK:
                 self._blocks = Bytes(0)
 
+    def _close(self) -> None:
+        self._blocks = Bytes(0)
+        super()._close()
+
     def _can_open_into(self) -> bool:
         place = self._place()
         return place % CHUNK == 0 and place < self._size

@@ -147,7 +147,7 @@ def _library() -> ctypes.CDLL:
     try:
         library = ctypes.CDLL(name)
     except OSError as fault:
-        raise ImportError(f"no libage_c.so: make it by bindings/build, or let AGE_C_LIBRARY name it ({fault})") from fault
+        raise ImportError(f"no libage_c.so: make it by bindings/build, or let AGE_C_LIBRARY name it ({fault})") from None
     bytes_, size, number = ctypes.c_void_p, ctypes.c_size_t, ctypes.c_uint32
     given, count = [bytes_, size], ctypes.POINTER(size)
     reader, writer = ctypes.POINTER(ReaderState), ctypes.POINTER(WriterState)

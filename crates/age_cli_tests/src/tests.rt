@@ -291,7 +291,8 @@ fn is_cut(alloc: Global, files: &mut MemFiles) -> bool {
     }
 }
 
-/// Whether a text is encrypted and decrypted; and a stop saves its position, unless OUT is refused.
+/// Whether a text is encrypted and decrypted; and a stop saves its position, unless that or OUT is
+/// refused.
 fn are_served(alloc: Global, files: &mut MemFiles) -> bool {
     encrypts(alloc, files)
         && decrypts(alloc, files, 0)
@@ -300,6 +301,10 @@ fn are_served(alloc: Global, files: &mut MemFiles) -> bool {
         && is_cut(alloc, files)
         && decrypts(alloc, files, 1)
         && matches!(files.get("POSITION"), Some(text) if text.starts_with(b"age-position/v2 0 "))
+        && put(alloc, files, "POSITION", b"kept")
+        && files.refuse(alloc, "POSITION").is_ok()
+        && decrypts(alloc, files, 1)
+        && files.get("POSITION") == Some(b"kept".as_slice())
         && files.refuse(alloc, "BACK").is_ok()
         && decrypts(alloc, files, 1)
 }

@@ -3,7 +3,7 @@
 ghost use Rattle.std.specs.Prelude.{◌+◌, ◌*◌, ◌^◌, ◌≤◌};
 
 use age_cipher::{open_in_place, seal_in_place, xor_stream};
-use age_kdf::hmac;
+use age_kdf::{hmac, pbkdf2_once};
 use age_scrypt::{Memory, Steps, derive};
 use sha2::{Digest, Sha256};
 use std::alloc::Global;
@@ -68,10 +68,20 @@ fn keys_about_a_block_long(rt: HostRuntime) {
     let of_64 = *b"\x75\xdb\x96\xe6\xc0\xfd\xaf\x8e\x39\xbc\x80\x7b\x6e\x34\x00\xd2\
         \x73\x8f\xdd\x99\xcc\x9d\x16\x0a\x88\x3e\xfb\xa6\x8a\xf1\xe6\x1d";
     assert!(rt; hmac(&key[..64], &[b"message"]) == of_64);
+    assert!(rt; hmac(&key[..64], &[b"me", b"", b"ssage"]) == of_64);
     let of_65 = *b"\xbb\x82\x2d\x70\xa3\xee\x1f\x43\x8f\x2e\x93\x72\x4c\x3b\x13\x6b\
         \x99\x96\x82\x5e\xbd\x04\x20\x5c\x32\x7c\xfc\x04\xec\x81\x0c\x5e";
     assert!(rt; hmac(key, &[b"message"]) == of_65);
     assert!(rt; hmac(&Sha256::digest(key), &[b"message"]) == of_65);
+}
+
+/// The key of RFC 7914, section 11, cut a byte after its first block, which is one HMAC.
+#[test]
+fn a_key_of_33_bytes(rt: HostRuntime) {
+    let mut key = [0; 33];
+    pbkdf2_once(b"passwd", b"salt", &mut key);
+    let first = hmac(b"passwd", &[b"salt", b"\0\0\0\x01"]);
+    assert!(rt; key.starts_with(&first) && key[32] == 0x49);
 }
 
 fn derived(alloc: Global) -> Result<[u8; 32], Memory> {

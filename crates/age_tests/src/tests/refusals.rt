@@ -44,6 +44,26 @@ fn a_header(rt: HostRuntime) {
     assert!(rt; is_read_or_refused(rt.alloc()));
 }
 
+/// Whether a fault comes again at each later call, also that memory was refused.
+fn is_kept(alloc: Global) -> bool {
+    let mut parser = HeadParser::new(alloc);
+    let Err(fault) = parser.feed(b"-> x\n") else {
+        return false;
+    };
+    if fault.number() != 1 && fault != REFUSED || !parser.is_open() {
+        return false;
+    }
+    if !matches!(parser.feed(SMALLEST), Err(again) if again == fault) || !parser.is_open() {
+        return false;
+    }
+    parser.end() == fault
+}
+
+#[test]
+fn a_fault_that_stays(rt: HostRuntime) {
+    assert!(rt; is_kept(rt.alloc()));
+}
+
 #[test]
 fn a_replay(rt: HostRuntime) {
     let key = ClearBox;
