@@ -331,6 +331,8 @@ class PythonTest(BindingsCase):
             (("test", "--pass", "other", "made.age"), f"made.age: {agefile.WrongKey(13)}"), (("test", "--pass", "pw", "none"), "none: No such file or directory"),
             (("test", "--pass", "none", "made.age"), "none: No such file or directory"),
             (("test", "--identity", "plain", "made.age"), "plain: not a key of age-keygen, which begins with AGE-SECRET-KEY-1"),
+            (("test", "--pass", "pw", "a\x1b[2J\nb"), r"'a\x1b[2J\nb': No such file or directory"),
+            (("test", "--pass", "  ", "made.age"), "'  ': No such file or directory"),
         ):
             run = self.command(*words)
             self.see(f"-m agefile {words} names the file", (run.returncode, run.stderr.decode()) == (1, f"agefile: {said}\n"), run.stderr)

@@ -34,7 +34,7 @@ def passphrase_of(words: argparse.Namespace, again: bool = False) -> bytes:
         try:
             return secret(held)
         except ValueError as fault:
-            raise ValueError(f"{words.passphrase}: {fault}") from None
+            raise ValueError(f"{shown(words.passphrase)}: {fault}") from None
     given = asked("passphrase: ")
     if again and asked("the same again: ") != given:
         raise ValueError("the passphrases differ")
@@ -75,7 +75,7 @@ def see_apart(words: argparse.Namespace) -> None:
         if name is None or name != "-" and not os.path.exists(name):
             continue
         if os.path.samestat(out, os.fstat(0) if name == "-" else os.stat(name)) and not stat.S_ISCHR(out.st_mode):
-            raise ValueError(f"{words.output} and {name} are one file")
+            raise ValueError(f"{shown(words.output)} and {shown(name)} are one file")
 
 
 @contextlib.contextmanager
@@ -112,7 +112,7 @@ def recipients_of(words: argparse.Namespace) -> list[str]:
         with open(name, encoding="utf-8") as file:
             lines = _keys.lines_of("recipient", file)
         if not lines:
-            raise ValueError(f"{name} has no recipient")
+            raise ValueError(f"{shown(name)} has no recipient")
         found += lines
     return found
 
@@ -203,7 +203,7 @@ def salvage(words: argparse.Namespace) -> int:
     if found.followed:
         print("agefile: something was appended to the file, and is left out", file=sys.stderr)
     if found.size == 0 and not found.is_whole:
-        print(f"agefile: no chunk opens: {words.output} is as it was", file=sys.stderr)
+        print(f"agefile: no chunk opens: {shown(words.output)} is as it was", file=sys.stderr)
     return 0 if found.is_whole else 1
 
 
@@ -251,11 +251,11 @@ def identities_of(name: str) -> list[str]:
     with open(name, encoding="ascii", errors="replace") as file:
         text = file.read()
     if text.startswith(("age-encryption.org/", "-----BEGIN AGE ENCRYPTED FILE-----")):
-        raise ValueError(f"{name} is an encrypted key file: decrypt it first")
+        raise ValueError(f"{shown(name)} is an encrypted key file: decrypt it first")
     try:
         return _keys.identities_of(text)
     except ValueError as fault:
-        raise ValueError(f"{name}: {fault}") from None
+        raise ValueError(f"{shown(name)}: {fault}") from None
 
 
 def opened(file: Any, words: argparse.Namespace, random_access: bool = False) -> Any:
@@ -309,12 +309,17 @@ def words_of() -> argparse.Namespace:
     return words
 
 
+def shown(name: str) -> str:
+    """A file's name, in quotes if a terminal would obey it, or if its ends can't be seen."""
+    return name if name and name.isprintable() and name == name.strip() else repr(name)
+
+
 def said(fault: Exception, words: argparse.Namespace) -> str:
     """What is wrong, after the name of the file that it is about."""
     if isinstance(fault, agefile.AgeError):
-        return f"{'standard input' if words.input == '-' else words.input}: {fault}"
+        return f"{'standard input' if words.input == '-' else shown(words.input)}: {fault}"
     if isinstance(fault, OSError) and isinstance(fault.filename, str) and fault.strerror:
-        return f"{fault.filename}: {fault.strerror}"
+        return f"{shown(fault.filename)}: {fault.strerror}"
     return str(fault)
 
 
