@@ -58,11 +58,12 @@
  *
  * POINTERS. A pointer to bytes or stanzas points to at least as many as the length after it says,
  * and may be null if that is 0; no other pointer may be null. An output buffer must not overlap any
- * other argument, nor may a reader, a writer, a stream, a stanza or a number that a call writes.
- * Bytes may stand at any address; these objects are aligned as their types are. While you use a
- * reader, a writer or a stream, only the library modifies it, except `held` of a stream, which you
- * set to 0. During a call nothing else may modify the bytes that it was given. The library can't
- * check this.
+ * other argument, nor may a reader, a writer, a stream, a stanza or a number that a call writes. Of
+ * an output buffer a call changes the first *written bytes alone. (So age_c_end without bytes may be
+ * given the one that holds the text of the last block.) Bytes may stand at any address; these
+ * objects are aligned as their types are. While you use a reader, a writer or a stream, only the
+ * library modifies it, except `held` of a stream, which you set to 0. During a call nothing else may
+ * modify the bytes that it was given. The library can't check this.
  *
  * THREADS, SIGNALS, FORK. Any number of calls may run at the same time, on different readers,
  * writers and streams. The library takes no lock, and calls nothing but malloc, realloc, free,
@@ -71,13 +72,14 @@
  * reader, but only one of them with a writer; glibc's malloc, and so each call, works in the child
  * of a process with threads too.
  *
- * ERRORS. Each call but age_c_version and age_c_fault_name returns 0, the number of a fault
- * (AGE_C_NOT_AGE and so on; docs/FAULTS.md says what each means), AGE_C_MORE or AGE_C_MISUSED. One
- * that doesn't return 0 has written no byte of `out`, has set to 0 each number that it would have
- * set (as *written and *taken), and has changed nothing else, with one exception: a fault 17 to 22
- * of age_c_block, age_c_end, age_c_feed, age_c_finish or age_c_open_at changes the reader or
- * stream, which keeps it (and then age_c_feed took *taken bytes all the same). Each later call of
- * the first four returns that fault again, unless it is misused. After an end has returned 0,
+ * ERRORS. Each call but age_c_version, age_c_runs_here and age_c_fault_name returns 0, the number
+ * of a fault (AGE_C_NOT_AGE and so on; docs/FAULTS.md says what each means), AGE_C_MORE or
+ * AGE_C_MISUSED. One that doesn't return 0 has written no byte of `out`, has set to 0 each number
+ * that it would have set (as *written and *taken), and has changed nothing else, with one
+ * exception: a fault 17 to 22 of age_c_block, age_c_end, age_c_feed, age_c_finish or age_c_open_at
+ * changes the reader or stream, which keeps it (and then age_c_feed took *taken bytes all the
+ * same). Each later call of the first four returns that fault again, unless it is misused. After an
+ * end has returned 0,
  * age_c_end and age_c_feed without bytes and age_c_finish return 0 and write nothing; one of the
  * four that is given bytes returns AGE_C_TRAILING, unless it is misused. age_c_seek and
  * age_c_open_at, if not misused, end both: the reader goes on as one just begun, at that chunk.
@@ -106,7 +108,7 @@
 extern "C" {
 #endif
 
-#define AGE_C_VERSION 10200u /* 10,000 * major + 100 * minor + patch */
+#define AGE_C_VERSION 10300u /* 10,000 * major + 100 * minor + patch */
 
 /* The bytes end inside the header or the payload's nonce: call again with more of the file. At the
  * end of a file it is a fault: the file was cut there, or is no age file. */
@@ -184,6 +186,11 @@ _Static_assert(sizeof(age_c_reader) == 64 && sizeof(age_c_writer) == 64, "64 byt
 
 /* AGE_C_VERSION of the library that is linked. */
 uint32_t age_c_version(void);
+
+/* Returns 1 if this processor has what the library is compiled for, which is x86-64-v2 or any
+ * 64-bit ARM. Else it returns 0, and any call but this one, age_c_version and age_c_fault_name may
+ * end the process by SIGILL: ask once, before the others. */
+uint32_t age_c_runs_here(void);
 
 /* ---- looking at a header ---- */
 

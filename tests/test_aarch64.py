@@ -4,6 +4,7 @@ layouts is so on ARM, too. What it runs is linked of objects that are proved and
 import os
 import pathlib
 import re
+import shutil
 import subprocess
 import sys
 import tempfile
@@ -12,7 +13,9 @@ from tests.case import Case, needs
 from tools.libraries import kit
 from tools.workspace import TOP
 
-TARGET, CC, QEMU = "aarch64-unknown-linux-gnu", "aarch64-linux-gnu-gcc", "qemu-aarch64"
+TARGET, CC = "aarch64-unknown-linux-gnu", "aarch64-linux-gnu-gcc"
+# (Debian's qemu-user has it under the one name, qemu-user-static under the other)
+QEMU = "qemu-aarch64" if shutil.which("qemu-aarch64") or not shutil.which("qemu-aarch64-static") else "qemu-aarch64-static"
 C_OF = {"i16": "short", "i32": "int", "i64": "long", "u16": "unsigned short", "u32": "unsigned int", "u64": "unsigned long"}
 HEADERS = ("errno", "fcntl", "limits", "sched", "signal", "stdio", "sys/epoll", "sys/file", "sys/resource", "sys/stat", "sys/wait", "time", "unistd", "poll")
 
@@ -118,6 +121,23 @@ class ArmTest(Case):
         with open(self.path("sealed"), "rb") as sealed:
             ran = subprocess.run(words, cwd=self.room, stdin=sealed, capture_output=True)
         self.see("the C example", ran.returncode == 0 and ran.stdout == self.read("plain"), ran.stderr)
+
+    @needs("go")
+    def test_go(self):
+        """The Go module is built for ARM, with the library inside, and decrypts there."""
+        module = self.path("go")
+        shutil.copytree(TOP / "bindings/go", module)
+        for name in ("include/age_c.h", "bindings/out/aarch64/libage_c.a"):
+            shutil.copy(TOP / name, module)
+        env = {**os.environ, "GOOS": "linux", "GOARCH": "arm64", "CGO_ENABLED": "1", "CC": CC, "GOPROXY": "off", "GOFLAGS": "-mod=mod", "GOTOOLCHAIN": "local"}
+        built = subprocess.run(["go", "build", "-o", self.path("by-go"), "./decrypt"], cwd=module, env=env, capture_output=True, text=True)
+        self.see("the Go module is built for ARM", built.returncode == 0, built.stderr)
+        self.write("pass", b"correct horse\n")
+        self.write("plain", os.urandom(200_000))
+        self.assertEqual(self.tool("encrypt", "--pass", "pass", "--log", "10", "plain", "sealed").returncode, 0)
+        with open(self.path("sealed"), "rb") as sealed:
+            ran = subprocess.run([QEMU, "-L", "/usr/aarch64-linux-gnu", self.path("by-go"), "pass"], cwd=self.room, stdin=sealed, capture_output=True)
+        self.see("and decrypts", ran.returncode == 0 and ran.stdout == self.read("plain"), ran.stderr)
 
     def test_suites(self):
         """Other files of tests, over the program for ARM."""

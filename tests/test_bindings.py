@@ -26,7 +26,8 @@ SOURCES = TOP / "bindings" / "c"
 # The programs in bindings/c/tests that say by their status whether all is right, with their words: for a run, and for one under valgrind.
 CHECKS = {
     "refusals": (["file"], ["file"]), "misuse": (["3000"], ["150"]), "work": ([], None), "places": ([], None), "seek": ([], ["5"]),
-    "stream": ([], ["1"]), "sequences": (["600", "1"], ["10", "2"]), "once": ([], []), "header": ([], []), "seal_key": ([TOP / "bindings" / "tests" / "age" / "one.age"], None),
+    "stream": ([], ["1"]), "sequences": (["600", "1"], ["10", "2"]), "once": ([], []), "push": ([], ["20"]), "header": ([], []),
+    "seal_key": ([TOP / "bindings" / "tests" / "age" / "one.age"], None),
 }
 # In how many places a call may branch, or form an address, by a secret: whether a chunk's tag is right; whether the header's MAC is, and a
 # stanza's tag; scrypt's look-ups; whether a secret is zero. `leak` has one of its own, by which the test is tried.
@@ -385,6 +386,20 @@ class CTest(ProgramsCase):
         taken = subprocess.run(["nm", "-D", "--undefined-only", "-j", LIBRARY / "libage_c.so"], capture_output=True, text=True).stdout.split()
         allowed = {"malloc", "realloc", "free", "memcpy", "memmove", "memset"}
         self.see(f"the shared library calls {taken}, and age_c.h says {allowed}", {it.partition("@")[0] for it in taken} == allowed)
+        shown = subprocess.run(["nm", "-D", "--defined-only", "-j", LIBRARY / "libage_c.so"], capture_output=True, text=True).stdout.split()
+        promised = re.findall(r"(?m)^(\w+) [0-9.]+$", (SOURCES / "age_c.symbols").read_text())
+        declared = re.findall(r"(?m)^(?:uint32_t|const char \*)\s?(age_c_\w+)\(", (TOP / "include" / "age_c.h").read_text())
+        self.see("the calls of the library, of its list and of age_c.h are the same", sorted(shown) == promised == sorted(declared), shown, declared)
+        header = (TOP / "include" / "age_c.h").read_text()
+        words = ["cc", f"-I{self.room}", "-std=c11", "-Werror", "-fsyntax-only", SOURCES / "tests" / "abi.c"]
+        for what, old, new in (
+            ("as it is", "", ""), ("a number", "#define AGE_C_TRAILING 21u", "#define AGE_C_TRAILING 22u"), ("a type", "size_t front_len, size_t seen", "size_t front_len, int seen"),
+            ("a size", "} age_c_stanza;", "    uint8_t more;\n} age_c_stanza;"), ("a name", "age_c_may_open(", "age_c_can_open("),
+        ):
+            self.assertIn(old, header)
+            self.write("age_c.h", header.replace(old, new, 1).encode())
+            ran = subprocess.run(words, capture_output=True, text=True)
+            self.see(f"what a program of 1.2.0 knows of age_c.h, {what}", (ran.returncode == 0) == (not old), ran.stderr)
         sections = subprocess.run(["objdump", "-h", LIBRARY / "libage_c.so"], capture_output=True, text=True).stdout.split()
         self.see("memory that calls in two threads could share", ".text" in sections and not {".data", ".bss", ".tdata", ".tbss"} & {*sections}, sections)
         symbols = subprocess.run(["objdump", "-T", LIBRARY / "libage_c.so"], capture_output=True, text=True).stdout
@@ -513,7 +528,7 @@ class LanguagesTest(ProgramsCase):
         env |= {"PKG_CONFIG_PATH": "", "PKG_CONFIG_LIBDIR": str(self.path("none")), "CARGO_TERM_COLOR": "never"}
         build = lambda: subprocess.run(["cargo", "build", "--offline", "--examples", "-v"], cwd=rust, env=env, capture_output=True, text=True)
         run = build()
-        words = f"warning: age-c-sys@1.2.0: libage_c isn't there ({rust}/age-c-sys/../../out/libage_c.a, "
+        words = f"warning: age-c-sys@1.3.0: libage_c isn't there ({rust}/age-c-sys/../../out/libage_c.a, "
         self.see("the library isn't there", run.returncode != 0 and words in run.stderr and "bindings/build" in run.stderr, run.stderr[-2000:])
         (self.path("bindings") / "out").mkdir()
         shutil.copy(LIBRARY / "libage_c.a", self.path("bindings") / "out")

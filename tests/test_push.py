@@ -138,6 +138,33 @@ class PushTest(BindingsCase):
         self.see("after the end", raised(ValueError, file.update, b"x") and raised(ValueError, file.finish))
         self.see("copies", raised(TypeError, copy.copy, file) and raised(TypeError, copy.deepcopy, agefile.Decryptor(passphrase="pw")))
 
+    def test_close(self):
+        """What close() and `with` overwrite, of a file that is decrypted or encrypted in part; each later call is refused."""
+        text = plain_of(100_000)
+        data = sealed(text)
+        for what, end in (("nothing", 0), ("a part of the header", 50), ("a chunk and more", 80_000)):
+            it = agefile.Decryptor(passphrase="pw")
+            begun = it.update(data[:end])
+            state, held = it._state, (it._room.block.held, it._room.text.held)
+            self.see(f"after {what}: what is held before", begun == text[:65_536 * (end > 70_000)] and any(bytes(state)) == (end > 100))
+            with it as same:
+                pass
+            self.see(f"after {what}: what is left", same is it and not any(bytes(state)) and not any(map(any, held)))
+            self.see(f"after {what}: later calls", raised(ValueError, it.update, data[end:]) and raised(ValueError, it.finish))
+            it.close()
+        with agefile.Decryptor(passphrase="pw") as it:
+            whole = it.update(data) + it.finish()
+        self.see("a file that was decrypted to its end", whole == text and raised(ValueError, it.finish))
+        with agefile.Encryptor(passphrase="pw", work=1) as it:
+            made = it.update(text)
+            stream = it._writer._stream
+            self.see("a writer's key is held", any(bytes(stream.writer)))
+        self.see("what is left of it", not any(bytes(stream)) and raised(ValueError, it.update, b"x") and raised(ValueError, it.finish))
+        self.see("a file that wasn't finished", raised(agefile.AgeError, agefile.decrypt, made, passphrase="pw"))
+        with agefile.Encryptor(passphrase="pw", work=1) as it:
+            made = it.update(text) + it.finish()
+        self.see("a file that was finished", agefile.decrypt(made, passphrase="pw") == text)
+
     def test_interrupted(self):
         """An exception at each place where Python runs a signal's handler, and the same call again: it is refused, or the result is right."""
         package, text = str(PYTHON / "agefile"), plain_of(200_000)

@@ -2,6 +2,7 @@
 secrets, what an argument may be, its types and names, where it finds the library, and files that are read at any place."""
 import contextlib
 import errno
+import gzip
 import io
 import mmap
 import os
@@ -33,6 +34,7 @@ SECRET, RECIPIENT = bytes(range(0x40, 0x60)), bytes(range(0x60, 0x80))
 
 # A program that mypy has to accept.
 USER = """
+import mmap
 import tarfile
 import zipfile
 from typing import BinaryIO
@@ -62,6 +64,14 @@ with agefile.open("a", passphrase="pw", random_access=True) as at, at.reopen(ope
     size: int = at.size + other.size
     with zipfile.ZipFile(at) as archive:
         archive.read("name")
+
+
+def of_buffers(mapped: mmap.mmap, secret: bytearray, view: memoryview) -> bytes:
+    made: bytes = agefile.encrypt(view, passphrase=secret)
+    made += agefile.decrypt(mapped, passphrase=secret) + agefile.decrypt(secret, file_key=view) + agefile.decrypt(view, shared=(secret, view))
+    agefile.salvage("a", "b", file_key=secret, mode="xb")
+    with agefile.open("a", passphrase=view) as file, agefile.Decryptor(passphrase=secret) as text, agefile.Encryptor(passphrase=secret) as out:
+        return made + file.read() + text.update(mapped) + out.update(view)
 """
 
 
@@ -200,16 +210,16 @@ class PythonTest(BindingsCase):
 
     def test_names(self):
         """The version, and the names that a user sees."""
-        told = self.tool("--version", check=True).stdout.decode().split()[1]
+        told, build = self.tool("--version", check=True).stdout.decode().split(maxsplit=2)[1:]
         own = agefile._library.VERSION
         for version, is_fit in ((own, True), (own + 1, True), (own + 100, True), (own - 1, False), (own + 10_000, False), (0, False)):
             self.see(f"a library of version {version}", agefile._library.fits(version) == is_fit)
         run = self.command("--version")
-        self.see("the version", agefile.__version__ == told and run.stdout == f"agefile {told}\n".encode(), agefile.__version__, run.stdout)
+        self.see("the version", agefile.__version__ == told and run.stdout == f"agefile {told} {build}".encode(), agefile.__version__, run.stdout)
         for name in agefile.__all__:
             self.see(f"{name} is of another module", getattr(agefile, name).__module__ == "agefile")
         text = pydoc.plain(pydoc.render_doc(agefile.open))
-        self.see("help", "Any" not in text and "passphrase: 'str | bytes | None'" in text, text)
+        self.see("help", "Any" not in text and "passphrase: 'str | Buffer | None'" in text, text)
 
     @needs("mypy")
     def test_types(self):
@@ -527,6 +537,10 @@ class PythonTest(BindingsCase):
             run = self.command("salvage", *words)
             self.see(f"salvage {' '.join(words)}", run.returncode == status and said in (None, run.stderr) and self.path(words[-1]).read_bytes() == out,
                      run.returncode, run.stderr)
+        self.write("followed.age", self.sealed(text[:65_536]) + b"x")
+        run = self.command("salvage", "--pass", "pw", "followed.age", "out")
+        self.see("salvage of a file that something follows", run.returncode == 0 and run.stderr == b"agefile: something was appended to the file, and is left out\n"
+                 and self.path("out").read_bytes() == text[:65_536], run.stderr)
         run = self.command("salvage", "--pass", "pw", "damaged.age", "-")
         self.see("salvage to standard output", (run.returncode, run.stdout) == (1, want), run.stderr)
         run = self.command("salvage", "--pass", "pw", "-", "out", given=bytes(data[:begin + 100]))
@@ -580,6 +594,13 @@ class PythonTest(BindingsCase):
 
             def read(self, size):
                 return super().read(size + 1)
+
+        packed = gzip.compress(data)
+        for cut in (5, len(packed) // 2, len(packed) - 9):
+            for any_way in (lambda it: it, lambda it: io.BufferedReader(it, 100)):
+                source = any_way(gzip.GzipFile(fileobj=io.BytesIO(packed[:cut])))
+                fault = fault_of(lambda: agefile.open(source, file_key=KEY).read())
+                self.see(f"a source that is cut off itself at {cut}", isinstance(fault, OSError) and "was cut off" in str(fault), repr(fault))
 
         class Awaited(io.BytesIO):
             read1 = None
@@ -664,11 +685,15 @@ class PythonTest(BindingsCase):
 
     @needs("mypy")
     def test_types_of_users(self):
-        """A user's program is right for mypy, which takes a writer and a reader for binary files."""
+        """A user's program is right for mypy, which takes a writer and a reader for binary files, also if only `bytes` are bytes for it."""
         self.path("user.py").write_text(USER)
-        words = ["mypy", "--strict", "--cache-dir", os.devnull, "user.py"]
-        run = subprocess.run(words, cwd=self.room, env={**os.environ, "MYPYPATH": str(PYTHON)}, capture_output=True, text=True)
-        self.see("a user's program", run.returncode == 0, run.stdout)
+        for more in ([], ["--disable-bytearray-promotion", "--disable-memoryview-promotion"]):
+            words = ["mypy", "--strict", *more, "--cache-dir", os.devnull, "user.py"]
+            run = subprocess.run(words, cwd=self.room, env={**os.environ, "MYPYPATH": str(PYTHON)}, capture_output=True, text=True)
+            if run.returncode == 2 and "unrecognized arguments" in run.stderr:
+                self.leave_out(f"mypy with {more[0]}", "needs another mypy")
+            else:
+                self.see(f"a user's program, {more}", run.returncode == 0, run.stdout)
 
     def test_attributes(self):
         """What a file that is opened by its name says of itself."""

@@ -526,7 +526,8 @@ class PythonFilesTest(BindingsCase):
             file = agefile.open(io.BytesIO(data), file_key=KEY, random_access=any_place)
             file.seek(70_000)
             file.read(10)
-            file._chunk = held = Kept(file._chunk.getvalue())
+            held = Kept(file._held.text.getvalue())
+            file._held = file._held._replace(text=held)
             self.see("the key is held while the file is open", KEY in bytes(file._state) and held.getvalue() == text[65_536:])
             file.close()
             self.see("the key is held after close", not any(bytes(file._state)) and not any(held.getvalue()))
@@ -651,6 +652,51 @@ class PythonFilesTest(BindingsCase):
                     turn += 1
                 self.see(f"{what}, at any place {any_place}: {turn} interruptions", wrong == [] and turn > 3, wrong[:5])
 
+    def test_between_two_values(self):
+        """A handler's exception may come between two values that a statement sets, in Python 3.9, and a second one while the first is
+        dealt with: the file stands where it stood; what is read there is right, or an exception; and after a seek it is right."""
+        text, left, turns = plain_of(200_000), [0, 0], 0
+        data = self.sealed(text)
+        calls = {
+            "seek back": lambda it: it.seek(3), "seek on": lambda it: it.seek(140_000), "seek to the end": lambda it: it.seek(0, 2),
+            "read": lambda it: it.read(100_000), "read1": lambda it: (it.seek(131_072), it.read1()), "readline": lambda it: it.readline(),
+            "readinto": lambda it: it.readinto(bytearray(130_000)), "peek": lambda it: it.peek(), "read to the end": lambda it: it.read(),
+        }
+        for kind in (agefile.AgeReader, agefile.AgeFile):
+            class Between(kind):
+                def __setattr__(self, name, value):
+                    left[0] -= 1
+                    if left[0] == 0:
+                        left[:] = left[1], 0
+                        raise Interruption
+                    super().__setattr__(name, value)
+
+            for what, call in calls.items():
+                for again in (0, 1, 2):
+                    wrong, turn, was = [], 0, True
+                    while was:
+                        turn += 1
+                        file = Between(io.BytesIO(data), file_key=KEY)
+                        file.read(70_005)
+                        left[:] = turn, again
+                        was = raised(Interruption, call, file)
+                        left[:] = 0, 0
+                        wrong += [turn] if was and not self.stands_right(file, text, 70_005 if again == 0 and what != "read1" else None) else []
+                    turns += turn
+                    self.see(f"{kind.__name__}, {what}, {again} after it: {turn} interruptions", wrong == [], wrong[:3])
+        self.see(f"{turns} interruptions", turns > 200)
+
+    def stands_right(self, file, text, place):
+        """Whether a file that a call moved, which an exception ended, stands at that place, if there is one; and what it gives is the text."""
+        at, right = file.tell(), True
+        try:
+            right = file.read(3) == text[at:at + 3]
+        except OSError:
+            pass
+        for to in (66_000, at, 131_000, 5):
+            right = right and file.seek(to) == to and file.read(70_000) == text[to:to + 70_000]
+        return right and place in (None, at)
+
     def test_impossible_lengths(self):
         """At which chunk a file is refused at any place, if no payload has its length; and lines of no byte and of one."""
         data = self.sealed(plain_of(200_000))
@@ -742,7 +788,7 @@ class PythonFilesTest(BindingsCase):
             self.see("a coroutine", raised(TypeError, agefile.open, Awaited(), file_key=KEY) and gc.collect() >= 0 and not caught, caught)
         data, before = self.sealed(b"text"), os.listdir("/proc/self/fd")
         with open(self.path("in"), "rb") as file:
-            agefile._source.reach_disk(file, self.path("in"))
+            agefile._output.reach_disk(file, self.path("in"))
         self.see("descriptors that stay open", len(os.listdir("/proc/self/fd")) == len(before))
         one, other = (types.SimpleNamespace(read=io.BytesIO(data).read, seek=lambda *_: 0) for _ in range(2))
         self.see("no `tell`", agefile.open(one, file_key=KEY).read() == b"text")

@@ -1,6 +1,6 @@
 """Runs the commands of docs/RECIPES.md, block after block, in a folder of their own, and compares what they print with the lines that say
-what to expect; once more in the same folder; those of a backup twice at once, stopped, and with a clock that is behind; those that ask for
-a passphrase at a terminal; those of README; then it decrypts the file that docs/FORMAT.md gives in hexadecimal."""
+what to expect; once more in the same folder; those of a backup twice at once, stopped, with a clock that is wrong, and of files that change;
+those that ask for a passphrase at a terminal; those of README; then it decrypts the file that docs/FORMAT.md gives in hexadecimal."""
 import importlib.util
 import os
 import re
@@ -133,7 +133,7 @@ class RecipesTest(PageCase):
 
     def restores_with(self, program):
         text = self.make_archive("photos.tar.age")
-        [typed] = [it.split() for _, script in blocks("sh") for it in script.splitlines() if it.startswith("age ")]
+        [typed] = [it.split() for it in re.findall(r"`(age -d [^`]+)`", (TOP / "docs" / "RECIPES.md").read_text())]
         # (with a pinentry rage wouldn't ask at the terminal)
         status = terminal.run(["env", "-C", str(self.path("work")), program, *typed[1:]], "to type", {"PINENTRY_PROGRAM": ""})
         self.see(f"restored with {program}", status == 0 and self.read(f"work/{typed[3]}") == text, status)
@@ -186,14 +186,19 @@ HELD = {
 if [ -n "${HOLD_TAR:-}" ] && [ "$1" = -c ]; then /bin/tar "$@" | head -c 1000000; exec sleep 100; fi
 exec /bin/tar "$@"
 """,
-    # Holds a decryption until the file `on` is there, and lets an encryption of `large` get no more than its beginning.
+    # Holds a decryption until the file `on` is there. Lets an encryption of `large` get no more than its beginning, or all of it, and then
+    # holds it in the same way.
     "age_tool": """#!/bin/bash
 real=$(readlink -f "$0.real")
 if [ "$1" = decrypt ] && [ -n "${HOLD_READING:-}" ]; then touch reading; until [ -e on ]; do sleep 0.02; done; fi
 if [ "$1" = encrypt ] && [ -n "${HOLD_LARGE:-}" ] && [[ $* = *photos/large* ]]; then
     words=("$@")
     for it in "${!words[@]}"; do [ "${words[it]}" != photos/large ] || words[it]=/dev/stdin; done
-    { head -c 1000000 photos/large; exec sleep 100; } | "$real" "${words[@]}"
+    if [ "$HOLD_LARGE" = read ]; then
+        { cat photos/large; touch reading; until [ -e on ]; do sleep 0.02; done; } | "$real" "${words[@]}"
+    else
+        { head -c 1000000 photos/large; exec sleep 100; } | "$real" "${words[@]}"
+    fi
     exit
 fi
 exec "$real" "$@"
@@ -205,8 +210,8 @@ exec /bin/date ${AT:+-d "$AT"} "$@"
 
 
 class MishapsTest(PageCase):
-    """What happens to backups by the commands of the page: two runs at once, runs that are stopped, a clock that is behind. No age file
-    that is there afterwards, but for those whose name ends in `.part`, is cut."""
+    """What happens to backups by the commands of the page: two runs at once, runs that are stopped, a clock that is wrong, files that change
+    while they are encrypted or are replaced. No age file that is there afterwards, but for those whose name ends in `.part`, is cut."""
 
     def setUp(self):
         super().setUp()
@@ -282,19 +287,23 @@ class MishapsTest(PageCase):
             self.see_whole(kind, "photos-*.tar.age", 0)
 
     def test_clock(self):
-        """One that is behind: the backup that was made is kept, and of the others the last six. So it is on each day."""
+        """One that is behind for two nights, and ahead for six: of the backups before the one that is made, by name, the last six are kept,
+        and all after it. So the nights after them keep theirs."""
         self.write_backup_script()
-        for day in range(1, 8):
-            self.write(f"work/photos-2027-01-0{day}.tar.age", b"of another night")
-        later = [f"photos-2027-01-0{day}.tar.age" for day in range(2, 8)]
-        for today, kept in (
-            ("1970-01-01", ["photos-1970-01-01.tar.age", *later]), ("1970-01-02", ["photos-1970-01-02.tar.age", *later]),
-            ("2027-01-08", [*later, "photos-2027-01-08.tar.age"]), ("2027-01-08", [*later, "photos-2027-01-08.tar.age"]),
-        ):
+        named = "photos-{}.tar.age".format
+        there = {named(f"2027-01-0{day}") for day in range(1, 8)}
+        for it in there:
+            self.write(f"work/{it}", b"of another night")
+        ahead = [f"2106-02-{day:02}" for day in range(7, 13)]
+        right = [f"2027-01-{day:02}" for day in range(8, 12)]
+        for today in ("1970-01-01", "1970-01-01", *ahead, *right):
+            made = named(today)
+            there = {it for it in there if it > made} | {made} | {*sorted(it for it in there if it < made)[-6:]}
             self.env["AT"] = today
             run = self.run_script("bash backup.sh")
-            found = sorted(it.name for it in self.path("work").glob("photos-*"))
-            self.see(f"{today}: the backups that are kept", run.returncode == 0 and found == kept, run.stdout, found)
+            found = {it.name for it in self.path("work").glob("photos-*")}
+            self.see(f"{today}: the backups that are kept", run.returncode == 0 and found == there, run.stdout, sorted(found))
+        self.see("after all of these nights", found > {named(it) for it in (*ahead, *right)}, sorted(found))
 
     def see_encrypted(self, name):
         """Checks that each photo's age file holds it."""
@@ -324,3 +333,31 @@ class MishapsTest(PageCase):
         self.see_whole("two at once", "encrypted/*.age")
         self.assertEqual(self.run_script(script).returncode, 0)
         self.see_encrypted("two at once, and once more")
+
+    def see_again(self, what):
+        """Checks that the next run mends what the last one left, and the one after it does nothing."""
+        script = self.blocks["Many files in parallel"]
+        run = self.run_script(script)
+        self.see(f"{what}: the next run", run.returncode == 0, run.stdout)
+        self.see_encrypted(what)
+        inodes = [it.stat().st_ino for it in sorted(self.path("work/encrypted").iterdir())]
+        run = self.run_script(script)
+        same = inodes == [it.stat().st_ino for it in sorted(self.path("work/encrypted").iterdir())]
+        self.see(f"{what}: one more does nothing", run.returncode == 0 and same, run.stdout)
+
+    def test_changed_while_encrypted(self):
+        """A file that changes after it was read, and before its age file is finished."""
+        photo = self.path("work/photos/large")
+        run = self.held_at(self.blocks["Many files in parallel"], self.path("work/reading").exists, HOLD_LARGE="read")
+        with open(photo, "r+b") as file:
+            file.write(b"A NEW LINE")
+        self.write("work/on", b"")
+        said = run.communicate()[0]
+        self.see("changed while it was encrypted", run.returncode == 0, said)
+        self.see_again("changed while it was encrypted")
+
+    def test_replaced_by_older(self):
+        """A file that comes with a time of its own, which is older than that of the age file of the one in whose place it is."""
+        self.assertEqual(self.run_script(self.blocks["Many files in parallel"]).returncode, 0)
+        self.assertEqual(self.run_script("echo older > new && touch -d yesterday new && mv new photos/1.jpg").returncode, 0)
+        self.see_again("replaced by an older one")

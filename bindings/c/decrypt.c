@@ -106,6 +106,10 @@ int main(int argc, char **argv) {
         fprintf(stderr, "usage: decrypt PASSFILE [SIZE] <IN >OUT\n");
         return 2;
     }
+    if (!age_c_runs_here()) {
+        fprintf(stderr, "decrypt: the library needs a processor with x86-64-v2\n");
+        return 2;
+    }
     if (argc == 3) step = strtoul(argv[2], NULL, 10);
     if (step == 0) step = 1;
     FILE *file = fopen(argv[1], "rb");

@@ -75,6 +75,10 @@ int main(int argc, char **argv) {
         fprintf(stderr, "usage: salvage PASSFILE <IN >OUT\n");
         return 2;
     }
+    if (!age_c_runs_here()) {
+        fprintf(stderr, "salvage: the library needs a processor with x86-64-v2\n");
+        return 2;
+    }
     pass_len = fread(pass, 1, sizeof pass, in);
     fclose(in);
     if (pass_len > 0 && pass[pass_len - 1] == '\n') pass_len--;

@@ -22,22 +22,32 @@ import "C"
 import (
 	"errors"
 	"fmt"
-	"io"
 )
 
 // MaxWork is the greatest work factor that Passphrase can be asked to accept, or Create to use.
 const MaxWork = C.AGE_C_WORK_MAX
 
-// What errors.Is finds in a Fault, beside io.ErrUnexpectedEOF: the file ends too early, in its
-// header, before a chunk, or in the first 15 bytes of one. A file that was cut elsewhere, as nearly
-// every one is, can't be told from a damaged one: it is ErrDamaged. So treat both alike.
+// MaxWorkers is the greatest number of goroutines that DecryptTo can be asked for.
+const MaxWorkers = 64
+
+// What errors.Is finds in a Fault.
 var (
 	// ErrWrongKey: another passphrase, secret or file key, or another kind of key.
 	ErrWrongKey = errors.New("agefile: the key isn't the file's")
 	// ErrDamaged: the file isn't as its writer left it, which may be cut short, or no age program
 	// writes such a file.
 	ErrDamaged = errors.New("agefile: the file is damaged or cut off")
+	// ErrTruncated: the file ends too early, in its header, before a chunk, or in the first 15 bytes
+	// of one. A file that was cut elsewhere, as nearly every one is, can't be told from a damaged one:
+	// it is ErrDamaged. So treat both alike. It isn't io.ErrUnexpectedEOF, which io.ReadFull returns
+	// for the last record of a text that is whole.
+	ErrTruncated = errors.New("agefile: the file is cut off")
 )
+
+// errProcessor is returned in place of a call that would end the process.
+var errProcessor = errors.New("agefile: the library needs a processor with x86-64-v2 (SSE4.2 and POPCNT), and this one hasn't that")
+
+func runsHere() bool { return C.age_c_runs_here() != 0 }
 
 // A Fault says what is wrong with a file, by its number in docs/FAULTS.md (NumberWrongKey and so
 // on). NumberHeaderOrNonceCut says that the file ends in its header or in the 16 bytes after it,
@@ -98,7 +108,7 @@ func (f *Fault) meaning() string {
 	return "the file can't be read or written"
 }
 
-// Is lets errors.Is find ErrWrongKey, ErrDamaged and io.ErrUnexpectedEOF.
+// Is lets errors.Is find ErrWrongKey, ErrDamaged and ErrTruncated.
 func (f *Fault) Is(target error) bool {
 	return target != nil && target == f.kind()
 }
@@ -108,7 +118,7 @@ func (f *Fault) kind() error {
 	case n == NumberNoMatch || n == NumberWrongKey || n == NumberMacMismatch && f.byKey:
 		return ErrWrongKey
 	case n == NumberChunkCut || n == NumberTruncated || n == NumberHeaderOrNonceCut:
-		return io.ErrUnexpectedEOF
+		return ErrTruncated
 	case n >= NumberBadStanzaLine && n <= NumberTooManyChunks && n != NumberWorkTooHigh:
 		return ErrDamaged
 	}

@@ -97,7 +97,7 @@ func TestSharedSecret(t *testing.T) {
 	}
 	key := make([]byte, 16)
 	for i := range key {
-		key[i] = byte(reader.stream.reader.file_key[i])
+		key[i] = byte(reader.reader.file_key[i])
 	}
 	if text, err := io.ReadAll(reader); err != nil || string(text) != "hello, recipient\n" {
 		t.Errorf("%q, %v", text, err)
@@ -273,7 +273,7 @@ func TestWriterFails(t *testing.T) {
 	if err != nil {
 		t.Fatal(err)
 	}
-	if _, err := io.ReadAll(reader); !errors.Is(err, io.ErrUnexpectedEOF) {
+	if _, err := io.ReadAll(reader); !errors.Is(err, ErrTruncated) {
 		t.Error("an abandoned file:", err)
 	}
 	w, err = Create(iotest.TruncateWriter(io.Discard, 1<<40), []byte("pw"), 1)
@@ -313,10 +313,10 @@ func TestKinds(t *testing.T) {
 		{"another passphrase", data, Passphrase([]byte("other"), MaxWork), ErrWrongKey},
 		{"another file key", data, FileKey(make([]byte, 16)), ErrWrongKey},
 		{"another kind of key", data, SharedSecret(make([]byte, 32), make([]byte, 32)), ErrWrongKey},
-		{"a cut header", data[:50], pw(), io.ErrUnexpectedEOF},
-		{"no payload", data[:begin], pw(), io.ErrUnexpectedEOF},
-		{"a missing chunk", data[:begin+65552], pw(), io.ErrUnexpectedEOF},
-		{"the first bytes of a chunk", data[:begin+65552+9], pw(), io.ErrUnexpectedEOF},
+		{"a cut header", data[:50], pw(), ErrTruncated},
+		{"no payload", data[:begin], pw(), ErrTruncated},
+		{"a missing chunk", data[:begin+65552], pw(), ErrTruncated},
+		{"the first bytes of a chunk", data[:begin+65552+9], pw(), ErrTruncated},
 		{"a changed byte", changed, pw(), ErrDamaged},
 		{"bytes after the end", append(append([]byte{}, full...), 0), pw(), ErrDamaged},
 		{"no age file", []byte("x\n"), pw(), nil},
@@ -329,7 +329,7 @@ func TestKinds(t *testing.T) {
 			if !errors.As(err, &fault) || fault.Chunk < -1 {
 				t.Error(it.what, at, err)
 			}
-			for _, kind := range []error{ErrWrongKey, io.ErrUnexpectedEOF, ErrDamaged} {
+			for _, kind := range []error{ErrWrongKey, ErrTruncated, ErrDamaged} {
 				// (where it is read at any place, bytes after the end look like a cut chunk)
 				if errors.Is(err, kind) != (kind == it.kind) && !(at && it.what == "bytes after the end") {
 					t.Errorf("%s: %v is %v: %v", it.what, err, kind, errors.Is(err, kind))
@@ -406,7 +406,7 @@ func TestReadOn(t *testing.T) {
 			break
 		}
 		if err != nil {
-			if !errors.Is(err, io.ErrUnexpectedEOF) || errors.As(err, new(*Fault)) {
+			if !errors.Is(err, ErrTruncated) || errors.As(err, new(*Fault)) {
 				t.Fatal(err)
 			}
 			stumbled++
@@ -634,11 +634,11 @@ func TestKeysAreOverwritten(t *testing.T) {
 		if err != nil {
 			t.Fatal(err)
 		}
-		if reader.stream.reader == (Reader{}).stream.reader {
+		if reader.reader == (Reader{}).reader {
 			t.Error("no key to read with")
 		}
 		_, first := io.Copy(io.Discard, reader)
-		if reader.stream != (Reader{}).stream {
+		if reader.reader != (Reader{}).reader {
 			t.Error("a reader's key is left")
 		}
 		if _, err := reader.Read(make([]byte, 10)); err != first && (first != nil || err != io.EOF) {

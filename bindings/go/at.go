@@ -58,11 +58,8 @@ func (f *File) WriteTo(out io.Writer) (int64, error) {
 	var all int64
 	for {
 		n, err := f.Read(room)
-		done, failed := out.Write(room[:n])
+		done, failed := writeAll(out, room[:n])
 		all += int64(done)
-		if failed == nil && done < n {
-			failed = io.ErrShortWrite
-		}
 		if failed != nil {
 			return all, failed
 		}
@@ -90,18 +87,21 @@ func OpenAt(file io.ReaderAt, size int64, key Key) (*File, error) {
 	if file == nil {
 		return nil, errNil
 	}
+	if size < 0 {
+		return nil, errors.New("agefile: the file's size is negative")
+	}
 	head, err := Open(io.NewSectionReader(file, 0, size), key)
 	if err != nil {
 		return nil, err
 	}
 	var text, last C.uint64_t
-	if answer := C.age_c_size(&head.stream.reader, C.uint64_t(size), &text, &last); answer != 0 {
-		head.stream.reader.fault_chunk = (C.uint64_t(size) - head.stream.reader.payload_at) / C.AGE_C_BLOCK
-		return nil, blockFault(answer, &head.stream.reader)
+	if answer := C.age_c_size(&head.reader, C.uint64_t(size), &text, &last); answer != 0 {
+		head.reader.fault_chunk = (C.uint64_t(size) - head.reader.payload_at) / C.AGE_C_BLOCK
+		return nil, blockFault(answer, &head.reader)
 	}
-	r := &places{file: file, begun: head.stream.reader, end: size, kept: -1}
+	r := &places{file: file, begun: head.reader, end: size, kept: -1}
 	r.last = int64(last)
-	head.stream = C.age_c_stream{} // its copy of the file key
+	head.reader = C.age_c_reader{} // its copy of the file key
 	n, err := r.open(r.last, make([]byte, C.AGE_C_BLOCK), head.chunk)
 	if err != nil {
 		return nil, err
@@ -129,8 +129,11 @@ func (r *places) open(number int64, block, room []byte) (int, error) {
 	at := int64(r.begun.payload_at) + number*C.AGE_C_BLOCK
 	block = block[:min64(C.AGE_C_BLOCK, r.end-at)]
 	n, err := r.file.ReadAt(block, at)
+	if n < 0 || n > len(block) {
+		return 0, errRead
+	}
 	if n < len(block) && err != io.EOF && err != nil {
-		return 0, err
+		return 0, ofSource(err)
 	}
 	return r.opened(number, block[:n], room)
 }
@@ -142,8 +145,7 @@ func (r *places) opened(number int64, block, room []byte) (int, error) {
 	if answer == 0 && len(block) == C.AGE_C_BLOCK {
 		answer = C.age_c_block(&reader, place(block), length(block), place(room), length(room), &written)
 		if answer == 0 && number == r.last {
-			var spare [C.AGE_C_CHUNK]byte
-			answer = C.age_c_end(&reader, nil, 0, place(spare[:]), length(spare[:]), &none)
+			answer = C.age_c_end(&reader, nil, 0, place(room), length(room), &none) // (the text stays)
 		}
 	} else if answer == 0 {
 		answer = C.age_c_end(&reader, place(block), length(block), place(room), length(room), &written)
@@ -202,7 +204,7 @@ func (r *places) some(into, block []byte, off int64) (int, error) {
 	if skipped == 0 && len(into) >= C.AGE_C_CHUNK {
 		n, err := r.open(number, block, into)
 		if err == nil && n == 0 {
-			err = io.ErrUnexpectedEOF
+			err = shorter(number)
 		}
 		return n, err
 	}
@@ -210,8 +212,13 @@ func (r *places) some(into, block []byte, off int64) (int, error) {
 	if err != nil {
 		return 0, err
 	}
-	if skipped >= int64(len(text)) { // the file has become shorter
-		return 0, io.ErrUnexpectedEOF
+	if skipped >= int64(len(text)) {
+		return 0, shorter(number)
 	}
 	return copy(into, text[skipped:]), nil
+}
+
+// shorter is the fault of a file that has become shorter, and ends in this chunk, or before it.
+func shorter(number int64) *Fault {
+	return &Fault{Number: NumberTruncated, Chunk: number}
 }

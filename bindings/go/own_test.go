@@ -5,6 +5,7 @@ import (
 	"fmt"
 	"io"
 	"math/rand"
+	"strings"
 	"sync"
 	"testing"
 	"testing/iotest"
@@ -158,6 +159,12 @@ func TestSalvageFails(t *testing.T) {
 		file := io.MultiReader(bytes.NewReader(data[:end]), iotest.ErrReader(io.ErrClosedPipe))
 		if _, err := Salvage(io.Discard, file, pw()); err != io.ErrClosedPipe {
 			t.Error(end, err)
+		}
+	}
+	data[len(data)-2*65_552] ^= 1 // chunk 0 is lost: a sink that has no room for its zeros, or for the text after them
+	for _, room := range []failingSink{0, 1_000, 65_535, 65_536, 131_071} {
+		if _, err := Salvage(&room, bytes.NewReader(data), pw()); err == nil {
+			t.Error("a sink with room for", room)
 		}
 	}
 }
@@ -333,5 +340,48 @@ func TestShorter(t *testing.T) {
 		if n, err := file.ReadAt(got[:10], 150_000); n == 10 != (end == len(data)-1) {
 			t.Error(end, n, err)
 		}
+	}
+}
+
+// miscounts is written to, and read, by calls that return this count.
+type miscounts int
+
+func (n miscounts) Write([]byte) (int, error)                { return int(n), nil }
+func (n miscounts) WriteAt([]byte, int64) (int, error)       { return int(n), nil }
+func (n miscounts) ReadAt(room []byte, _ int64) (int, error) { return int(n), nil }
+
+// A count that no Write may return is an error, and not a file that is whole; nor is it a panic.
+func TestCountsOutOfRange(t *testing.T) {
+	data := sealed(t, textOf(200_000))
+	for _, n := range []miscounts{-1, 1 << 20} {
+		if w, err := Create(n, []byte("pw"), 1); err == nil {
+			t.Errorf("a writer %v whose sink returns %d", w, n)
+		}
+		text, err := Open(bytes.NewReader(data), Passphrase([]byte("pw"), 1))
+		if err != nil {
+			t.Fatal(err)
+		}
+		if _, err := text.WriteTo(n); err == nil {
+			t.Errorf("WriteTo, and the sink returned %d", n)
+		}
+		at, err := OpenAt(bytes.NewReader(data), int64(len(data)), Passphrase([]byte("pw"), 1))
+		if err != nil {
+			t.Fatal(err)
+		}
+		if _, err := at.WriteTo(n); err == nil {
+			t.Errorf("WriteTo of a File, and the sink returned %d", n)
+		}
+		if _, err := DecryptTo(n, bytes.NewReader(data), int64(len(data)), Passphrase([]byte("pw"), 1), 2); err == nil {
+			t.Errorf("DecryptTo, and the sink returned %d", n)
+		}
+		if _, err := Salvage(n, bytes.NewReader(data), Passphrase([]byte("pw"), 1)); err == nil {
+			t.Errorf("Salvage, and the sink returned %d", n)
+		}
+		if _, err := OpenAt(n, int64(len(data)), Passphrase([]byte("pw"), 1)); err == nil {
+			t.Errorf("OpenAt, and ReadAt returned %d", n)
+		}
+	}
+	if _, err := OpenAt(bytes.NewReader(data), -1, Passphrase([]byte("pw"), 1)); err == nil || !strings.Contains(err.Error(), "negative") {
+		t.Errorf("OpenAt of -1 bytes: %v", err)
 	}
 }

@@ -15,9 +15,10 @@ import (
 // use it.
 type Reader struct {
 	file   io.Reader
-	stream C.age_c_stream
-	front  []byte // what was read and isn't given to the stream yet
-	piece  []byte // where pieces of the file are read
+	reader C.age_c_reader
+	front  []byte // what was read of the header
+	block  []byte // where a block is read
+	have   int    // how much of it was
 	chunk  []byte // where the text of a block goes
 	text   []byte // the part of it that isn't returned yet
 	err    error  // how the text ends
@@ -32,15 +33,20 @@ func Open(file io.Reader, key Key) (*Reader, error) {
 	if file == nil {
 		return nil, errNil
 	}
-	r := &Reader{file: file, piece: make([]byte, C.AGE_C_BLOCK), chunk: make([]byte, C.AGE_C_CHUNK)}
+	r := &Reader{file: file, block: make([]byte, C.AGE_C_BLOCK), chunk: make([]byte, C.AGE_C_CHUNK)}
 	if err := r.begin(key); err != nil {
 		return nil, err
 	}
+	r.have = copy(r.block, r.front[r.reader.payload_at:]) // which was read at once, and is less than a block
+	r.front = nil
 	return r, nil
 }
 
 // begin reads until the header is complete, or until another byte can't help.
 func (r *Reader) begin(key Key) error {
+	if !runsHere() {
+		return errProcessor
+	}
 	for {
 		seen := length(r.front)
 		err := r.more()
@@ -50,9 +56,8 @@ func (r *Reader) begin(key Key) error {
 		if err == nil && C.age_c_may_open(place(r.front), length(r.front), seen) != 0 {
 			continue
 		}
-		switch answer := key.open(r.front, &r.stream.reader); {
+		switch answer := key.open(r.front, &r.reader); {
 		case answer == 0:
-			r.front = r.front[r.stream.reader.payload_at:]
 			return nil
 		case answer != C.AGE_C_MORE || err == io.EOF:
 			fault := headerFault(answer, key.rules...)
@@ -64,7 +69,7 @@ func (r *Reader) begin(key Key) error {
 
 // more reads as many bytes of the file's front as there are, at most a chunk, and at least one.
 func (r *Reader) more() error {
-	room := r.piece[:C.AGE_C_CHUNK]
+	room := r.block[:C.AGE_C_CHUNK]
 	if left := C.AGE_C_FRONT_MAX - len(r.front); left < len(room) {
 		room = room[:left]
 	}
@@ -87,10 +92,38 @@ func readSome(file io.Reader, room []byte) (int, error) {
 			err = nil // it comes again
 		}
 		if n > 0 || err != nil {
-			return n, err
+			return n, ofSource(err)
 		}
 	}
 	return 0, io.ErrNoProgress
+}
+
+// cutSource is what a source says that was cut off itself, as the body of a response. It is
+// ErrTruncated, and not io.ErrUnexpectedEOF any more.
+type cutSource struct{ text string }
+
+func (s *cutSource) Error() string { return "agefile: what the file is read from: " + s.text }
+
+func (s *cutSource) Is(target error) bool { return target == ErrTruncated }
+
+// ofSource is the error of a source as it is passed on.
+func ofSource(err error) error {
+	if errors.Is(err, io.ErrUnexpectedEOF) {
+		return &cutSource{err.Error()}
+	}
+	return err
+}
+
+// writeAll writes bytes, and says how many were taken, and why not all were.
+func writeAll(out io.Writer, text []byte) (int, error) {
+	n, err := out.Write(text)
+	if n < 0 || n > len(text) {
+		return 0, errWrite
+	}
+	if err == nil && n < len(text) {
+		err = io.ErrShortWrite
+	}
+	return n, err
 }
 
 var errNotOpen = errors.New("agefile: a Reader, File or Writer that wasn't opened by Open, OpenAt or Create")
@@ -99,12 +132,18 @@ var errNil = errors.New("agefile: the file is nil")
 
 var errRead = errors.New("agefile: a Read returned a count that is out of range")
 
-// read reads a piece, up to the end of the block that is open. What came before a failed read is
-// kept.
+var errWrite = errors.New("agefile: a Write returned a count that is out of range")
+
+// read reads on to the end of the block, or of the file, which is io.EOF. What came before a failed
+// read is kept.
 func (r *Reader) read() error {
-	n, err := readSome(r.file, r.piece[:C.AGE_C_BLOCK-r.stream.held])
-	r.front = r.piece[:n]
-	return err
+	for r.have < len(r.block) {
+		n, err := readSome(r.file, r.block[r.have:])
+		if r.have += n; err != nil {
+			return err
+		}
+	}
+	return nil
 }
 
 // String hides the key and the text.
@@ -118,40 +157,29 @@ func (r *Reader) Format(state fmt.State, _ rune) { io.WriteString(state, r.Strin
 
 // next opens the next block, or what is left at the end, into a chunk's room.
 func (r *Reader) next(room []byte) (int, error) {
-	for r.err == nil {
-		var err error
-		if len(r.front) == 0 {
-			err = r.read()
-		}
-		if err != nil && err != io.EOF {
-			return 0, err
-		}
-		if n, err := r.feed(room, err == io.EOF); n > 0 || err != nil {
-			return n, err
-		}
+	if r.err != nil {
+		return 0, r.err
 	}
-	return 0, r.err
-}
-
-// feed gives the stream what was read, or the end, and puts its text into a chunk's room.
-func (r *Reader) feed(room []byte, end bool) (int, error) {
-	var taken, written C.size_t
+	err := r.read()
+	if err != nil && err != io.EOF {
+		return 0, err
+	}
+	var written C.size_t
 	var answer C.uint32_t
-	if end {
-		answer = C.age_c_finish(&r.stream, place(room), length(room), &written)
+	block := r.block[:r.have]
+	if r.have = 0; err == io.EOF {
+		answer = C.age_c_end(&r.reader, place(block), length(block), place(room), length(room), &written)
 		r.err = io.EOF
 	} else {
-		answer = C.age_c_feed(&r.stream, place(r.front), length(r.front), &taken, place(room),
-			length(room), &written)
-		r.front = r.front[taken:]
+		answer = C.age_c_block(&r.reader, place(block), length(block), place(room), length(room), &written)
 	}
 	if answer != 0 {
-		r.err = blockFault(answer, &r.stream.reader)
+		r.err = blockFault(answer, &r.reader)
 	}
 	if r.err != nil {
-		r.stream = C.age_c_stream{} // which held the file key
+		r.reader = C.age_c_reader{} // which held the file key
 	}
-	if answer != 0 {
+	if answer != 0 || written == 0 {
 		return 0, r.err
 	}
 	return int(written), nil
@@ -185,11 +213,8 @@ func (r *Reader) WriteTo(out io.Writer) (int64, error) {
 	}
 	var all int64
 	for {
-		n, err := out.Write(r.text)
+		n, err := writeAll(out, r.text)
 		r.text, all = r.text[n:], all+int64(n)
-		if err == nil && len(r.text) > 0 {
-			err = io.ErrShortWrite
-		}
 		if err != nil {
 			return all, err
 		}

@@ -6,7 +6,7 @@ package agefile
 import "C"
 
 import (
-	"bytes"
+	"errors"
 	"io"
 )
 
@@ -32,40 +32,37 @@ func Salvage(out io.Writer, file io.Reader, key Key) (*Salvaged, error) {
 	if err != nil {
 		return nil, err
 	}
-	s := &salvager{file: io.MultiReader(bytes.NewReader(append([]byte(nil), r.front...)), file), out: out, reader: r.stream.reader, text: r.chunk}
-	r.stream = C.age_c_stream{} // its copy of the file key
-	defer func() { s.reader = C.age_c_reader{} }()
+	defer func() { r.reader = C.age_c_reader{} }() // which holds the file key
+	s := &salvager{from: r, out: out}
 	return s.run()
 }
 
 type salvager struct {
-	file   io.Reader
-	out    io.Writer
-	reader C.age_c_reader
-	text   []byte
-	found  Salvaged
-	size   int64 // of the text so far
-	block  [C.AGE_C_BLOCK]byte
+	from  *Reader
+	out   io.Writer
+	found Salvaged
+	size  int64 // of the text so far
 }
 
 func (s *salvager) run() (*Salvaged, error) {
 	have, opens := C.AGE_C_BLOCK, false
 	for number := int64(0); have == C.AGE_C_BLOCK && !s.found.Ends; number++ {
-		var err error
-		if have, err = io.ReadFull(s.file, s.block[:]); err != nil && err != io.EOF && err != io.ErrUnexpectedEOF {
+		err := s.from.read()
+		if err != nil && err != io.EOF && !errors.Is(err, ErrTruncated) {
 			return nil, err
 		}
+		have, s.from.have = s.from.have, 0
 		n, opened, err := s.open(number, have)
 		if err != nil {
 			return nil, err
 		}
 		at := number * C.AGE_C_CHUNK
 		if opened {
-			if err := s.put(at, s.text[:n]); err != nil {
+			if err := s.put(at, s.from.chunk[:n]); err != nil {
 				return nil, err
 			}
 			opens, s.size = true, at+int64(n)
-			s.found.Ends = have < C.AGE_C_BLOCK || s.reader.state == 2
+			s.found.Ends = have < C.AGE_C_BLOCK || s.from.reader.state == 2
 		} else if have > 16 {
 			s.size = at + int64(have) - 16
 			s.lose(at)
@@ -77,7 +74,7 @@ func (s *salvager) run() (*Salvaged, error) {
 		}
 	}
 	if s.found.Ends && have == C.AGE_C_BLOCK {
-		n, err := readSome(s.file, s.block[:1])
+		n, err := readSome(s.from.file, s.from.block[:1])
 		if n == 0 && err != io.EOF {
 			return nil, err
 		}
@@ -89,11 +86,11 @@ func (s *salvager) run() (*Salvaged, error) {
 // open opens a block, or what is left at the end, at its place, and says whether it opens.
 func (s *salvager) open(number int64, have int) (int, bool, error) {
 	var written C.size_t
-	block := s.block[:have]
-	answer := C.age_c_open_at(&s.reader, C.uint64_t(number), place(block), length(block), place(s.text),
-		length(s.text), &written)
+	r, block := s.from, s.from.block[:have]
+	answer := C.age_c_open_at(&r.reader, C.uint64_t(number), place(block), length(block), place(r.chunk),
+		length(r.chunk), &written)
 	if answer == C.AGE_C_MISUSED { // more chunks than a payload has
-		return 0, false, blockFault(answer, &s.reader)
+		return 0, false, blockFault(answer, &r.reader)
 	}
 	return int(written), answer == 0, nil
 }
@@ -120,10 +117,7 @@ func (s *salvager) put(at int64, text []byte) error {
 }
 
 func (s *salvager) write(text []byte) error {
-	n, err := s.out.Write(text)
-	if err == nil && n < len(text) {
-		err = io.ErrShortWrite
-	}
+	n, err := writeAll(s.out, text)
 	s.found.Size += int64(n)
 	return err
 }

@@ -7,19 +7,20 @@ import "C"
 
 import (
 	"errors"
+	"fmt"
 	"io"
 	"sync"
 )
 
-// DecryptTo decrypts a file of this many bytes by so many goroutines, each a part of it, and returns
-// the length of the text. Only if the error is nil has out all of it: the last chunk, which proves the
+// DecryptTo decrypts a file of this many bytes by 1 to MaxWorkers goroutines, each a part of it, and
+// returns the length of the text. Only if the error is nil has out all of it: the last chunk, which proves the
 // length, is opened first. If parts fail, the error is that of the first one; those after it stop.
 func DecryptTo(out io.WriterAt, file io.ReaderAt, size int64, key Key, workers int) (int64, error) {
 	if out == nil {
 		return 0, errors.New("agefile: out is nil")
 	}
-	if workers < 1 {
-		return 0, errors.New("agefile: workers must be 1 or more")
+	if workers < 1 || workers > MaxWorkers {
+		return 0, fmt.Errorf("agefile: workers must be 1 to %d", MaxWorkers)
 	}
 	text, err := OpenAt(file, size, key)
 	if err != nil {
@@ -66,12 +67,15 @@ func copyPart(out io.WriterAt, text *File, at, end int64, stops func() bool) err
 		}
 		if done, err := out.WriteAt(room[:n], at); err != nil {
 			return err
+		} else if done < 0 || done > n {
+			return errWrite
 		} else if done < n {
 			return io.ErrShortWrite
 		}
-		if at += int64(n); n == 0 {
-			return io.ErrUnexpectedEOF
+		if n == 0 {
+			return shorter(at / C.AGE_C_CHUNK)
 		}
+		at += int64(n)
 	}
 	return nil
 }

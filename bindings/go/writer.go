@@ -65,6 +65,9 @@ func begin(out io.Writer, key []byte, size int, front []byte, rules []rule,
 	if out == nil {
 		return nil, errNil
 	}
+	if !runsHere() {
+		return nil, errProcessor
+	}
 	w := &Writer{out: out, held: make([]byte, 0, gathered), block: make([]byte, C.AGE_C_BLOCK)}
 	random := make([]byte, size)
 	if _, err := rand.Read(random); err != nil {
@@ -93,12 +96,8 @@ func (w *Writer) Format(state fmt.State, _ rune) { io.WriteString(state, w.Strin
 
 // put passes on bytes.
 func (w *Writer) put(sealed []byte) error {
-	done, err := w.out.Write(sealed)
-	if err == nil && done < len(sealed) {
-		err = io.ErrShortWrite
-	}
-	w.err = err
-	return err
+	_, w.err = writeAll(w.out, sealed)
+	return w.err
 }
 
 // wrote passes on what a call wrote.

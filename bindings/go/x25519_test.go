@@ -4,7 +4,6 @@ import (
 	"bytes"
 	"errors"
 	"fmt"
-	"io"
 	"math/big"
 	"os"
 	"strings"
@@ -102,7 +101,7 @@ func TestX25519(t *testing.T) {
 		if string(got) != it.want {
 			t.Errorf("%s: %q, %v", it.name, got, err)
 		}
-		if _, err = Decrypt(data[:90], it.key); !errors.Is(err, io.ErrUnexpectedEOF) {
+		if _, err = Decrypt(data[:90], it.key); !errors.Is(err, ErrTruncated) {
 			t.Errorf("%s, cut: %v", it.name, err)
 		}
 	}

@@ -67,7 +67,7 @@ import os
 from types import TracebackType
 from typing import Any, Iterable, Literal, Protocol, Union, overload
 
-from ._arguments import see_one, work_factor
+from ._arguments import Buffer, see_one, work_factor
 from ._file import AgeFile
 from ._inspection import Inspection, Stanza, inspect
 from ._keys import identities_in, identities_of
@@ -82,6 +82,8 @@ from ._writer import AgeWriter
 __all__ = ["open", "encrypt", "decrypt", "inspect", "Inspection", "Stanza", "salvage", "Salvage", "identities_in", "AgeError", "WrongKey",
            "TooManyStanzas", "Truncated", "Damaged", "OutOfMemory", "AgeReader", "AgeFile", "AgeWriter", "Decryptor", "Encryptor"]
 __version__ = f"{VERSION // 10_000}.{VERSION // 100 % 100}.{VERSION % 100}"
+# In its place release/build writes which commit it is of, as in age_tool.
+__build__ = "(not a release)"
 
 for _it in (encrypt, decrypt, inspect, Inspection, Stanza, salvage, Salvage, identities_in, AgeError, WrongKey, TooManyStanzas,
             Truncated, Damaged, OutOfMemory, AgeReader, AgeFile, AgeWriter, Decryptor, Encryptor):
@@ -174,56 +176,56 @@ def _opened(file: Any, mode: str) -> tuple[Any, bool]:
 
 
 @overload
-def open(file: Path | Source, mode: Literal["r", "rb"] = "rb", *, passphrase: str | bytes | None = None, file_key: bytes | None = None,
-         shared: tuple[bytes, bytes] | None = None, identity: str | Iterable[str] | None = None, max_work: int = 22,
+def open(file: Path | Source, mode: Literal["r", "rb"] = "rb", *, passphrase: str | Buffer | None = None, file_key: Buffer | None = None,
+         shared: tuple[Buffer, Buffer] | None = None, identity: str | Iterable[str] | None = None, max_work: int = 22,
          random_access: Literal[False] = False) -> AgeReader:
     ...
 
 
 @overload
-def open(file: Path | Source, mode: Literal["r", "rb"] = "rb", *, passphrase: str | bytes | None = None, file_key: bytes | None = None,
-         shared: tuple[bytes, bytes] | None = None, identity: str | Iterable[str] | None = None, max_work: int = 22,
+def open(file: Path | Source, mode: Literal["r", "rb"] = "rb", *, passphrase: str | Buffer | None = None, file_key: Buffer | None = None,
+         shared: tuple[Buffer, Buffer] | None = None, identity: str | Iterable[str] | None = None, max_work: int = 22,
          random_access: Literal[True]) -> AgeFile:
     ...
 
 
 @overload
-def open(file: Path | Source, mode: Literal["r", "rb"] = "rb", *, passphrase: str | bytes | None = None, file_key: bytes | None = None,
-         shared: tuple[bytes, bytes] | None = None, identity: str | Iterable[str] | None = None, max_work: int = 22,
+def open(file: Path | Source, mode: Literal["r", "rb"] = "rb", *, passphrase: str | Buffer | None = None, file_key: Buffer | None = None,
+         shared: tuple[Buffer, Buffer] | None = None, identity: str | Iterable[str] | None = None, max_work: int = 22,
          random_access: bool = False) -> AgeReader:
     ...
 
 
 @overload
-def open(file: Path | Sink, mode: Literal["w", "x", "wb", "xb"], *, passphrase: str | bytes | None = None,
+def open(file: Path | Sink, mode: Literal["w", "x", "wb", "xb"], *, passphrase: str | Buffer | None = None,
          recipient: str | Iterable[str] | None = None, work: int = 18) -> AgeWriter:
     ...
 
 
 @overload
-def open(file: Path | Source, mode: Literal["rt"], *, passphrase: str | bytes | None = None, file_key: bytes | None = None,
-         shared: tuple[bytes, bytes] | None = None, identity: str | Iterable[str] | None = None, max_work: int = 22,
+def open(file: Path | Source, mode: Literal["rt"], *, passphrase: str | Buffer | None = None, file_key: Buffer | None = None,
+         shared: tuple[Buffer, Buffer] | None = None, identity: str | Iterable[str] | None = None, max_work: int = 22,
          random_access: bool = False, encoding: str | None = None, errors: str | None = None,
          newline: str | None = None) -> io.TextIOWrapper:
     ...
 
 
 @overload
-def open(file: Path | Sink, mode: Literal["wt", "xt"], *, passphrase: str | bytes | None = None, recipient: str | Iterable[str] | None = None,
+def open(file: Path | Sink, mode: Literal["wt", "xt"], *, passphrase: str | Buffer | None = None, recipient: str | Iterable[str] | None = None,
          work: int = 18, encoding: str | None = None, errors: str | None = None, newline: str | None = None) -> io.TextIOWrapper:
     ...
 
 
 @overload
-def open(file: Path | Source | Sink, mode: str, *, passphrase: str | bytes | None = None, file_key: bytes | None = None,
-         shared: tuple[bytes, bytes] | None = None, identity: str | Iterable[str] | None = None,
+def open(file: Path | Source | Sink, mode: str, *, passphrase: str | Buffer | None = None, file_key: Buffer | None = None,
+         shared: tuple[Buffer, Buffer] | None = None, identity: str | Iterable[str] | None = None,
          recipient: str | Iterable[str] | None = None, work: int = 18, max_work: int = 22, random_access: bool = False,
          encoding: str | None = None, errors: str | None = None, newline: str | None = None) -> AgeReader | AgeWriter | io.TextIOWrapper:
     ...
 
 
-def open(file: Path | Source | Sink, mode: str = "rb", *, passphrase: str | bytes | None = None, file_key: bytes | None = None,
-         shared: tuple[bytes, bytes] | None = None, identity: str | Iterable[str] | None = None,
+def open(file: Path | Source | Sink, mode: str = "rb", *, passphrase: str | Buffer | None = None, file_key: Buffer | None = None,
+         shared: tuple[Buffer, Buffer] | None = None, identity: str | Iterable[str] | None = None,
          recipient: str | Iterable[str] | None = None, work: int = 18, max_work: int = 22, random_access: bool = False,
          encoding: str | None = None, errors: str | None = None, newline: str | None = None) -> AgeReader | AgeWriter | io.TextIOWrapper:
     """Opens an age file, which is a path or a binary file object: "rb" to read it, "wb" (or "xb", which refuses a file that is there)

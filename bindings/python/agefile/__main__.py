@@ -15,9 +15,10 @@ from typing import Any, Iterator
 import agefile
 from agefile import _keys, _library
 from agefile._arguments import WORK_MAX, secret
+from agefile._output import new_name, opened_alone, reach_disk, replacing
 from agefile._position import MOST, Position
 from agefile._recipients import beginning_of
-from agefile._source import filled, new_name, reach_disk, some
+from agefile._source import filled, some
 from agefile._workers import WORKERS_MAX, Places, copy_text, put_at
 
 FACTORS = range(1, WORK_MAX + 1)
@@ -81,9 +82,8 @@ def see_apart(words: argparse.Namespace) -> None:
 @contextlib.contextmanager
 def sink(words: argparse.Namespace) -> Iterator[Any]:
     """What is written to, which has reached the disk at the end."""
-    how = "xb" if words.no_clobber else "wb"
     made = None if words.output == "-" else new_name(words.output)
-    held: Any = contextlib.nullcontext(sys.stdout.buffer) if words.output == "-" else open(words.output, how)
+    held: Any = contextlib.nullcontext(sys.stdout.buffer) if words.output == "-" else opened_alone(words.output, words.no_clobber)
     try:
         with held as out:
             yield out
@@ -140,31 +140,17 @@ def decrypt(words: argparse.Namespace) -> None:
 
 def decrypt_by_workers(words: argparse.Namespace) -> None:
     """The same by several threads. OUT gets its name once all of the text is there, and on the disk: else it stays as it was."""
-    there = os.path.exists(words.output)
-    if words.output == "-" or there and not os.path.isfile(words.output):
+    if words.output == "-" or os.path.exists(words.output) and not os.path.isfile(words.output):
         raise ValueError("--workers writes a regular file")
     out = os.path.realpath(words.output)
-    part = f"{out}.{os.getpid()}.part"
     with source(words.input) as under, opened(under, words, random_access=True) as first:
-        descriptor = os.open(part, os.O_WRONLY | os.O_CREAT | os.O_EXCL, 0o666)
         try:
-            with open(descriptor, "wb", buffering=0) as made:
-                copy_text(first, lambda: Places(under.fileno()), lambda at, text: put_at(descriptor, at, text), words.workers)
-                if there:
-                    os.fchmod(descriptor, stat.S_IMODE(os.stat(out).st_mode))
-                reach_disk(made)
-                if words.no_clobber:
-                    os.link(part, out)  # which refuses a name that is there by now
-                else:
-                    os.replace(part, out)
-                reach_disk(made, out)
+            with replacing(out, words.no_clobber) as made:
+                copy_text(first, lambda: Places(under.fileno()), lambda at, text: put_at(made.fileno(), at, text), words.workers)
         except OSError as fault:
-            if fault.errno in FULL and fault.filename is None:
+            if fault.filename == out or fault.filename is None and fault.errno in FULL:
                 fault.filename = words.output
             raise
-        finally:
-            with contextlib.suppress(FileNotFoundError):
-                os.unlink(part)
 
 
 def resume(words: argparse.Namespace) -> None:
@@ -192,7 +178,7 @@ def salvage(words: argparse.Namespace) -> int:
     keys: dict[str, Any] = {"identity": identities_of(words.keys)} if words.keys is not None else {"passphrase": passphrase_of(words), "max_work": words.max_log}
     out: Any = sys.stdout.buffer if words.output == "-" else words.output
     with source(words.input) as file, Progress(file) as progress:
-        found = agefile.salvage(file, out, progress=progress.told, **keys)
+        found = agefile.salvage(file, out, progress=progress.told, mode="xb" if words.no_clobber else "wb", **keys)
     sys.stdout.buffer.flush()
     for first, after in found.lost:
         print(f"agefile: lost: from byte {first} to before byte {after}", file=sys.stderr)
@@ -267,7 +253,7 @@ def opened(file: Any, words: argparse.Namespace, random_access: bool = False) ->
 def words_of() -> argparse.Namespace:
     top = argparse.ArgumentParser("python3 -m agefile", description="Encrypts, decrypts, resumes, tests and salvages age files. Only status 0 means that OUT "
                                   "is whole, and on the disk: after a fault it holds a checked beginning. - is standard input or output.")
-    top.add_argument("--version", action="version", version=f"agefile {agefile.__version__}")
+    top.add_argument("--version", action="version", version=f"agefile {agefile.__version__} {agefile.__build__}")
     commands = top.add_subparsers(required=True, metavar="COMMAND")
     for call, what in (
         (encrypt, "encrypt IN to OUT under a passphrase or for recipients"), (decrypt, "decrypt IN to OUT"), (test, "decrypt IN, and write nothing"),

@@ -2,7 +2,13 @@
 from __future__ import annotations
 
 import operator
-from typing import Any
+from typing import TYPE_CHECKING, Any, Union
+
+if TYPE_CHECKING:
+    from _typeshed import ReadableBuffer
+    Buffer = ReadableBuffer
+else:
+    Buffer = Union[bytes, bytearray, memoryview]
 
 WORK_MAX = 22
 PASSPHRASE_MAX = 65_536

@@ -96,7 +96,8 @@ class AgeFile(AgeReader):
             self._until = min((self._place() + wanted - 1) // CHUNK, self._last) + 1
             return call(word)
         finally:
-            self._until, self._ahead = 0, None
+            self._ahead = None
+            self._until = 0
             if len(self._blocks.held) > KEPT * BLOCK:
                 self._blocks = Bytes(0)
 
@@ -124,13 +125,14 @@ class AgeFile(AgeReader):
         else:
             number = place // CHUNK
             self._hold(number * CHUNK, self._text_of(number))
-            self._chunk.seek(place - self._before)
+            self._held.text.seek(place % CHUNK)
 
     def _to_end(self) -> int:
         return self._size
 
     def _go(self, target: int) -> None:
-        if self._before <= target < self._before + self._len:
-            self._chunk.seek(target - self._before)
+        held = self._held
+        if held.begin <= target < held.begin + held.size:
+            held.text.seek(target - held.begin)
         else:
             self._stand(min(target, self._size))

@@ -6,7 +6,7 @@ import os
 import pathlib
 from typing import Any, Callable, Iterable
 
-VERSION = 1_02_00  # major, minor and patch, as AGE_C_VERSION
+VERSION = 1_03_00  # major, minor and patch, as AGE_C_VERSION
 CHUNK = 65_536
 BLOCK = 65_552
 FRONT_MAX = 1_048_592
@@ -152,8 +152,11 @@ def _library() -> ctypes.CDLL:
     given, count = [bytes_, size], ctypes.POINTER(size)
     reader, writer = ctypes.POINTER(ReaderState), ctypes.POINTER(WriterState)
     write_stream = ctypes.POINTER(WriteStreamState)
+    # (before the other calls: an older library may lack some)
+    if not fits(library.age_c_version()):
+        raise ImportError(f"{name}: version {library.age_c_version()}, not {VERSION} or a later one that runs what it did")
     functions: dict[str, list[Any]] = {
-        "age_c_version": [],
+        "age_c_runs_here": [],
         "age_c_header": given + [count, count, ctypes.POINTER(number)],
         "age_c_stanzas": given + [ctypes.POINTER(StanzaPlace), size, count] + given + [count],
         "age_c_open_passphrase": given + given + [number, reader],
@@ -174,8 +177,8 @@ def _library() -> ctypes.CDLL:
         getattr(library, function).argtypes = arguments
         getattr(library, function).restype = number
     library.age_c_fault_name.argtypes, library.age_c_fault_name.restype = [number], ctypes.c_char_p
-    if not fits(library.age_c_version()):
-        raise ImportError(f"{name}: version {library.age_c_version()}, not {VERSION} or a later one that runs what it did")
+    if not library.age_c_runs_here():
+        raise ImportError(f"{name} needs a processor with x86-64-v2 (SSE4.2 and POPCNT), and this one hasn't that")
     return library
 
 

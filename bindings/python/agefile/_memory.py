@@ -4,6 +4,7 @@ from __future__ import annotations
 import io
 from typing import Iterable
 
+from ._arguments import Buffer
 from ._file import AgeFile
 from ._reader import AgeReader
 from ._recipients import beginning_of
@@ -11,7 +12,7 @@ from ._workers import copy_text, worker_count
 from ._writer import AgeWriter
 
 
-def encrypt(text: bytes, *, passphrase: str | bytes | None = None, recipient: str | Iterable[str] | None = None, work: int = 18) -> bytes:
+def encrypt(text: Buffer, *, passphrase: str | Buffer | None = None, recipient: str | Iterable[str] | None = None, work: int = 18) -> bytes:
     """The age file of a text that is in memory, under a passphrase or for recipients."""
     out = io.BytesIO()
     with AgeWriter(out, beginning_of(passphrase, recipient, work)) as file:
@@ -19,8 +20,8 @@ def encrypt(text: bytes, *, passphrase: str | bytes | None = None, recipient: st
     return out.getvalue()
 
 
-def decrypt(data: bytes, *, passphrase: str | bytes | None = None, file_key: bytes | None = None,
-            shared: tuple[bytes, bytes] | None = None, identity: str | Iterable[str] | None = None, max_work: int = 22,
+def decrypt(data: Buffer, *, passphrase: str | Buffer | None = None, file_key: Buffer | None = None,
+            shared: tuple[Buffer, Buffer] | None = None, identity: str | Iterable[str] | None = None, max_work: int = 22,
             workers: int = 1) -> bytes:
     """The text of an age file that is in memory: all of it, or an exception. Several workers are threads that decrypt parts of it."""
     if worker_count(workers) > 1:

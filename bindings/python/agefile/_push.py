@@ -1,13 +1,17 @@
 """What decrypts and encrypts bytes that a caller has, and reads and writes no file."""
 from __future__ import annotations
 
-from typing import Any, Callable, Iterable, NoReturn
+from typing import Any, Callable, Iterable, NoReturn, TypeVar
 
+from ._arguments import Buffer
 from ._calls import Inside, OneCall
 from ._library import BLOCK, CHUNK, FRONT_MAX, MORE, PLACED, AgeError, C, ReaderState, Room, WrongKey, again, fault_of, wipe
 from ._reader import may_open, opening_of
 from ._recipients import beginning_of
 from ._writer import AgeWriter
+
+Decrypting = TypeVar("Decrypting", bound="Decryptor")
+Encrypting = TypeVar("Encrypting", bound="Encryptor")
 
 LOST = "a call failed or was interrupted, so that bytes are lost"
 
@@ -15,16 +19,16 @@ LOST = "a call failed or was interrupted, so that bytes are lost"
 class Decryptor:
     """Decrypts a file whose bytes come from a caller, as those of an upload do in an asynchronous server, where there is nothing to read:
 
-        text = agefile.Decryptor(passphrase="correct horse")
-        async for piece in request.stream():
-            out.write(text.update(piece))
-        out.write(text.finish())  # the text is whole only if this returned
+        with agefile.Decryptor(passphrase="correct horse") as text:
+            async for piece in request.stream():
+                out.write(text.update(piece))
+            out.write(text.finish())  # the text is whole only if this returned
 
     The key is one of those that `open` takes. The update() that completes the header takes the time of the passphrase: give it to
     asyncio.to_thread; `opened` says whether it was. The text before a damaged chunk is returned before the fault, which each later call
-    raises again."""
+    raises again. finish() and close(), which `with` calls, overwrite the file key and the text that is held."""
 
-    def __init__(self, *, passphrase: str | bytes | None = None, file_key: bytes | None = None, shared: tuple[bytes, bytes] | None = None,
+    def __init__(self, *, passphrase: str | Buffer | None = None, file_key: Buffer | None = None, shared: tuple[Buffer, Buffer] | None = None,
                  identity: str | Iterable[str] | None = None, max_work: int = 22) -> None:
         self._open, self._by_key = opening_of(passphrase, file_key, shared, identity, max_work), file_key is not None
         self._calls, self._state, self._room = OneCall(), ReaderState(), Room()
@@ -53,8 +57,26 @@ class Decryptor:
             self._fault = self._fault or OSError(LOST)
             raise
 
+    def close(self) -> None:
+        """Overwrites the file key and the text that is held, also of a file that wasn't decrypted to its end. Each later call is refused."""
+        self._calls.make(self._close)
+
+    def __enter__(self: Decrypting) -> Decrypting:
+        return self
+
+    def __exit__(self, *_: Any) -> None:
+        self.close()
+
     def __reduce_ex__(self, _: Any) -> NoReturn:
         raise TypeError("cannot pickle or copy a Decryptor")
+
+    def _close(self) -> None:
+        self._fault = ValueError("the Decryptor is closed")
+        self._forget()
+
+    def _forget(self) -> None:
+        wipe(self._state)
+        self._room.wipe()
 
     def _begin(self) -> None:
         """What an exception ends isn't gone on with."""
@@ -84,8 +106,7 @@ class Decryptor:
             self._try_header(True)
         fault = self._open_blocks(text) or self._open_block(C.age_c_end, self._held, text)
         self._fault = fault or ValueError("finish() was called")
-        wipe(self._state)
-        self._room.wipe()
+        self._forget()
         if fault is not None:
             raise again(fault)
         return b"".join(text)
@@ -147,15 +168,15 @@ class _Pieces:
 class Encryptor:
     """Encrypts a text that comes in pieces, and returns the file in pieces:
 
-        file = agefile.Encryptor(passphrase="correct horse")
-        async for piece in pieces:
-            await response.write(file.update(piece))
-        await response.write(file.finish())  # without it every reader refuses the file
+        with agefile.Encryptor(passphrase="correct horse") as file:
+            async for piece in pieces:
+                await response.write(file.update(piece))
+            await response.write(file.finish())  # without it every reader refuses the file
 
     The key is a passphrase or a recipient, as for `open`. In a forked child, and after a call that an exception ended, each call is
-    refused."""
+    refused. finish() and close(), which `with` calls, overwrite the file key and the text that is held."""
 
-    def __init__(self, *, passphrase: str | bytes | None = None, recipient: str | Iterable[str] | None = None, work: int = 18) -> None:
+    def __init__(self, *, passphrase: str | Buffer | None = None, recipient: str | Iterable[str] | None = None, work: int = 18) -> None:
         self._calls, self._out = OneCall(), _Pieces()
         self._writer = AgeWriter(self._out, beginning_of(passphrase, recipient, work))
 
@@ -181,6 +202,16 @@ class Encryptor:
         except BaseException:
             self._writer.spoil()
             raise
+
+    def close(self) -> None:
+        """Overwrites the file key and the text that is held. A file that wasn't finished stays so: every reader refuses it."""
+        self._calls.make(self._writer.abandon)
+
+    def __enter__(self: Encrypting) -> Encrypting:
+        return self
+
+    def __exit__(self, *_: Any) -> None:
+        self.close()
 
     def __reduce_ex__(self, _: Any) -> NoReturn:
         raise TypeError("cannot pickle or copy an Encryptor")

@@ -4,13 +4,13 @@ from __future__ import annotations
 import ctypes
 import io
 import operator
-from typing import TYPE_CHECKING, Any, BinaryIO, Iterable, NoReturn, TypeVar
+from typing import TYPE_CHECKING, Any, BinaryIO, Iterable, NamedTuple, NoReturn, TypeVar
 
 from . import _keys
-from ._arguments import KEY, key, pair, secret, see_one, work_factor
+from ._arguments import KEY, Buffer, key, pair, secret, see_one, work_factor
 from ._calls import Inside, OneCall
 from ._library import BLOCK, CHUNK, FRONT_MAX, MORE, PLACED, C, Opened, ReaderState, Room, WrongKey, again, fault_of, opening, wipe
-from ._source import can_seek, checked, filled, some
+from ._source import can_seek, checked, filled, read_by, some
 
 if TYPE_CHECKING:
     class Buffered(io.BufferedIOBase, BinaryIO):  # type: ignore[misc]
@@ -51,7 +51,7 @@ def header_of(file: Any, opened: Opened, by_key: bool, state: ReaderState) -> by
 def _some(file: Any, most: int) -> Any:
     """As many bytes as there are, at most this many. (What read1 doesn't find may be the end, or not there yet: read() says which.)"""
     read1 = getattr(file, "read1", None)
-    return (checked(read1(most), most) if read1 is not None else None) or some(file, most)
+    return (checked(read_by(read1, most), most) if read1 is not None else None) or some(file, most)
 
 
 def may_open(front: bytearray, seen: int) -> bool:
@@ -70,6 +70,14 @@ def room_of(room: Any) -> memoryview:
 
 WholeChunk = ctypes.c_uint8 * CHUNK
 
+
+class Held(NamedTuple):
+    """The text of a chunk."""
+    begin: int  # where in the file's text
+    size: int
+    text: io.BytesIO  # it stands where the file does
+
+
 Reader = TypeVar("Reader", bound="AgeReader")
 
 LOST = "a read of this file failed or was interrupted, so that bytes may be lost: seek to a place that you know, or open it again"
@@ -78,17 +86,17 @@ LOST = "a read of this file failed or was interrupted, so that bytes may be lost
 class AgeReader(Buffered):
     """The text of an age file. After a read that fails, for whatever reason, each one fails, until a seek: who called may have lost bytes.
 
-    What is held is the text of one chunk. Where the file stands is where that chunk begins and how much of it was read: both change in
-    one step, so that an exception of a signal's handler finds the one or the other."""
+    What is held is the text of one chunk, where it begins and how long it is: one value, since an exception of a signal's handler may come
+    between any two (in Python 3.9 also between those that one statement sets). Where the file stands is how much of that text was read."""
 
-    def __init__(self, file: Any, passphrase: str | bytes | None = None, file_key: bytes | None = None,
-                 shared: tuple[bytes, bytes] | None = None, max_work: int = 22, owned: bool = False,
+    def __init__(self, file: Any, passphrase: str | Buffer | None = None, file_key: Buffer | None = None,
+                 shared: tuple[Buffer, Buffer] | None = None, max_work: int = 22, owned: bool = False,
                  identity: str | Iterable[str] | None = None) -> None:
         super().__init__()
         self._file, self._owned, self._calls = file, owned, OneCall()
         self._lock = self._calls.lock
         self._state, self._room = ReaderState(), Room()
-        self._chunk, self._before, self._len = io.BytesIO(), 0, 0  # the text of a chunk, where it begins, and how long it is
+        self._held = Held(0, 0, io.BytesIO())
         self._next_at = 0  # where the text begins that the library's reader opens next
         self._fault: Exception | None = None  # why it can't go on from there
         self._ended = False
@@ -100,23 +108,27 @@ class AgeReader(Buffered):
     # ---- chunks
 
     def _place(self) -> int:
-        return self._before + self._chunk.tell()
+        held = self._held
+        return held.begin + held.text.tell()
 
-    def _hold(self, before: int, text: bytes) -> None:
-        """Holds a text that begins there. It is the library's next one."""
-        end, chunk = before + len(text), io.BytesIO(text)
-        self._before, self._len, self._chunk, self._next_at = before, len(text), chunk, end
+    def _hold(self, begin: int, text: bytes) -> None:
+        """Holds a text that begins there."""
+        self._held = Held(begin, len(text), io.BytesIO(text))
 
     def _stand(self, place: int) -> None:
         """Holds nothing, and stands there."""
-        chunk = io.BytesIO()
-        self._before, self._len, self._chunk = place, 0, chunk
+        self._held = Held(place, 0, io.BytesIO())
+
+    def _left(self) -> int:
+        """How many bytes are held after the place where the file stands."""
+        held = self._held
+        return held.size - held.text.tell()
 
     def _has_more(self) -> bool:
         """Whether there is a byte where the file stands: if none is held, the next chunk is opened."""
-        if self._chunk.tell() == self._len:
+        if self._left() == 0:
             self._find(self._place())
-        return self._chunk.tell() < self._len
+        return self._left() > 0
 
     def _find(self, place: int) -> None:
         """Opens chunks up to that place, or the end, and stands there."""
@@ -124,23 +136,28 @@ class AgeReader(Buffered):
             self._rewind()
         while place >= self._next_at and not self._ended:
             self._next()
-        if self._before <= place <= self._before + self._len:
-            self._chunk.seek(place - self._before)
+        held = self._held
+        if held.begin <= place <= held.begin + held.size:
+            held.text.seek(place - held.begin)
         else:
             self._stand(min(place, self._next_at))
 
     def _next(self) -> None:
-        """Opens the next chunk, or checks the end."""
+        """Opens the next chunk, or checks the end. (The fault of _open_next goes last: what an exception leaves is begun anew.)"""
         ended = self._open_next()
         self._hold(self._next_at, bytes(self._room.text.view[:self._room.count.value]))
-        self._ended, self._fault = ended, None
+        self._next_at += self._held.size
+        self._ended = ended
+        self._fault = None
 
     def _next_into(self, out: memoryview) -> int:
         """Opens the next chunk into room for a whole one, and stands after it: how long its text is. None is held, and the library's
         next one is where the file stands."""
-        ended, count, chunk = self._open_next(out), self._room.count.value, io.BytesIO()
-        end = self._next_at + count
-        self._before, self._len, self._chunk, self._next_at, self._ended, self._fault = end, 0, chunk, end, ended, None
+        ended, count = self._open_next(out), self._room.count.value
+        self._next_at += count
+        self._stand(self._next_at)
+        self._ended = ended
+        self._fault = None
         return count
 
     def _open_next(self, out: memoryview | None = None) -> bool:
@@ -174,7 +191,8 @@ class AgeReader(Buffered):
         self._file.seek(self._payload_at)
         self._to_chunk(0)
         self._rest = bytearray()
-        self._next_at, self._ended, self._fault = 0, False, None
+        self._next_at, self._ended = 0, False
+        self._fault = None
 
     def _to_chunk(self, chunk: int) -> None:
         """What the library opens next is that chunk."""
@@ -194,41 +212,42 @@ class AgeReader(Buffered):
         if self._lost:
             raise again(self._fault or OSError(LOST))
 
-    def _lose(self, before: int = 0, at: int = -1) -> None:
-        """A read failed that began there in the chunk that begins before: the file stands there again, and isn't read until a seek."""
+    def _lose(self, begin: int = 0, at: int = -1) -> None:
+        """A read failed that began there in the chunk that begins there: the file stands there again, and isn't read until a seek."""
         if at >= 0 and not self.closed:
             self._lost = True
-            self._stand(before + at)
+            self._stand(begin + at)
 
     def _reading(self, mark: list[int], call: Any, *words: Any) -> Any:
         """Makes a call that reads, and notes where it begins. (Who calls it restores the place after an exception, and not this: one may
         come when this returns.)"""
         with self._calls.lock:
-            mark += self._before, self._chunk.tell()
+            held = self._held
+            mark += held.begin, held.text.tell()
             return self._calls.make(call, *words)
 
     def read(self, size: int | None = -1, /) -> bytes:
         if type(size) is not int:
             size = -1 if size is None else operator.index(size)
-        before, at = 0, -1
+        begin, at = 0, -1
         try:
             with self._lock:
-                chunk, before = self._chunk, self._before
-                at = chunk.tell()
-                if 0 <= size <= self._len - at:  # (most reads end here)
-                    return chunk.read(size)
+                begin, length, text = self._held
+                at = text.tell()
+                if 0 <= size <= length - at:  # (most reads end here)
+                    return text.read(size)
                 return self._calls.make(self._read, size)
         except Inside:
             raise
         except BaseException:
-            self._lose(before, at)
+            self._lose(begin, at)
             raise
 
     def _read(self, size: int) -> bytes:
         self._see_read()
         if size == 0 or not self._has_more():
             return b""
-        piece = self._chunk.read(size)
+        piece = self._held.text.read(size)
         if len(piece) == size:
             return piece
         got, view = io.BytesIO(), self._room.text.view  # (one that grows is quicker than pieces that are joined)
@@ -251,7 +270,7 @@ class AgeReader(Buffered):
 
     def _read1(self, size: int) -> bytes:
         self._see_read()
-        return self._chunk.read(size) if size != 0 and self._has_more() else b""
+        return self._held.text.read(size) if size != 0 and self._has_more() else b""
 
     def readinto(self, room: Any, /) -> int:
         view, mark = room_of(room), list[int]()
@@ -286,9 +305,9 @@ class AgeReader(Buffered):
 
     def _some_into(self, room: memoryview) -> int:
         """Reads into room for a byte at least: 0 at the end."""
-        if len(room) >= CHUNK and self._chunk.tell() == self._len and self._can_open_into():
+        if len(room) >= CHUNK and self._left() == 0 and self._can_open_into():
             return self._next_into(room)
-        return self._chunk.readinto(room) if self._has_more() else 0
+        return self._held.text.readinto(room) if self._has_more() else 0
 
     def _can_open_into(self) -> bool:
         """Whether the next chunk begins where the file stands, so that it needn't be held."""
@@ -310,35 +329,36 @@ class AgeReader(Buffered):
         self._see_read()
         if not self._has_more():
             return b""
-        at = self._chunk.tell()
-        got = self._chunk.read(size if size > 0 else 8_192)
-        self._chunk.seek(at)
+        text = self._held.text
+        at = text.tell()
+        got = text.read(size if size > 0 else 8_192)
+        text.seek(at)
         return got
 
     def readline(self, size: int | None = -1, /) -> bytes:
         if type(size) is not int:
             size = -1 if size is None else operator.index(size)
-        before, at = 0, -1
+        begin, at = 0, -1
         try:
             with self._lock:
-                chunk, before = self._chunk, self._before
-                at = chunk.tell()
-                line = chunk.readline(size)
+                begin, _, text = self._held
+                at = text.tell()
+                line = text.readline(size)
                 if line[-1:] == b"\n":  # (most lines end here)
                     return line
-                chunk.seek(at)
+                text.seek(at)
                 return self._calls.make(self._read_line, size)
         except Inside:
             raise
         except BaseException:
-            self._lose(before, at)
+            self._lose(begin, at)
             raise
 
     def _read_line(self, size: int) -> bytes:
         self._see_read()
         parts: list[bytes] = []
         while size != 0 and self._has_more():
-            parts.append(self._chunk.readline(size))
+            parts.append(self._held.text.readline(size))
             if parts[-1].endswith(b"\n"):
                 break
             size -= len(parts[-1]) if size > 0 else 0
@@ -363,21 +383,19 @@ class AgeReader(Buffered):
         if whence not in (io.SEEK_SET, io.SEEK_CUR, io.SEEK_END):
             raise ValueError(f"bad whence {whence!r}")
         offset = operator.index(offset)
-        before, chunk, at, lost = 0, self._chunk, -1, False
+        held, at, lost = self._held, -1, False
         try:
             with self._calls.lock:
-                before, chunk, lost = self._before, self._chunk, self._lost
-                at = chunk.tell()
+                held, lost = self._held, self._lost
+                at = held.text.tell()
                 return self._calls.make(self._seek, offset, whence)
         except Inside:
             raise
         except BaseException:
             if at >= 0 and not self.closed:
                 self._lost = lost
-                if chunk is self._chunk:
-                    chunk.seek(at)
-                else:
-                    self._stand(before + at)
+                self._held = held
+                held.text.seek(at)
             raise
 
     def _seek(self, offset: int, whence: int) -> int:
@@ -399,8 +417,9 @@ class AgeReader(Buffered):
         return self._next_at
 
     def _go(self, target: int) -> None:
-        if self._before <= target < self._before + self._len:
-            self._chunk.seek(target - self._before)
+        held = self._held
+        if held.begin <= target < held.begin + held.size:
+            held.text.seek(target - held.begin)
         else:
             self._find(target)
 
@@ -440,10 +459,11 @@ class AgeReader(Buffered):
             return
         wipe(self._state)
         self._room.wipe()
-        if not self._chunk.closed:  # (as it is where both are collected)
-            with self._chunk.getbuffer() as text:
-                text[:] = bytes(len(text))
-            self._chunk.close()
+        text = self._held.text
+        if not text.closed:  # (as it is where both are collected)
+            with text.getbuffer() as view:
+                view[:] = bytes(len(view))
+            text.close()
         self._rest = bytearray()
         try:
             if self._owned:

@@ -7,7 +7,7 @@ import hmac
 import os
 from collections.abc import Iterable
 
-from ._arguments import work_factor
+from ._arguments import Buffer, work_factor
 from ._keys import NINE, Pair, bech32_decoded, by_shared, lines_of, x25519_of
 from ._library import FRONT_MAX, C, ReaderState, fault_of
 from ._stanzas import base64_of
@@ -17,7 +17,7 @@ LENGTH = 62  # of a recipient
 STANZAS_MAX = FRONT_MAX - 16 - 70  # bytes of all stanzas: the rest of a header has 70, and the nonce 16
 
 
-def beginning_of(passphrase: str | bytes | None, recipient: str | Iterable[str] | None, work: int) -> Begun:
+def beginning_of(passphrase: str | Buffer | None, recipient: str | Iterable[str] | None, work: int) -> Begun:
     """A stream, and what stands before the payload, by the one key that is given."""
     if passphrase is not None and recipient is not None:
         raise TypeError("give one of passphrase and recipient")

@@ -4,11 +4,13 @@ from __future__ import annotations
 import builtins
 import io
 import os
-from typing import Any, Callable, Iterable, NamedTuple
+from typing import Any, Callable, Iterable, Literal, NamedTuple
 
+from ._arguments import Buffer
 from ._library import BLOCK, CHUNK, C, ReaderState, Room, fault_of, wipe
+from ._output import new_name, opened_alone, reach_disk
 from ._reader import header_of, opening_of
-from ._source import can_seek, filled, new_name, put, reach_disk
+from ._source import can_seek, filled, put
 
 LAST_SEEN = 2  # the reader's state after the last block, if that is whole
 TAG = 16
@@ -29,15 +31,16 @@ class Salvage(NamedTuple):
 class _Out:
     """What is written to, from the first text on: zeros for what was lost, until then and after it."""
 
-    def __init__(self, out: Any) -> None:
-        self._out, self._file, self._size = out, None if isinstance(out, (str, bytes, os.PathLike)) else out, 0
+    def __init__(self, out: Any, is_new: bool) -> None:
+        self._out, self._is_new, self._size = out, is_new, 0
+        self._file = None if isinstance(out, (str, bytes, os.PathLike)) else out
         self._owned = self._file is None
         self._made = new_name(out) if self._owned else None
 
     def put(self, at: int, text: bytes) -> None:
         """Writes a text at its place."""
         if self._file is None:
-            self._file = builtins.open(self._out, "wb")
+            self._file = opened_alone(self._out, self._is_new)
         self.zeros(at)
         self._write(text)
 
@@ -105,15 +108,18 @@ def _see_apart(file: Any, out: Any) -> None:
         raise ValueError("file and out are one file")
 
 
-def salvage(file: Any, out: Any, *, passphrase: str | bytes | None = None, file_key: bytes | None = None,
-            shared: tuple[bytes, bytes] | None = None, identity: str | Iterable[str] | None = None, max_work: int = 22,
-            progress: Callable[[int], None] | None = None) -> Salvage:
+def salvage(file: Any, out: Any, *, passphrase: str | Buffer | None = None, file_key: Buffer | None = None,
+            shared: tuple[Buffer, Buffer] | None = None, identity: str | Iterable[str] | None = None, max_work: int = 22,
+            progress: Callable[[int], None] | None = None, mode: Literal["wb", "xb"] = "wb") -> Salvage:
     """Writes each chunk of a damaged or cut age file that still opens, at its place, to a path or a binary file object, and zeros for
     each chunk that doesn't. What is written is authentic: no tag is forged, and no chunk stands in another one's place. The header has to
-    be whole. `out` isn't touched before a chunk opened. `progress` is told the number of chunks after each."""
+    be whole. `out` isn't touched before a chunk opened: a path is opened and locked then, in mode "xb" only if nothing is there by then.
+    `progress` is told the number of chunks after each."""
+    if mode not in ("wb", "xb"):
+        raise ValueError(f"mode is 'wb' or 'xb', not {mode!r}")
     opened = opening_of(passphrase, file_key, shared, identity, max_work)
     under = builtins.open(file, "rb", buffering=0) if isinstance(file, (str, bytes, os.PathLike)) else file
-    to, room, state = _Out(out), Room(), ReaderState()
+    to, room, state = _Out(out, mode == "xb"), Room(), ReaderState()
     try:
         _see_apart(under, out)
         blocks = _Blocks(under, header_of(under, opened, file_key is not None, state))

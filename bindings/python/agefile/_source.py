@@ -1,37 +1,9 @@
-"""Bytes of a file, and into one, that may not block: None isn't its end. And when they are on the disk."""
+"""Bytes of a file, and into one, that may not block: None isn't its end."""
 from __future__ import annotations
 
 import errno
-import os
 import select
-import stat
 from typing import Any
-
-
-def new_name(path: Any) -> Any:
-    """The path, if nothing is there yet, so that what is made there has a name that isn't on the disk."""
-    return None if os.path.exists(path) else path
-
-
-def reach_disk(file: Any, made: Any = None) -> None:
-    """Waits until what was written to a file has reached the disk, if it is a regular one, and so has its name, if it was made at this path."""
-    if stat.S_ISREG(os.fstat(file.fileno()).st_mode):
-        _sync(file.fileno())
-        if made is not None:
-            folder = os.open(os.path.dirname(os.path.realpath(made)), os.O_RDONLY | os.O_DIRECTORY)
-            try:
-                _sync(folder)
-            finally:
-                os.close(folder)
-
-
-def _sync(descriptor: int) -> None:
-    """Waits for a file or a folder, if its file system has a way to."""
-    try:
-        os.fsync(descriptor)
-    except OSError as fault:
-        if fault.errno not in (errno.EINVAL, errno.ENOTSUP):
-            raise
 
 
 def wait(file: Any, event: int = select.POLLIN) -> None:
@@ -45,9 +17,18 @@ def wait(file: Any, event: int = select.POLLIN) -> None:
     poll.poll()
 
 
+def read_by(call: Any, word: Any) -> Any:
+    """What a call of a source returns. One that was cut off itself, as a gzip file, raises EOFError, which a caller of ours would take for
+    the end of the text."""
+    try:
+        return call(word)
+    except EOFError as fault:
+        raise OSError(f"what the file is read from was cut off: {fault}") from fault
+
+
 def some(file: Any, most: int) -> Any:
     """At most this many bytes. b"" is the end, and nothing else is."""
-    while (piece := checked(file.read(most), most)) is None:
+    while (piece := checked(read_by(file.read, most), most)) is None:
         wait(file)
     return piece
 
@@ -73,7 +54,7 @@ def some_into(file: Any, room: memoryview) -> int:
         piece = some(file, len(room))
         room[:len(piece)] = piece
         return len(piece)
-    while (count := into(room)) is None:
+    while (count := read_by(into, room)) is None:
         wait(file)
     if not 0 <= count <= len(room):
         raise OSError(f"the file's readinto() returned {count}, and was given room for {len(room)}")

@@ -110,6 +110,8 @@ extern "C" {
     /// The name of what a call returned, a text that ends in a zero byte and stays.
     pub fn age_c_fault_name(answer: u32) -> *const core::ffi::c_char;
     pub fn age_c_version() -> u32;
+    /// 1 if this processor has what the library is compiled for.
+    pub fn age_c_runs_here() -> u32;
     pub fn age_c_header(
         front: *const u8,
         front_len: usize,

@@ -1,6 +1,6 @@
 //! What is wrong with a file.
 
-use age_c_sys::{age_c_fault_name, AgeCReader, AGE_C_MISUSED, AGE_C_MORE};
+use age_c_sys::{age_c_fault_name, age_c_runs_here, AgeCReader, AGE_C_MISUSED, AGE_C_MORE};
 use std::ffi::CStr;
 use std::fmt;
 use std::io::{self, ErrorKind};
@@ -10,9 +10,30 @@ pub(crate) fn refused(text: String) -> io::Error {
     io::Error::new(ErrorKind::InvalidInput, text)
 }
 
+/// Refuses a processor on which a call of the library might end the process.
+pub(crate) fn see_processor() -> io::Result<()> {
+    // SAFETY: any processor runs that call.
+    if unsafe { age_c_runs_here() } == 0 {
+        let text = "the library needs a processor with x86-64-v2 (SSE4.2 and POPCNT)";
+        return Err(io::Error::new(ErrorKind::Unsupported, text));
+    }
+    Ok(())
+}
+
+/// The error of a source as it is passed on: one that was cut off itself doesn't say so by the kind
+/// that `read_exact` gives to the end of a text.
+pub(crate) fn of_source(error: io::Error) -> io::Error {
+    match error.kind() {
+        ErrorKind::UnexpectedEof => io::Error::new(ErrorKind::InvalidData, error),
+        _ => error,
+    }
+}
+
 /// A fault, by its number in docs/FAULTS.md, and its chunk if it has one.
 ///
-/// An [`io::Error`] carries it: [`AgeError::of`] finds it there.
+/// An [`io::Error`] carries it: [`AgeError::of`] finds it there. The kind of that error is
+/// [`ErrorKind::InvalidData`], also of a file that is cut off: `UnexpectedEof` is what `read_exact`
+/// says at the end of a text that is whole. Only 28 is `OutOfMemory`, and 255 `InvalidInput`.
 #[derive(Clone, Copy, Debug, PartialEq, Eq)]
 pub struct AgeError {
     /// The number in docs/FAULTS.md. 254 says that the file ends in its header or in the 16 bytes
@@ -34,6 +55,14 @@ impl AgeError {
             chunk: None,
             argument: None,
             by_file_key,
+        }
+    }
+
+    /// The fault of a file that ends in this chunk, or before it.
+    pub(crate) fn truncated(chunk: u64) -> AgeError {
+        AgeError {
+            chunk: Some(chunk),
+            ..AgeError::of_header(20, false)
         }
     }
 
@@ -113,7 +142,6 @@ impl AgeError {
 
     fn kind(&self) -> ErrorKind {
         match self.number {
-            _ if self.is_truncated() => ErrorKind::UnexpectedEof,
             28 => ErrorKind::OutOfMemory,
             AGE_C_MISUSED => ErrorKind::InvalidInput,
             _ => ErrorKind::InvalidData,

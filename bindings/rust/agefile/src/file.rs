@@ -1,5 +1,6 @@
 //! A reader at any place.
 
+use crate::error::of_source;
 use crate::reader::open_header;
 use crate::state::State;
 use crate::{AgeError, Key};
@@ -48,7 +49,7 @@ pub(crate) fn fill<R: Read>(file: &mut R, room: &mut [u8], have: &mut usize) -> 
             Ok(0) => break,
             Ok(n) => *have += n,
             Err(error) if error.kind() == ErrorKind::Interrupted => {}
-            Err(error) => return Err(error),
+            Err(error) => return Err(of_source(error)),
         }
     }
     Ok(())
@@ -151,8 +152,7 @@ impl<R: Read + Seek> AgeFile<R> {
         }
         let len = open_block(&mut self.reader, &self.block[..have], &mut self.text)?;
         if chunk == self.last && have == AGE_C_BLOCK {
-            let mut spare = [0; AGE_C_CHUNK];
-            open_block(&mut self.reader, &[], &mut spare)?;
+            open_block(&mut self.reader, &[], &mut self.text)?; // (the text stays)
         }
         self.held = Some((chunk, len));
         Ok(len)

@@ -48,5 +48,8 @@ pub use workers::decrypt_to;
 pub use writer::AgeWriter;
 pub use x25519::{parse_recipient, Exchange, Identity, MAX_TRIES};
 
+/// The greatest number of threads that [`decrypt_to`] can be asked for.
+pub const MAX_WORKERS: usize = 64;
+
 /// The greatest work factor.
 pub const MAX_WORK: u32 = age_c_sys::AGE_C_WORK_MAX;

@@ -1,10 +1,11 @@
 //! A reader from the beginning to the end.
 
+use crate::error::{of_source, see_processor};
+use crate::file::{fill, open_block};
 use crate::state::State;
 use crate::{AgeError, Key};
 use age_c_sys::{
-    age_c_feed, age_c_finish, age_c_may_open, AgeCReader, AgeCStream, AGE_C_BLOCK, AGE_C_CHUNK,
-    AGE_C_FRONT_MAX, AGE_C_MORE,
+    age_c_may_open, AgeCReader, AGE_C_BLOCK, AGE_C_CHUNK, AGE_C_FRONT_MAX, AGE_C_MORE,
 };
 use std::fmt;
 use std::io::{self, BufRead, ErrorKind, Read};
@@ -48,12 +49,13 @@ pub(crate) fn read_front<R: Read>(
     front: &mut Vec<u8>,
     mut call: impl FnMut(&[u8]) -> u32,
 ) -> io::Result<u32> {
+    see_processor()?;
     let mut room = vec![0; AGE_C_CHUNK];
     loop {
         let most = room.len().min(AGE_C_FRONT_MAX - front.len());
         let n = match file.read(&mut room[..most]) {
             Err(error) if error.kind() == ErrorKind::Interrupted => continue,
-            read => read?,
+            read => read.map_err(of_source)?,
         };
         let seen = front.len();
         front.extend_from_slice(&room[..n]);
@@ -88,14 +90,9 @@ impl<'a, R: Read> Opening<'a, R> {
     /// was read is in the opening that comes back with the error: try that again.
     #[allow(clippy::result_large_err)]
     pub fn open(mut self) -> Result<AgeReader<R>, (io::Error, Opening<'a, R>)> {
-        let mut stream = State::<AgeCStream>::default();
-        match read_header(
-            &mut self.file,
-            self.key,
-            &mut stream.reader,
-            &mut self.front,
-        ) {
-            Ok(()) => Ok(AgeReader::after(self.file, stream, self.front)),
+        let mut reader = State::<AgeCReader>::default();
+        match read_header(&mut self.file, self.key, &mut reader, &mut self.front) {
+            Ok(()) => Ok(AgeReader::after(self.file, reader, &self.front)),
             Err(error) => Err((error, self)),
         }
     }
@@ -113,10 +110,9 @@ impl<R> fmt::Debug for Opening<'_, R> {
 /// The text of an age file, from its beginning to its end.
 pub struct AgeReader<R> {
     file: R,
-    stream: State<AgeCStream>,
-    piece: Vec<u8>, // what was read
-    from: usize,    // where in it begins what isn't given to the stream yet
-    to: usize,      // and where it ends
+    reader: State<AgeCReader>,
+    block: Vec<u8>,
+    have: usize, // how much of the block was read
     text: Vec<u8>,
     at: usize,
     len: usize,
@@ -131,16 +127,15 @@ impl<R: Read> AgeReader<R> {
         Opening::new(file, key).open().map_err(|(error, _)| error)
     }
 
-    /// A reader after the header: what was read of what follows it.
-    fn after(file: R, stream: State<AgeCStream>, mut piece: Vec<u8>) -> AgeReader<R> {
-        let to = piece.len();
-        piece.resize(to.max(AGE_C_BLOCK), 0);
+    /// A reader after the header, of which this was read of what follows: less than a block.
+    fn after(file: R, reader: State<AgeCReader>, rest: &[u8]) -> AgeReader<R> {
+        let mut block = vec![0; AGE_C_BLOCK];
+        block[..rest.len()].copy_from_slice(rest);
         AgeReader {
             file,
-            stream,
-            piece,
-            from: 0,
-            to,
+            reader,
+            block,
+            have: rest.len(),
             text: vec![0; AGE_C_CHUNK],
             at: 0,
             len: 0,
@@ -159,50 +154,26 @@ impl<R: Read> AgeReader<R> {
         self.file
     }
 
-    /// Reads a piece, up to the end of the block that is open. None is left at the end.
-    fn read_piece(&mut self) -> io::Result<()> {
-        let room = AGE_C_BLOCK - self.stream.held as usize;
-        loop {
-            match self.file.read(&mut self.piece[..room]) {
-                Err(error) if error.kind() == ErrorKind::Interrupted => {}
-                read => {
-                    (self.from, self.to) = (0, read?);
-                    return Ok(());
-                }
-            }
-        }
-    }
-
-    /// Gives the stream what was read, or the end, and takes its text.
+    /// Reads the next block, or what is left at the end, and takes its text. What was read of it
+    /// when the file fails is kept.
     fn next(&mut self) -> io::Result<()> {
         if let Some(fault) = self.fault {
             return Err(fault.into());
         }
-        if self.from == self.to {
-            self.read_piece()?;
-        }
-        let piece = &self.piece[self.from..self.to];
-        let (out, mut taken, mut written) = (&mut self.text, 0, 0);
-        let end = piece.is_empty();
-        // SAFETY: each slice is as long as it says, and none is null; nothing overlaps.
-        let answer = unsafe {
-            let (stream, out, room) = (&mut *self.stream, out.as_mut_ptr(), out.len());
-            if end {
-                age_c_finish(stream, out, room, &mut written)
-            } else {
-                let (place, len) = (piece.as_ptr(), piece.len());
-                age_c_feed(stream, place, len, &mut taken, out, room, &mut written)
+        fill(&mut self.file, &mut self.block, &mut self.have)?;
+        (self.at, self.len) = (0, 0);
+        let block = &self.block[..self.have];
+        match open_block(&mut self.reader, block, &mut self.text) {
+            Ok(len) => {
+                (self.ended, self.len) = (self.have < AGE_C_BLOCK, len);
+                self.have = 0;
+                Ok(())
             }
-        };
-        self.from += taken;
-        (self.at, self.len) = (0, written);
-        if answer != 0 {
-            let fault = AgeError::of_block(answer, &self.stream.reader);
-            self.fault = Some(fault);
-            return Err(fault.into());
+            Err(fault) => {
+                self.fault = Some(fault);
+                Err(fault.into())
+            }
         }
-        self.ended = end;
-        Ok(())
     }
 }
 
@@ -210,7 +181,7 @@ impl<R> fmt::Debug for AgeReader<R> {
     /// Shows no key, and no text.
     fn fmt(&self, f: &mut fmt::Formatter<'_>) -> fmt::Result {
         f.debug_struct("AgeReader")
-            .field("chunk", &self.stream.reader.chunk)
+            .field("chunk", &self.reader.chunk)
             .field("fault", &self.fault)
             .field("ended", &self.ended)
             .finish_non_exhaustive()

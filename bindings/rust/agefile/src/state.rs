@@ -16,7 +16,6 @@ pub(crate) unsafe trait Plain {}
 
 // SAFETY: these have only numbers in them.
 unsafe impl Plain for age_c_sys::AgeCReader {}
-unsafe impl Plain for age_c_sys::AgeCStream {}
 unsafe impl Plain for age_c_sys::AgeCWriteStream {}
 unsafe impl<const N: usize> Plain for [u8; N] {}
 
@@ -65,18 +64,18 @@ impl<T: Plain> Drop for State<T> {
 #[cfg(test)]
 mod tests {
     use super::wipe;
-    use age_c_sys::{AgeCStream, AGE_C_BLOCK};
+    use age_c_sys::{AgeCWriteStream, AGE_C_CHUNK};
 
     #[test]
     fn nothing_is_left_of_a_key() {
-        let mut stream = Box::<AgeCStream>::default();
-        stream.reader.file_key = [7; 16];
-        stream.reader.state = 1;
+        let mut stream = Box::<AgeCWriteStream>::default();
+        stream.writer.file_key = [7; 16];
+        stream.writer.state = 1;
         stream.held = 9;
-        stream.block = [7; AGE_C_BLOCK];
+        stream.chunk = [7; AGE_C_CHUNK];
         wipe(&mut *stream);
-        assert_eq!(stream.reader.file_key, [0; 16]);
-        assert_eq!((stream.reader.state, stream.held), (0, 0));
-        assert!(stream.block.iter().all(|&it| it == 0));
+        assert_eq!(stream.writer.file_key, [0; 16]);
+        assert_eq!((stream.writer.state, stream.held), (0, 0));
+        assert!(stream.chunk.iter().all(|&it| it == 0));
     }
 }

@@ -2,15 +2,15 @@
 
 use crate::error::refused;
 use crate::file::CHUNK;
-use crate::{AgeFile, Key};
-use std::io::{self, BufRead, ErrorKind, Read, Seek, SeekFrom};
+use crate::{AgeError, AgeFile, Key, MAX_WORKERS};
+use std::io::{self, BufRead, Read, Seek, SeekFrom};
 use std::ops::Range;
 use std::panic::resume_unwind;
 use std::sync::atomic::{AtomicU64, Ordering};
 use std::thread;
 
-/// Decrypts a file by so many threads, each a part of it, and returns the length of the text. Each
-/// reads a file of its own, which `source` opens, and gives `out` pieces of the text and their
+/// Decrypts a file by 1 to [`MAX_WORKERS`] threads, each a part of it, and returns the length of the
+/// text. Each reads a file of its own, which `source` opens, and gives `out` pieces of the text and their
 /// places.
 ///
 /// Only if this returns `Ok` has `out` all of the text: the last chunk, which proves the length, is
@@ -37,8 +37,8 @@ pub fn decrypt_to<R: Read + Seek>(
     key: Key,
     workers: usize,
 ) -> io::Result<u64> {
-    if workers == 0 {
-        return Err(refused("workers must be 1 or more".into()));
+    if !(1..=MAX_WORKERS).contains(&workers) {
+        return Err(refused(format!("workers must be 1 to {MAX_WORKERS}")));
     }
     let first = AgeFile::open(source()?, key)?;
     let (len, key) = (first.len(), first.file_key());
@@ -80,7 +80,7 @@ fn copy_part<R: Read + Seek>(
     while at < part.end && !stops() {
         let text = file.fill_buf()?;
         if text.is_empty() {
-            return Err(ErrorKind::UnexpectedEof.into());
+            return Err(AgeError::truncated(at / CHUNK).into());
         }
         let n = (part.end - at).min(text.len() as u64);
         out(&text[..n as usize], at)?;

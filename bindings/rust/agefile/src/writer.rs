@@ -1,5 +1,6 @@
 //! A writer.
 
+use crate::error::see_processor;
 use crate::key::{wrong_passphrase, WORK};
 use crate::state::State;
 use crate::AgeError;
@@ -120,6 +121,7 @@ impl<W: Write> AgeWriter<W> {
         wrong: Option<&'static str>,
         call: impl FnOnce(&mut [u8], &mut usize, &mut AgeCWriter) -> u32,
     ) -> io::Result<AgeWriter<W>> {
+        see_processor()?;
         let mut stream = State::<AgeCWriteStream>::default();
         let mut written = 0;
         let answer = call(front, &mut written, &mut stream.writer);

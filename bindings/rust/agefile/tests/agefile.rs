@@ -207,7 +207,7 @@ fn says_what_is_wrong() {
             recipient: &[0; 32],
         },
     );
-    let eof = ErrorKind::UnexpectedEof;
+    let invalid = ErrorKind::InvalidData;
     for (what, data, key, kind, number) in [
         (
             "another passphrase",
@@ -224,14 +224,14 @@ fn says_what_is_wrong() {
             ErrorKind::InvalidData,
             12,
         ),
-        ("a cut header", &data[..50], PW, eof, 254),
-        ("no payload", &data[..begin], PW, eof, 20),
-        ("a missing chunk", &data[..begin + BLOCK], PW, eof, 20),
+        ("a cut header", &data[..50], PW, invalid, 254),
+        ("no payload", &data[..begin], PW, invalid, 20),
+        ("a missing chunk", &data[..begin + BLOCK], PW, invalid, 20),
         (
             "the first bytes of a chunk",
             &data[..begin + BLOCK + 9],
             PW,
-            eof,
+            invalid,
             18,
         ),
         ("a changed byte", &changed, PW, ErrorKind::InvalidData, 17),
@@ -242,7 +242,11 @@ fn says_what_is_wrong() {
         let fault = AgeError::of(&error).unwrap();
         assert_eq!((error.kind(), fault.number), (kind, number), "{what}");
         assert_eq!(fault.is_wrong_key(), matches!(number, 12..=14), "{what}");
-        assert_eq!(fault.is_truncated(), kind == eof, "{what}");
+        assert_eq!(
+            fault.is_truncated(),
+            matches!(number, 18 | 20 | 254),
+            "{what}"
+        );
         assert_eq!(fault.is_damaged(), number == 17, "{what}");
         // (a file that lacks its last chunk has the length of a whole one: then the chunk before
         // it is refused)

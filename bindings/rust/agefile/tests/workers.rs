@@ -1,6 +1,6 @@
 //! One file that several threads decrypt.
 
-use agefile::{decrypt_to, encrypt, AgeError, Key};
+use agefile::{decrypt_to, encrypt, AgeError, Key, MAX_WORKERS};
 use std::io::{self, Cursor, ErrorKind};
 use std::sync::atomic::{AtomicUsize, Ordering};
 use std::sync::Mutex;
@@ -39,7 +39,7 @@ fn gives_the_text() {
     for len in [0, 1, 65_535, 65_536, 65_537, 131_072, 200_000, LENGTH] {
         let text = text_of(len);
         let data = encrypt(&text, b"pw", 1).unwrap();
-        for workers in [1, 2, 3, 7, 64, usize::MAX] {
+        for workers in [1, 2, 3, 7, MAX_WORKERS] {
             let out = Memory::new(len);
             let source = || Ok(Cursor::new(&data));
             let size = decrypt_to(|text, at| out.put(text, at), source, key(), workers).unwrap();
@@ -146,4 +146,15 @@ fn stops_after_a_fault() {
     let error = decrypt_to(out, || Ok(Cursor::new(&data)), key(), 2).unwrap_err();
     assert_eq!(error.kind(), ErrorKind::WriteZero);
     assert!(written.into_inner() < MANY / 4);
+}
+
+#[test]
+fn refuses_other_numbers_of_workers() {
+    let data = encrypt(b"text", b"pw", 1).unwrap();
+    for workers in [0, MAX_WORKERS + 1, 1 << 50, usize::MAX] {
+        let error =
+            decrypt_to(|_, _| Ok(()), || Ok(Cursor::new(&data)), key(), workers).unwrap_err();
+        assert_eq!(error.kind(), ErrorKind::InvalidInput);
+        assert_eq!(error.to_string(), "workers must be 1 to 64");
+    }
 }

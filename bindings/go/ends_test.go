@@ -1,0 +1,149 @@
+package agefile
+
+import (
+	"bytes"
+	"errors"
+	"io"
+	"math"
+	"runtime"
+	"testing"
+)
+
+// records reads blocks, the last of which may be short, by the loop that is usual in Go, and says how
+// many bytes they had.
+func records(text io.Reader) (int, error) {
+	all, block := 0, make([]byte, 1_000)
+	for {
+		n, err := io.ReadFull(text, block)
+		all += n
+		if errors.Is(err, io.EOF) || errors.Is(err, io.ErrUnexpectedEOF) {
+			return all, nil
+		}
+		if err != nil {
+			return all, err
+		}
+	}
+}
+
+// A file that is cut anywhere never looks as if its records ended there: neither one that is read
+// from its beginning, nor one that became shorter after it was opened at any place.
+func TestCutsAreNoEnds(t *testing.T) {
+	text := textOf(200_000)
+	data := sealed(t, text)
+	if n, err := records(open(t, bytes.NewReader(data))); n != len(text) || err != nil {
+		t.Error(n, err)
+	}
+	begin, truncated := len(data)-len(text)-4*16, 0
+	for cut := begin; cut < len(data); cut++ {
+		if at := (cut - begin) % 65_552; at > 40 && at < 65_500 && at%997 != 0 {
+			continue
+		}
+		_, err := records(open(t, bytes.NewReader(data[:cut])))
+		if err == nil || errors.Is(err, io.ErrUnexpectedEOF) {
+			t.Error("cut at", cut, err)
+		}
+		if errors.Is(err, ErrTruncated) {
+			truncated++
+		}
+		under := &shrinking{data}
+		file, err := OpenAt(under, int64(len(data)), pw())
+		if err != nil {
+			t.Fatal(err)
+		}
+		under.data = data[:cut]
+		if _, err := records(file); err == nil || errors.Is(err, io.ErrUnexpectedEOF) {
+			t.Error("became shorter,", cut, err)
+		}
+	}
+	if truncated != 4*16 { // before each chunk, and in its first 15 bytes
+		t.Error(truncated)
+	}
+	for cut := 0; cut < begin; cut++ {
+		if _, err := Open(bytes.NewReader(data[:cut]), pw()); !errors.Is(err, ErrTruncated) || errors.Is(err, io.ErrUnexpectedEOF) {
+			t.Error("a header that is cut at", cut, err)
+		}
+	}
+}
+
+func open(t *testing.T, file io.Reader) *Reader {
+	reader, err := Open(file, pw())
+	if err != nil {
+		t.Fatal(err)
+	}
+	return reader
+}
+
+// cutBody is what a response is whose body was cut off.
+type cutBody struct{ data *bytes.Reader }
+
+func (c cutBody) Read(room []byte) (int, error) {
+	n, err := c.data.Read(room)
+	if err == io.EOF {
+		err = io.ErrUnexpectedEOF
+	}
+	return n, err
+}
+
+func (c cutBody) ReadAt(room []byte, at int64) (int, error) {
+	n, err := c.data.ReadAt(room, at)
+	if err == io.EOF {
+		err = io.ErrUnexpectedEOF
+	}
+	return n, err
+}
+
+// Nor does one whose source says of itself that it was cut.
+func TestSourcesThatAreCut(t *testing.T) {
+	data := sealed(t, textOf(200_000))
+	for _, cut := range []int{60, len(data) - 70_000, len(data) - 1} {
+		var fault *Fault
+		reader, err := Open(cutBody{bytes.NewReader(data[:cut])}, pw())
+		if err == nil {
+			_, err = records(reader)
+		}
+		if !errors.Is(err, ErrTruncated) || errors.Is(err, io.ErrUnexpectedEOF) || errors.As(err, &fault) {
+			t.Error(cut, err)
+		}
+		_, err = OpenAt(cutBody{bytes.NewReader(data[:cut])}, int64(len(data)), pw())
+		if !errors.Is(err, ErrTruncated) || errors.Is(err, io.ErrUnexpectedEOF) {
+			t.Error("at any place,", cut, err)
+		}
+	}
+	var out bytes.Buffer
+	found, err := Salvage(&out, cutBody{bytes.NewReader(data[:len(data)-70_000])}, pw())
+	if err != nil || found.Whole() || out.Len() < 65_536 {
+		t.Error(found, err)
+	}
+}
+
+// How many goroutines may be asked for.
+func TestNumbersOfWorkers(t *testing.T) {
+	data := sealed(t, textOf(200_000))
+	for _, n := range []int{math.MinInt, -1, 0, MaxWorkers + 1, 1 << 50, math.MaxInt} {
+		if _, err := DecryptTo(make(memory, 200_000), bytes.NewReader(data), int64(len(data)), pw(), n); err == nil {
+			t.Error(n, "workers")
+		}
+	}
+}
+
+// What an open reader holds: a block and the text of one, and little more.
+func TestMemoryOfReaders(t *testing.T) {
+	data, readers := sealed(t, textOf(200_000)), make([]*Reader, 50)
+	held := func() uint64 {
+		var stats runtime.MemStats
+		runtime.GC()
+		runtime.ReadMemStats(&stats)
+		return stats.HeapAlloc
+	}
+	before := held()
+	for i := range readers {
+		readers[i] = open(t, bytes.NewReader(data))
+		if _, err := readers[i].Read(make([]byte, 100)); err != nil {
+			t.Fatal(err)
+		}
+	}
+	if each := (held() - before) / uint64(len(readers)); each > 145<<10 {
+		t.Error("a reader holds", each, "bytes")
+	}
+	runtime.KeepAlive(readers)
+}

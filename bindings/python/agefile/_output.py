@@ -1,0 +1,147 @@
+"""Files that a run writes: it alone, and until they have reached the disk."""
+from __future__ import annotations
+
+import builtins
+import contextlib
+import errno
+import fcntl
+import os
+import stat
+from typing import Any, Iterator
+
+
+# What a file system answers that has no locks. One whose locks fail, as a network's whose server is away, answers something else.
+_NO_LOCKS = (errno.EINVAL, errno.ENOSYS, errno.EOPNOTSUPP, errno.ENOLCK)
+# As the folder of an absolute path: with one, os.link follows a link, such as that of a file without a name.
+_NO_FOLDER = 0
+
+
+def new_name(path: Any) -> Any:
+    """The path, if nothing is there yet, so that what is made there has a name that isn't on the disk."""
+    return None if os.path.exists(path) else path
+
+
+def lock(descriptor: int, path: Any) -> None:
+    """Takes the lock of the file at a path, as `age_tool` does: the second of two runs that write to it is refused. A file system without
+    locks lets both in."""
+    try:
+        fcntl.flock(descriptor, fcntl.LOCK_EX | fcntl.LOCK_NB)
+    except BlockingIOError:
+        raise OSError(errno.EBUSY, "another program holds its lock", path) from None
+    except OSError as fault:
+        if fault.errno not in _NO_LOCKS:
+            raise OSError(fault.errno, fault.strerror, path) from None
+    # (who held it may have put another file there, or removed it, before it let go)
+    if not os.path.samestat(os.fstat(descriptor), os.stat(path)):
+        raise OSError(errno.EBUSY, "another program replaced it meanwhile", path)
+
+
+def opened_alone(path: Any, is_new: bool) -> Any:
+    """The file at a path, which this run alone writes, from its beginning; with `is_new`, only if there was none. What a regular file holds
+    stays until it is locked."""
+    how = os.O_WRONLY | os.O_CREAT | (os.O_EXCL if is_new else 0)
+    file = builtins.open(path, "wb", opener=lambda name, _: os.open(name, how | os.O_CLOEXEC, 0o666))
+    try:
+        if stat.S_ISREG(os.fstat(file.fileno()).st_mode):
+            lock(file.fileno(), path)
+            file.truncate(0)
+        return file
+    except BaseException:
+        file.close()
+        raise
+
+
+def reach_disk(file: Any, made: Any = None) -> None:
+    """Waits until what was written to a file has reached the disk, if it is a regular one, and so has its name, if it was made at this path."""
+    if stat.S_ISREG(os.fstat(file.fileno()).st_mode):
+        _sync(file.fileno())
+        if made is not None:
+            folder = os.open(os.path.dirname(os.path.realpath(made)), os.O_RDONLY | os.O_DIRECTORY)
+            try:
+                _sync(folder)
+            finally:
+                os.close(folder)
+
+
+def _sync(descriptor: int) -> None:
+    """Waits for a file or a folder, if its file system has a way to."""
+    try:
+        os.fsync(descriptor)
+    except OSError as fault:
+        if fault.errno not in (errno.EINVAL, errno.ENOTSUP):
+            raise
+
+
+@contextlib.contextmanager
+def replacing(out: str, is_new: bool) -> Iterator[Any]:
+    """A file that gets this name once all of it is written, and on the disk: until then what is there stays. With `is_new` it has to be a
+    name that nothing has. A run that is killed leaves no file, if the file system has files without a name; else it leaves
+    OUT.agefile-part, which the next run writes anew."""
+    with contextlib.ExitStack() as held:
+        mode = _locked(out, held)
+        nameless = _without_name(os.path.dirname(out))
+        # (one without a name gets this one for a moment: only a file with a name can replace another)
+        part = f"{out}.agefile-part" if nameless is None else f"{out}.{os.getpid()}.agefile-part"
+        file = held.enter_context(builtins.open(_left_by_a_run(part) if nameless is None else nameless, "wb", buffering=0))
+        try:
+            yield file
+            if mode is not None:
+                os.fchmod(file.fileno(), mode)
+            reach_disk(file)
+            if nameless is not None:
+                _name(f"/proc/self/fd/{nameless}", out if is_new else part)
+            elif is_new:
+                _name(part, out)
+                os.unlink(part)
+            if not is_new:
+                os.replace(part, out)
+        except BaseException:
+            with contextlib.suppress(FileNotFoundError):
+                os.unlink(part)
+            raise
+        reach_disk(file, out)
+
+
+def _locked(path: str, held: contextlib.ExitStack) -> int | None:
+    """Locks the file at a path until the end, if there is one: its mode."""
+    try:
+        old = os.open(path, os.O_RDONLY | os.O_NONBLOCK | os.O_CLOEXEC)
+    except FileNotFoundError:
+        return None
+    except PermissionError:  # (it can be replaced all the same)
+        return stat.S_IMODE(os.stat(path).st_mode)
+    held.callback(os.close, old)
+    lock(old, path)
+    return stat.S_IMODE(os.fstat(old).st_mode)
+
+
+def _without_name(folder: str) -> int | None:
+    """A new file in a folder, without a name, if the file system can do that, and there is a way to name it later."""
+    try:
+        os.stat("/proc/self/fd")
+        return os.open(folder, os.O_WRONLY | os.O_TMPFILE | os.O_CLOEXEC, 0o666)
+    except OSError:
+        return None
+
+
+def _name(file: str, path: str) -> None:
+    """Gives a file a name, if nothing has it by now."""
+    try:
+        os.link(file, path, src_dir_fd=_NO_FOLDER)
+    except FileExistsError as fault:
+        raise FileExistsError(fault.errno, fault.strerror, path) from None
+
+
+def _left_by_a_run(part: str) -> int:
+    """The file of that name, which a run that was killed may have left: this user's, that no run is writing, and empty now."""
+    descriptor = os.open(part, os.O_WRONLY | os.O_CREAT | os.O_NOFOLLOW | os.O_NONBLOCK | os.O_CLOEXEC, 0o666)
+    try:
+        found = os.fstat(descriptor)
+        if not stat.S_ISREG(found.st_mode) or found.st_uid != os.geteuid() or found.st_nlink != 1:
+            raise FileExistsError(errno.EEXIST, "it isn't a file that an earlier run left", part)
+        lock(descriptor, part)
+        os.ftruncate(descriptor, 0)
+        return descriptor
+    except BaseException:
+        os.close(descriptor)
+        raise

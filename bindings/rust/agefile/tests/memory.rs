@@ -1,0 +1,37 @@
+//! What an open reader holds.
+
+use agefile::{encrypt, AgeReader, Key};
+use std::alloc::{GlobalAlloc, Layout, System};
+use std::io::Read;
+use std::sync::atomic::{AtomicUsize, Ordering};
+
+static HELD: AtomicUsize = AtomicUsize::new(0);
+
+struct Counting;
+
+// SAFETY: it is the system's, whose calls are counted.
+unsafe impl GlobalAlloc for Counting {
+    unsafe fn alloc(&self, layout: Layout) -> *mut u8 {
+        HELD.fetch_add(layout.size(), Ordering::Relaxed);
+        System.alloc(layout)
+    }
+
+    unsafe fn dealloc(&self, at: *mut u8, layout: Layout) {
+        HELD.fetch_sub(layout.size(), Ordering::Relaxed);
+        System.dealloc(at, layout)
+    }
+}
+
+#[global_allocator]
+static ALLOCATOR: Counting = Counting;
+
+/// A block and the text of one, and little more.
+#[test]
+fn of_a_reader() {
+    let data = encrypt(&[7; 200_000], b"pw", 1).unwrap();
+    let before = HELD.load(Ordering::Relaxed);
+    let mut reader = AgeReader::open(&data[..], Key::passphrase(b"pw")).unwrap();
+    reader.read_exact(&mut [0; 100]).unwrap();
+    let held = HELD.load(Ordering::Relaxed) - before;
+    assert!((131_000..133_000).contains(&held), "{held}");
+}

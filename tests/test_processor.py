@@ -1,0 +1,93 @@
+"""Tries the libraries on processors that qemu emulates: where x86-64-v2 is missing each language says so, and none ends by SIGILL; where there
+is that and nothing more, they decrypt."""
+import os
+import platform
+import shutil
+import subprocess
+import sys
+import unittest
+
+from tests import bindings
+from tests.bindings import PYTHON, BindingsCase, plain_of
+from tests.case import needs
+from tools.workspace import LIBRARY, TOP
+
+QEMU = next(filter(shutil.which, ("qemu-x86_64", "qemu-x86_64-static")), "qemu-x86_64")
+# Those that lack all of it, or a part; and one that has it and no AVX.
+OLD, NEW = ("kvm64", "core2duo", "Penryn"), "Nehalem"
+NEEDED = b"a processor with x86-64-v2"
+BY_PYTHON = "import sys, agefile, shutil\nshutil.copyfileobj(agefile.open(sys.stdin.buffer, passphrase='pw'), sys.stdout.buffer)\n"
+# What Go says of a file that is to be written, and of a header.
+GO_TEST = """package agefile
+
+import (
+	"bytes"
+	"io"
+	"testing"
+)
+
+func TestOldProcessor(t *testing.T) {
+	if _, err := Create(io.Discard, []byte("pw"), 1); err != errProcessor {
+		t.Error(err)
+	}
+	if _, _, err := ReadHeader(bytes.NewReader(nil)); err != errProcessor {
+		t.Error(err)
+	}
+}
+"""
+
+
+def setUpModule():
+    bindings.module()
+
+
+@unittest.skipUnless(platform.machine() == "x86_64", "needs x86-64")
+@needs(QEMU)
+class ProcessorTest(BindingsCase):
+    def setUp(self):
+        super().setUp()
+        self.text = plain_of(70_000)
+        self.data = self.sealed(self.text)
+
+    def on(self, processor, words, **more):
+        return subprocess.run([QEMU, "-cpu", processor, *words], cwd=self.room, input=self.data, capture_output=True, **more)
+
+    def see_refused(self, what, words, status, **more):
+        for processor in OLD:
+            run = self.on(processor, words, **more)
+            self.see(f"{what} on {processor}", (run.returncode, run.stdout) == (status, b"") and NEEDED in run.stderr, run.returncode, run.stderr[-500:])
+        run = self.on(NEW, words, **more)
+        self.see(f"{what} on {NEW}", run.returncode == 0 and run.stdout == self.text, run.returncode, run.stderr[-500:])
+
+    @needs("cc")
+    def test_c(self):
+        for name, library in (("static", [LIBRARY / "libage_c.a"]), ("shared", [LIBRARY / "libage_c.so", f"-Wl,-rpath,{LIBRARY}"])):
+            made = self.path(name)
+            words = ["cc", "-std=c11", "-O1", f"-I{TOP / 'include'}", "-o", made, TOP / "bindings" / "c" / "decrypt.c", *library]
+            subprocess.run(words, check=True)
+            self.see_refused(f"C, {name}", [made, "pw"], 2)
+
+    def test_python(self):
+        env = {**os.environ, "PYTHONPATH": str(PYTHON), "PYTHONDONTWRITEBYTECODE": "1"}
+        self.see_refused("Python", [sys.executable, "-c", BY_PYTHON], 1, env=env)
+
+    @needs("cargo")
+    def test_rust(self):
+        to = LIBRARY / "target"
+        words = ["cargo", "build", "--release", "--examples", "--offline", "--quiet", "--target-dir", to]
+        subprocess.run(words, cwd=TOP / "bindings" / "rust", env={**os.environ, "AGE_C_DIR": str(LIBRARY)}, check=True, capture_output=True)
+        self.see_refused("Rust", [to / "release" / "examples" / "decrypt", "pw"], 1)
+
+    @needs("go")
+    def test_go(self):
+        module = self.path("go")
+        shutil.copytree(TOP / "bindings" / "go", module)
+        for it in (TOP / "include" / "age_c.h", LIBRARY / "libage_c.a"):
+            shutil.copy(it, module)
+        env = {**os.environ, "GOCACHE": str(LIBRARY / "gocache"), "GOPROXY": "off", "GOFLAGS": "-buildvcs=false"}
+        (module / "processor_test.go").write_text(GO_TEST)
+        for words in (["build", "-o", self.path("decrypt-go"), "./decrypt"], ["test", "-c", "-o", self.path("tests-go"), "."]):
+            subprocess.run(["go", *words], cwd=module, env=env, check=True, capture_output=True)
+        self.see_refused("Go", [self.path("decrypt-go"), "pw"], 1)
+        run = self.on(OLD[0], [self.path("tests-go"), "-test.run", "TestOldProcessor"])
+        self.see("Go, what writes and what reads a header", run.returncode == 0, run.stdout)

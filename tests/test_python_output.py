@@ -1,0 +1,258 @@
+"""Tries what `python3 -m agefile` does to OUT: two runs on one file, also beside one of age_tool; a name that is taken while a run goes on; and
+what is left of runs by several threads that are stopped, on a file system that has files without a name, and on one that hasn't."""
+import errno
+import io
+import os
+import signal
+import stat
+import subprocess
+import sys
+import time
+import unittest.mock
+
+from tests import bindings
+from tests.bindings import BLOCK, KEY, PYTHON, BindingsCase, flipped, plain_of, raised
+
+LENGTH = 300_000
+WORKERS = ["decrypt", "--pass", "pw", "--workers", "2"]
+TAKEN = b"agefile: out: another program holds its lock\n"
+# A run by several threads that writes a piece, makes the file `begun`, and waits for the file `on`.
+HELD = """
+import os, time, agefile._workers as workers
+put = workers.put_at
+def held(*words):
+    put(*words)
+    open("begun", "w").close()
+    while not os.path.exists("on"):
+        time.sleep(0.02)
+workers.put_at = held
+"""
+# A file system that has no files without a name.
+NAMED = """
+import errno, os
+really = os.open
+def named(path, how, *words, **more):
+    if how & os.O_TMPFILE == os.O_TMPFILE:
+        raise OSError(errno.EOPNOTSUPP, os.strerror(errno.EOPNOTSUPP), path)
+    return really(path, how, *words, **more)
+os.open = named
+"""
+RUNS = "import runpy\nrunpy.run_module('agefile', run_name='__main__')\n"
+
+
+def setUpModule():
+    global agefile
+    agefile = bindings.module()
+    import agefile._output
+
+
+class OutputTest(BindingsCase):
+    def setUp(self):
+        super().setUp()
+        self.text = plain_of(LENGTH)
+        self.data = self.sealed(self.text)
+        self.write("in.age", self.data)
+        self.env = {**os.environ, "PYTHONPATH": str(PYTHON), "PYTHONDONTWRITEBYTECODE": "1"}
+
+    def begin(self, *words):
+        """Begins a run, whose standard input is a pipe."""
+        run = subprocess.Popen(words, cwd=self.room, env=self.env, stdin=subprocess.PIPE, stdout=subprocess.PIPE, stderr=subprocess.PIPE)
+        self.addCleanup(lambda: [it.close() for it in (run.stdin, run.stdout, run.stderr)])
+        self.addCleanup(run.wait)
+        self.addCleanup(run.kill)
+        return run
+
+    def wait_until(self, what):
+        limit = time.monotonic() + 30
+        while not what() and time.monotonic() < limit:
+            time.sleep(0.01)
+        self.assertTrue(what())
+
+    def is_locked(self):
+        """Whether a run holds the lock of OUT. (To try it would take it.)"""
+        with open("/proc/locks") as file:
+            return self.is_there("out") and f":{self.path('out').stat().st_ino} " in file.read()
+
+    def command(self, *words, program=RUNS, **more):
+        return subprocess.run([sys.executable, "-c", program, *words], cwd=self.room, env=self.env, capture_output=True, **more)
+
+    def names(self):
+        return sorted(it.name for it in self.room.iterdir())
+
+    def test_two_runs(self):
+        """The second of two runs that write one file is refused, and changes nothing; the first one's file is right. One of age_tool, too."""
+        python = [sys.executable, "-m", "agefile"]
+        seals, opens = ["encrypt", "--pass", "pw", "--log", "1"], ["decrypt", "--pass", "pw"]
+        # How a run is begun, what it reads, what it writes.
+        firsts = {
+            "encrypt": ([*python, *seals, "-", "out"], self.text, None), "decrypt": ([*python, *opens, "-", "out"], self.data, self.text),
+            "salvage": ([*python, "salvage", "--pass", "pw", "-", "out"], self.data, self.text),
+            "age_tool encrypt": ([self.program, *seals, "--no-sync", "/dev/stdin", "out"], self.text, None),
+        }
+        seconds = {
+            "encrypt": [*python, *seals, "in", "out"], "decrypt": [*python, *opens, "in.age", "out"],
+            "salvage": [*python, "salvage", "--pass", "pw", "in.age", "out"],
+            "decrypt --workers": [*python, *opens, "--workers", "2", "in.age", "out"],
+        }
+        for was_there in (False, True):
+            for what, (words, given, want) in firsts.items():
+                self.remove("out")
+                if was_there:
+                    self.write("out", b"as it was")
+                first = self.begin(*words)
+                first.stdin.write(given[:200_000])
+                first.stdin.flush()
+                self.wait_until(self.is_locked)
+                for name, others in seconds.items():
+                    held, inode = self.read("out"), self.path("out").stat().st_ino
+                    run = subprocess.run(others, cwd=self.room, env=self.env, capture_output=True)
+                    same = self.path("out").stat().st_ino == inode and self.read("out").startswith(held)
+                    self.see(f"{what}, and {name} beside it", (run.returncode, run.stderr, same) == (1, TAKEN, True), run)
+                run = self.tool(*seals, "in", "out")
+                self.see(f"{what}, and age_tool beside it", run.returncode == 1 and run.stderr.startswith(b"age_tool: 27 Write\n"), run.stderr)
+                said = first.communicate(given[200_000:])
+                out = self.judged(self.read("out"))[1] if want is None else self.read("out")
+                self.see(f"{what}, beside which others were refused", first.returncode == 0 and out == self.text, said)
+
+    def test_locks_that_fail(self):
+        """A file system without locks lets a run write; one whose locks fail doesn't, and the file keeps what it held."""
+        for error, is_taken in ((errno.ENOLCK, True), (errno.ENOSYS, True), (errno.EOPNOTSUPP, True), (errno.EINVAL, True), (errno.EIO, False), (errno.EINTR, False)):
+            self.write("held", b"held")
+            with self.subTest(errno.errorcode[error]), unittest.mock.patch("fcntl.flock", side_effect=OSError(error, "no lock")):
+                if is_taken:
+                    agefile._output.opened_alone(self.path("held"), False).close()
+                else:
+                    with self.assertRaises(OSError) as fault:
+                        agefile._output.opened_alone(self.path("held"), False)
+                    self.assertEqual(fault.exception.errno, error)
+                self.assertEqual(self.read("held"), b"" if is_taken else b"held")
+
+    def test_replaced_meanwhile(self):
+        """Who held the lock may have put another file in the place of the one that was opened."""
+        self.write("out", b"text")
+        self.write("other", b"other")
+        file = os.open(self.path("out"), os.O_WRONLY)
+        self.path("other").rename(self.path("out"))
+        self.see("a file that was replaced", raised(OSError, agefile._output.lock, file, self.path("out")))
+        self.remove("out")
+        self.see("a file that was removed", raised(OSError, agefile._output.lock, file, self.path("out")))
+        os.close(file)
+
+    def test_taken_meanwhile(self):
+        """With --no-clobber a name that is taken while the run goes on is refused: a file, and a link to one."""
+        begin = len(self.data) - LENGTH - 5 * 16
+        for kind, take in (("a file", lambda: self.write("out", b"kept")), ("a link", lambda: self.path("out").symlink_to("victim"))):
+            for command in ("salvage", "decrypt"):
+                self.remove("out")
+                self.write("victim", b"kept")
+                run = self.begin(sys.executable, "-m", "agefile", command, "--pass", "pw", "--no-clobber", "-", "out")
+                run.stdin.write(self.data[:begin])
+                run.stdin.flush()
+                # (it waits for the payload once it has read all that is there)
+                self.wait_until(lambda: "pipe_read" in self.waits(run) or not self.waits(run) and time.sleep(1) is None)
+                take()
+                _, said = run.communicate(self.data[begin:])
+                self.see(f"{command}, and {kind} meanwhile", (run.returncode, said) == (1, b"agefile: out: File exists\n"), run.returncode, said)
+                self.see(f"what {command} leaves of {kind}", self.read("out") == self.read("victim") == b"kept")
+        self.see("salvage, of a file that isn't there", not self.is_there("new"))
+        run = self.command("salvage", "--pass", "pw", "--no-clobber", "in.age", "new")
+        self.see("salvage to a new file", run.returncode == 0 and self.read("new") == self.text, run.stderr)
+
+    def waits(self, run):
+        """Where in the kernel a process waits, if it says so."""
+        with open(f"/proc/{run.pid}/wchan") as file:
+            return file.read().replace("0", "")
+
+    def test_salvage_mode(self):
+        self.write("out", b"as it was, and longer")
+        path, keys = self.path("out"), {"file_key": KEY}
+        small = self.sealed(b"text")
+        self.see("a name that is taken", raised(FileExistsError, agefile.salvage, io.BytesIO(small), path, mode="xb", **keys))
+        self.see("another mode", raised(ValueError, agefile.salvage, io.BytesIO(small), path, mode="w", **keys))
+        self.see("what is there stays", self.read("out") == b"as it was, and longer")
+        self.see("without a mode", agefile.salvage(io.BytesIO(small), path, **keys).is_whole and self.read("out") == b"text")
+        self.remove("out")
+        self.see("a new name", agefile.salvage(io.BytesIO(small), path, mode="xb", **keys).is_whole and self.read("out") == b"text")
+
+    def held(self, program, *more):
+        """A run by several threads that has begun to write."""
+        self.remove("begun", "on")
+        run = self.begin(sys.executable, "-c", program + HELD + RUNS, *WORKERS, *more, "in.age", "out")
+        self.wait_until(lambda: self.is_there("begun") or run.poll() is not None)
+        return run
+
+    def test_taken_by_another(self):
+        """A run by several threads, with --no-clobber, whose OUT is made by another program meanwhile, or replaced."""
+        for program in ("", NAMED):
+            self.remove("out")
+            run = self.held(program, "--no-clobber")
+            before = self.names()
+            self.write("out", b"another")
+            self.write("on", b"")
+            _, said = run.communicate()
+            self.see("a name that is taken", (run.returncode, said) == (1, b"agefile: out: File exists\n"), run.returncode, said)
+            same = self.read("out") == b"another" and {*self.names()} == {*before, "on", "out"} - {"out.agefile-part"}
+            self.see("what is left", same, self.names())
+
+    def stopped(self, program, how):
+        """Stops a run by several threads in the middle. Standard error of it."""
+        run = self.held(program)
+        run.send_signal(how)
+        _, said = run.communicate()
+        self.remove("begun")
+        return said
+
+    def has_nameless(self):
+        try:
+            os.close(os.open(self.room, os.O_WRONLY | os.O_TMPFILE))
+            return True
+        except OSError:
+            return False
+
+    def test_stopped_workers(self):
+        """A run that is stopped leaves OUT, and no file; or, where each file has a name, one, which the next run takes."""
+        for was_there in (False, True):
+            self.remove("out")
+            if was_there:
+                self.write("out", b"as it was", 0o640)
+            for what, program, left in (("without a name", "", []), ("with a name", NAMED, ["out.agefile-part"])):
+                if not program and not self.has_nameless():
+                    self.leave_out(f"a file {what}", "needs a file system with files without a name")
+                    continue
+                before = self.names()
+                for how in (signal.SIGKILL, signal.SIGTERM, signal.SIGKILL):
+                    said = self.stopped(program, how)
+                    self.see(f"{what}: what a run leaves that {how.name} ended", self.names() == sorted([*before, *left]), self.names(), said)
+                    self.see(f"{what}: OUT", not was_there or self.read("out") == b"as it was")
+                words = [*WORKERS, *([] if was_there else ["--no-clobber"]), "in.age", "out"]
+                run = self.command(*words, program=program + RUNS)
+                mode = stat.S_IMODE(self.path("out").stat().st_mode)
+                self.see(f"{what}: the next run", run.returncode == 0 and self.read("out") == self.text, run.stderr)
+                self.see(f"{what}: nothing else is left", self.names() == sorted({*before, "out"}), self.names())
+                self.see(f"{what}: the mode", not was_there or mode == 0o640, mode)
+                self.write("bad.age", flipped(self.data, len(self.data) - BLOCK - 5_000))
+                held = self.read("out")
+                run = self.command(*WORKERS, "bad.age", "out", program=program + RUNS)
+                same = self.read("out") == held and not [it for it in self.names() if "part" in it]
+                self.see(f"{what}: a damaged file", run.returncode == 1 and same, run.stderr)
+                self.remove("bad.age", "out")
+                if was_there:
+                    self.write("out", b"as it was", 0o640)
+
+    def test_no_file_of_a_run(self):
+        """What stands where a run would leave its file, and is none: links, a FIFO, one that another run writes."""
+        words = [*WORKERS, "in.age", "out"]
+        self.write("victim", b"kept")
+        part = self.path("out.agefile-part")
+        for what, make in (("a link", lambda: part.symlink_to("victim")), ("a hard link", lambda: os.link(self.path("victim"), part)), ("a FIFO", lambda: os.mkfifo(part))):
+            make()
+            run = self.command(*words, program=NAMED + RUNS, timeout=60)
+            self.see(what, run.returncode == 1 and b"Traceback" not in run.stderr and not self.is_there("out"), run.stderr)
+            self.see(f"{what} stays", os.path.lexists(part) and self.read("victim") == b"kept")
+            part.unlink()
+        self.write("out.agefile-part", b"another run's")
+        with open(part, "rb") as file:
+            agefile._output.lock(file.fileno(), part)
+            run = self.command(*words, program=NAMED + RUNS)
+            self.see("one that another run writes", run.returncode == 1 and run.stderr.endswith(b"another program holds its lock\n"), run.stderr)
+            self.see("it stays", self.read("out.agefile-part") == b"another run's" and not self.is_there("out"))
