@@ -1,5 +1,6 @@
 """Packs a release of what was built, and looks at what is in it: what is committed and nothing else, versions that rise, notices, and a
 module that needs no library of the system."""
+import importlib.util
 import json
 import os
 import shutil
@@ -12,11 +13,13 @@ from tools.workspace import LIBRARY, TOP, library
 
 # In the place of what builds: a program that is none, and the library that was built.
 STUBS = {
-    "build": "#!/bin/sh\nmkdir -p crates/age_tool/out && { cat /usr/bin/true; echo '1.2.0 (not a release)'; } >crates/age_tool/out/age_tool\n",
+    "build": "#!/bin/sh\nmkdir -p crates/age_tool/out && { cat /usr/bin/true; echo '1.3.0 (not a release)'; } >crates/age_tool/out/age_tool\n",
     "bindings/build": f"#!/bin/sh\nmkdir -p bindings/out && cp '{LIBRARY}'/libage_c* bindings/out\n",
     "release/static": "#!/bin/sh\ncp \"$1\" \"$2\" && cp \"$1\" \"$2.o\"\n",
 }
-EARLIER, LATER = 1_800_000_000, 1_800_000_100
+EARLIER, LATER, DAY = 1_800_000_000, 1_800_000_100, "2027-01-15"
+# What a signature is of, and who made it, as SECURITY says.
+NAMESPACE, SIGNER = "age_tool-release", "maintainers@users.noreply.kudebafon.example"
 
 
 def run(*words, **more):
@@ -59,16 +62,22 @@ class ReleaseTest(Case):
         with tarfile.open(archive) as tar:
             names = tar.getnames()
         self.see("no draft is in the archive", not [it for it in names if "draft" in it.lower()])
-        self.see("the program has the commit's date", next(it for name, it in self.held("first").items() if name.endswith("-static")).endswith(b"1.2.0 (of 2023-11-14)\n"))
+        commit = run("git", "rev-parse", "HEAD", cwd=self.top).stdout[:10]
+        program = next(it for name, it in self.held("first").items() if name.endswith("-static"))
+        self.see("the program names its commit", program.endswith(f"1.3.0 (of {commit})\n".encode()), program[-40:])
         self.see("the notices are", f"{names[0]}/share/doc/age_tool/NOTICES" in names, names)
-        ends = (".tar.gz", ".whl", "-static", "-static.o", "NOTICES", "SHA256SUMS", *4 * ["amd64.deb"])
+        ends = (".tar.gz", ".whl", "-static", "-static.o", "age_tool.spdx.json", "NOTICES", "SHA256SUMS", *4 * ["amd64.deb"])
         self.see("all files of a release", sorted(self.held("first")) == sorted(it for it in self.held("first") if it.endswith(ends))
                  and len(self.held("first")) == len(ends), *self.held("first"))
         self.see("its sums are right", run("sha256sum", "-c", "SHA256SUMS", cwd=self.path("first")).returncode == 0)
         for name in ("bindings/python/agefile/_draft.py", "docs/DRAFT.md"):
             (self.top / name).unlink()
         shutil.move(self.top / ".git", self.path("git"))
+        # (as `git archive` writes it)
+        held = (self.top / "release/commit").read_text()
+        (self.top / "release/commit").write_text(f"{run('git', '--git-dir', self.path('git'), 'rev-parse', 'HEAD').stdout}")
         made = self.pack("second", SOURCE_DATE_EPOCH=1_700_000_000)
+        (self.top / "release/commit").write_text(held)
         self.see("without git", made.returncode == 0 and self.held("first") == self.held("second"), made.stdout)
         shutil.move(self.path("git"), self.top / ".git")
         with open(self.top / "README.md", "a") as readme:
@@ -93,20 +102,28 @@ class ReleaseTest(Case):
         """A package that is unpacked over an earlier one is what Python runs, also where the module's files are as long as they were. Its
         version is a later one, and an earlier run's packages go."""
         place, packages = self.path("root/usr/lib/python3/dist-packages"), []
-        program = "import importlib.metadata as it, agefile._writer as module; held = it.distribution('agefile'); " \
-            "print(module.GATHERED, held.version, held.read_text('INSTALLER'))"
+        program = "import importlib as it, importlib.metadata, agefile._writer as module; held = it.metadata.distribution('agefile'); " \
+            "print(module.GATHERED, held.version, held.read_text('INSTALLER'), it.import_module('agefile').__build__)"
         env = {**os.environ, "PYTHONPATH": str(place), "AGE_C_LIBRARY": str(LIBRARY / "libage_c.so"), "PYTHONDONTWRITEBYTECODE": ""}
         writer = self.top / "bindings/python/agefile/_writer.py"
-        for epoch, number in ((EARLIER, "16_384"), (LATER, "16_383")):
+        # (changed sources are of no commit, but of a day)
+        for epoch, number, build in ((EARLIER, "16_384", run("git", "rev-parse", "HEAD", cwd=self.top).stdout[:10]), (LATER, "16_383", DAY)):
             writer.write_text(writer.read_text().replace("GATHERED = 16_384", f"GATHERED = {number}"))
             self.assertEqual(self.pack("out", SOURCE_DATE_EPOCH=epoch).returncode, 0)
             [package] = self.path("out").glob("python3-agefile_*.deb")
             packages.append(package.name.split("_")[1])
             subprocess.run(["dpkg-deb", "-x", package, self.path("root")], check=True)
             ended = run(sys.executable, "-c", program, env=env)
-            self.see(f"the module with {number}", ended.stdout.split() == [number.replace("_", ""), "1.2.0", "debian"], ended.stdout)
+            self.see(f"the module with {number}", ended.stdout.split() == [number.replace("_", ""), "1.3.0", "debian", "(of", f"{build})"], ended.stdout)
         self.see("the version rises", run("dpkg", "--compare-versions", packages[0], "lt", packages[1]).returncode == 0, packages)
-        self.see("from those of 1.2.0 too", run("dpkg", "--compare-versions", "1.2.0-1", "lt", packages[0]).returncode == 0, packages)
+        for it in ("1.2.0-1", "1.2.0-202611292214"):
+            self.see(f"from {it} too", run("dpkg", "--compare-versions", it, "lt", packages[0]).returncode == 0, packages)
+        self.see("a distribution's own is later", run("dpkg", "--compare-versions", packages[1], "lt", "1.3.0-1").returncode == 0, packages)
+        for name, needs_library, is_for in (("python3-agefile", ">=", "no"), ("libage-c-dev", "=", "same"), ("libage-c0", None, "same"), ("age-tool", None, "foreign")):
+            [package] = self.path("out").glob(f"{name}_*.deb")
+            told = run("dpkg-deb", "--field", package, "Depends", "Multi-Arch").stdout
+            self.see(f"{name}: which library it takes", (needs_library is None) == ("libage-c0" not in told)
+                     and (needs_library is None or f"libage-c0 ({needs_library} 1.3.0-" in told) and ("" if is_for == "no" else f"Multi-Arch: {is_for}\n") in told, told)
         self.see("the module was compiled", any((place / "agefile" / "__pycache__").iterdir()))
         documents = self.path("root/usr/share/doc/python3-agefile")
         self.see("what the module names is there", all((documents / it).exists() for it in ("copyright", "bindings/README.md", "docs/FAULTS.md")))
@@ -118,19 +135,22 @@ class ReleaseTest(Case):
 
     @needs("dpkg-deb")
     def test_wheel(self):
-        """pip takes a later wheel of the same version for an upgrade. Its library has a soname of its own, and its text is true of it."""
+        """Its version is one that an index takes, and its build tag rises. Its library has a soname of its own, and its text is true of it."""
+        if not importlib.util.find_spec("ensurepip"):
+            return self.leave_out("the wheel", "needs ensurepip")
         self.assertEqual(run(sys.executable, "-m", "venv", self.path("venv")).returncode, 0)
-        pip, versions = [self.path("venv/bin/python"), "-m", "pip", "--disable-pip-version-check"], []
+        pip, tags = [self.path("venv/bin/python"), "-m", "pip", "--disable-pip-version-check"], []
         for epoch in (EARLIER, LATER):
             self.assertEqual(self.pack("out", SOURCE_DATE_EPOCH=epoch).returncode, 0)
             [wheel] = self.path("out").glob("*.whl")
-            ended = run(*pip, "install", "--no-index", wheel)
+            ended = run(*pip, "install", "--no-index", "--force-reinstall", wheel)
             self.see(f"pip installs the one of {epoch}", "Successfully installed" in ended.stdout, ended.stdout)
-            said = run(*pip, "show", "--verbose", "agefile").stdout
-            versions += [it.split()[1] for it in said.splitlines() if it.startswith("Version: ")]
-        self.see("the version rises", versions == sorted(set(versions)) and len(versions) == 2, versions)
+            self.see("its version", "Version: 1.3.0\n" in run(*pip, "show", "agefile").stdout)
+            tags.append(wheel.name.split("-")[2])
+        self.see("the build tag rises", tags == sorted(set(tags)) and len(tags) == 2, tags)
         [info] = self.path("venv").glob("lib/python3*/site-packages/agefile-*.dist-info")
         self.see("notices are inside", (info / "NOTICES").exists())
+        self.see("the build is in its metadata", f"Build: {tags[1]}\n" in (info / "WHEEL").read_text())
         text = (info / "METADATA").read_text()
         self.see("its text is the wheel's", "The library is inside" in text and "agefile[keys]" in text and "bindings/build" not in text, text)
         inside = info.parent / "agefile/libage_c.so"
@@ -139,15 +159,96 @@ class ReleaseTest(Case):
         ended = run(self.path("venv/bin/python"), "-c", words, env={**os.environ, "AGE_C_LIBRARY": ""}, cwd=self.room)
         self.see("the module works by it", ended.stdout.split() == ["b'text'", str(inside)], ended.stdout)
 
+    def installed(self, root):
+        """What stands below a root, folders too."""
+        return sorted(str(it.relative_to(root)) for it in root.rglob("*"))
+
+    def unpacked(self, folder, epoch):
+        """A release, unpacked: its install script."""
+        self.assertEqual(self.pack(folder, SOURCE_DATE_EPOCH=epoch).returncode, 0)
+        [archive] = self.path(folder).glob("*-linux.tar.gz")
+        with tarfile.open(archive) as tar:
+            tar.extractall(self.path(folder))
+        return next(self.path(folder).glob("*-linux/share/age_tool/install"))
+
+    @needs("dpkg-deb")
+    def test_install(self):
+        """A release is installed below a root, upgraded and removed: files that it hasn't brought stay, and folders that were there."""
+        root, gone = self.path("a root"), self.top / "bindings/python/agefile/_gone.py"
+        gone.write_text("")
+        self.git("add", "-A")
+        first = self.unpacked("one", EARLIER)
+        gone.unlink()
+        self.git("add", "-A")
+        later = self.unpacked("two", LATER)
+        env = {**os.environ, "DESTDIR": str(root), "PREFIX": "/opt/age"}
+        place = root / "opt/age"
+        (place / "share/man").mkdir(parents=True)
+        (place / "share/man/mine").write_text("mine")
+        umask = ["sh", "-c", 'umask 077; exec "$@"', ""]
+        ended = run(*umask, first, env=env)
+        whole = {str(it.relative_to(first.parents[2])) for it in first.parents[2].rglob("*")} | {"share/man/mine", "share/age_tool/LIST"}
+        self.see("installed", ended.returncode == 0 and {*self.installed(place)} == whole, ended.stdout)
+        self.see("for all to read", (place / "bin/age_tool").stat().st_mode & 0o777 == 0o755 and (place / "include").stat().st_mode & 0o777 == 0o755)
+        (place / "share/age_tool/go/mine.go").write_text("mine")
+        ended = run(later, env=env)
+        kept = self.installed(place)
+        self.see("upgraded", ended.returncode == 0 and "share/age_tool/agefile/_gone.py" not in kept and "share/age_tool/go/mine.go" in kept, ended.stdout)
+        self.see("the later one", (place / "bin/age_tool").stat().st_mtime == LATER, (place / "bin/age_tool").stat().st_mtime)
+        ended = run(place / "share/age_tool/install", env=env)
+        self.see("it is installed already", ended.returncode == 2 and self.installed(place) == kept, ended.stdout)
+        ended = run(place / "share/age_tool/install", "--remove", env=env)
+        left = ["share", "share/age_tool", "share/age_tool/go", "share/age_tool/go/mine.go", "share/man", "share/man/mine"]
+        self.see("removed", ended.returncode == 0 and self.installed(place) == left, ended.stdout, *self.installed(place))
+        ended = run(first, "--remove", env=env)
+        self.see("nothing is installed", ended.returncode == 1 and self.installed(place) == left, ended.stdout)
+        for words, status in ((["--help"], 0), (["--delete"], 2)):
+            ended = run(first, *words, env=env)
+            self.see(words[0], ended.returncode == status and "usage: " in ended.stdout and self.installed(place) == left, ended.stdout)
+        if not os.geteuid():
+            self.path("closed").mkdir(mode=0o755)
+            os.chmod(self.room, 0o711)
+            ended = run("setpriv", "--reuid=65534", "--regid=65534", "--clear-groups", first, env={**env, "DESTDIR": str(self.path("closed"))})
+            self.see("a folder without permission", ended.returncode == 1 and not self.installed(self.path("closed")), ended.stdout)
+
+    @needs("dpkg-deb", "ssh-keygen")
+    def test_signature(self):
+        """Sums are signed if a key is named; altered ones, and another's signature, are refused. What the release is made of is listed."""
+        for name in ("key", "other"):
+            self.assertEqual(run("ssh-keygen", "-q", "-t", "ed25519", "-N", "", "-f", self.path(name)).returncode, 0)
+        self.assertEqual(self.pack("unsigned").returncode, 0)
+        self.see("unsigned", "SHA256SUMS.sig" not in self.held("unsigned"))
+        self.assertEqual(self.pack("out", SIGN_BY=self.path("key")).returncode, 0)
+        sums, sign = self.path("out/SHA256SUMS"), self.path("out/SHA256SUMS.sig")
+        self.write("allowed", f"{SIGNER} {self.read('key.pub').decode()}".encode())
+
+        def is_signed():
+            words = ["ssh-keygen", "-Y", "verify", "-f", self.path("allowed"), "-I", SIGNER, "-n", NAMESPACE, "-s", sign]
+            return subprocess.run(words, input=sums.read_bytes(), capture_output=True).returncode == 0
+
+        self.see("signed", is_signed())
+        listed = json.loads(self.read("out/age_tool.spdx.json"))
+        files = {it["fileName"][2:]: it["checksums"][1]["checksumValue"] for it in listed["files"]}
+        named = dict(reversed(line.split("  ")) for line in sums.read_text().splitlines())
+        self.see("each file is listed with its sum", files == {it: named[it] for it in named if it != "age_tool.spdx.json"}, files, named)
+        packages = {it["name"] for it in listed["packages"]}
+        kit = run("rt", "version").stdout.split()[0]
+        self.see("what it is made of", {"age_tool", kit, "glibc", "std", "std_io", "clap", "sha2", "rand_chacha"} <= packages, packages)
+        sums.write_text(sums.read_text().replace("a", "b", 1))
+        self.see("altered", not is_signed())
+        self.assertEqual(self.pack("out", SIGN_BY=self.path("other")).returncode, 0)
+        self.see("by another key", not is_signed())
+
     @needs("cargo")
     def test_rust(self):
         """The crate names a version of the one that it stands on, as a registry wants it."""
         ended = run("cargo", "metadata", "--no-deps", "--offline", "--format-version", "1", cwd=self.top / "bindings/rust")
         [it] = [it for it in json.loads(ended.stdout)["packages"] if it["name"] == "agefile"]
-        self.see("a version beside the path", [dep["req"] for dep in it["dependencies"]] == ["^1.2.0"], it["dependencies"])
+        self.see("a version beside the path", [dep["req"] for dep in it["dependencies"]] == ["^1.3.0"], it["dependencies"])
 
     def test_help(self):
         """Each script says what it does, and does nothing else."""
-        for script in ("bindings/build", "release/build", "release/reproducible", "release/without-the-kit", "release/packages", "release/notices"):
+        scripts = ["bindings/build", "bench/run", *(f"release/{it.name}" for it in (TOP / "release").iterdir() if os.access(it, os.X_OK) and it.is_file())]
+        for script in sorted(scripts):
             ended = run(TOP / script, "--help", cwd=self.room)
-            self.see(script, ended.returncode == 0 and f"usage: {script}" in ended.stdout and "set -" not in ended.stdout, ended.stdout)
+            self.see(script, ended.returncode == 0 and "usage: " in ended.stdout and script.rpartition("/")[2] in ended.stdout and "set -" not in ended.stdout, ended.stdout)
