@@ -10,6 +10,8 @@ import unittest
 from tools import workspace
 
 SECONDS = 60
+# What is made has the modes that tests compare, whatever the mask of the one who runs them.
+os.umask(0o022)
 
 
 # Root has to ask for what mounts, attaches loop devices, lets a file system abort or changes settings: by this variable.
@@ -32,7 +34,7 @@ def twice(one, other):
 # The lines that are advice for people: they may change, and have tests of their own (tests/test_program.py).
 ADVICE = re.compile(
     rb"age_tool: (?:.* \(age_tool help \d+\)$|position saved in |resume reads only |no position was saved|- is a file |--max-log does nothing "
-    rb"|the passphrase in |work factor |OUT was moved: |none of them was given|only one of them )"
+    rb"|to save the position elsewhere: |the passphrase in |work factor |OUT was moved: |none of them was given|only one of them )"
 )
 
 

@@ -1,23 +1,31 @@
 """Runs the tests of one file, and counts each check of a test that has a name of its own (`subTest`), and a test without any as one. A
-file that made no check has failed. So has, if AGE_TEST_ALL is set, each check that was left out for want of something that
-tests/optional doesn't list.
+file, or a test, that made no check has failed. So has a test that is expected to fail, that returns something (a generator, say, of which
+nothing ran), or one of whose threads ended by an exception; and, if AGE_TEST_ALL is set, each check that was left out for want of
+something that tests/optional doesn't list.
 
-usage: python3 -m tests.counted FILE     as test_disk; the last line is `N passed, M failed, K skipped`
+usage: python3 -m tests.counted FILE     as test_disk; the last line is `N passed, M failed, K skipped`, and the status 0 if none failed
 """
+import functools
 import os
 import pathlib
 import sys
+import threading
 import unittest
 
 OPTIONAL = pathlib.Path(__file__).with_name("optional")
 
 
 class Counted(unittest.TextTestResult):
-    passed = checks = 0
+    passed = checks = asserted = 0
 
     def startTest(self, test):
         super().startTest(test)
-        self.checks = 0
+        self.checks = Counted.asserted = 0
+        threading.excepthook = lambda it: self.addError(test, it[:3])
+
+    def stopTest(self, test):
+        threading.excepthook = threading.__excepthook__
+        super().stopTest(test)
 
     def addSubTest(self, test, check, error):
         super().addSubTest(test, check, error)
@@ -25,8 +33,21 @@ class Counted(unittest.TextTestResult):
         self.passed += error is None
 
     def addSuccess(self, test):
-        super().addSuccess(test)
-        self.passed += self.checks == 0
+        if self.checks or Counted.asserted:
+            super().addSuccess(test)
+            self.passed += self.checks == 0
+        else:
+            self.failures.append((test, "no check was made"))
+
+
+def counting(check):
+    """The same assertion, which is counted."""
+    @functools.wraps(check)
+    def counted(*words, **more):
+        Counted.asserted += 1
+        return check(*words, **more)
+
+    return counted
 
 
 def may_lack(reason):
@@ -37,9 +58,14 @@ def may_lack(reason):
 
 
 def main():
+    for name in (it for it in dir(unittest.TestCase) if it.startswith("assert")):
+        setattr(unittest.TestCase, name, counting(getattr(unittest.TestCase, name)))
     tests = unittest.defaultTestLoader.loadTestsFromName(f"tests.{sys.argv[1]}")
     result = unittest.TextTestRunner(sys.stdout, verbosity=2, resultclass=Counted).run(tests)
-    failed = len(result.failures) + len(result.errors)
+    failed = sum(map(len, (result.failures, result.errors, result.expectedFailures, result.unexpectedSuccesses)))
+    for test, why in result.failures:
+        if why == "no check was made":
+            print(f"{test}: {why}")
     if os.environ.get("AGE_TEST_ALL"):
         unlisted = [(test, reason) for test, reason in result.skipped if not may_lack(reason)]
         for test, reason in unlisted:
@@ -49,7 +75,8 @@ def main():
         print(f"{sys.argv[1]}: no check was made")
         failed += 1
     print(f"{result.passed} passed, {failed} failed, {len(result.skipped)} skipped")
+    return failed != 0
 
 
 if __name__ == "__main__":
-    main()
+    sys.exit(main())

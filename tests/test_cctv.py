@@ -4,8 +4,10 @@ tests/cctv.tar.gz, as in the folder age/testdata of https://github.com/C2SP/CCTV
 A vector has lines `NAME: VALUE`, an empty line, and an age file. What an identity of this profile can open is opened by it. What needs
 another one (a post-quantum key) is opened by its file key, if it is to be opened. Armor is outside of the profile, so it is refused."""
 import hashlib
+import importlib.util
 import os
 import pathlib
+import shutil
 import tarfile
 import zlib
 
@@ -13,10 +15,11 @@ from tests import bindings
 from tests.case import Case, claim
 
 ARCHIVE = pathlib.Path(__file__).with_name("cctv.tar.gz")
+SUM = "29e1ddb94bef5c2932d3b7c4f42577567fed220ce833edeb38458dd320269263"
 
 # The faults that each outcome may have.
 FAULTS = {
-    "header failure": {*range(1, 17), 254}, "no match": {12, 13}, "HMAC failure": {14}, "payload failure": {*range(17, 23)},
+    "header failure": {*range(1, 12), 15, 254}, "no match": {12, 13}, "HMAC failure": {14}, "payload failure": {*range(17, 23)},
     "armor failure": {1, 2, 3, 8},
 }
 
@@ -43,6 +46,8 @@ def vectors():
     """The vectors, by their names."""
     if folder := os.environ.get("CCTV"):
         return [Vector(it.name, it.read_bytes()) for it in sorted(pathlib.Path(folder).iterdir()) if it.is_file()]
+    if hashlib.sha256(ARCHIVE.read_bytes()).hexdigest() != SUM:
+        raise ValueError(f"{ARCHIVE} isn't what it was")
     with tarfile.open(ARCHIVE) as archive:
         return [Vector(it.name, archive.extractfile(it).read()) for it in archive]
 
@@ -50,11 +55,12 @@ def vectors():
 class VectorsTest(Case):
     """A check for each vector and each way to open it."""
 
-    calls = 0
+    calls = left_out = 0
 
     @classmethod
     def tearDownClass(cls):
-        claim("README.md", f"{cls.calls} calls")
+        if not cls.left_out:
+            claim("README.md", f"{cls.calls} calls")
 
     def setUp(self):
         super().setUp()
@@ -96,6 +102,10 @@ class VectorsTest(Case):
                 continue
             if "AGE-SECRET-KEY-1" not in vector.identity and vector.passphrase is None:
                 how = {"file_key": vector.key}
+            if "identity" in how and not (importlib.util.find_spec("cryptography") or shutil.which("openssl")):
+                type(self).left_out += 1
+                self.leave_out(f"{vector.name} in Python", "needs cryptography")
+                continue
             self.write("in", vector.file)
             fault, text = 0, b""
             try:

@@ -6,18 +6,25 @@ import sys
 import time
 
 from tests.case import Case, needs
+from tools import workspace
 from tools.libraries import MADE
 from tools.workspace import CRATES, TOP, library
 
 # What `rt ci` refuses of a checkout before it proves anything.
 REFUSALS = """
-import os
+import inspect, os, shutil, sys
 from tools.libraries import command
-rt = command()
-every = rt.crates_of(os.getcwd())
-for name in sorted(os.listdir()):
-    if name != ".git" and os.path.isdir(name):
-        rt.rtlib.stop_on_unread(f"{os.getcwd()}/{name}", every)
+rt, top, more = command(), os.getcwd(), []
+if "aside" in inspect.signature(rt.crates_of).parameters:
+    # (that of an older kit moves away what was built: so it gets a copy)
+    left_out = lambda at, names: [it for it in names if it == ".git" or it == "out" and os.path.basename(os.path.dirname(at)) == "crates"]
+    top, more = shutil.copytree(top, f"{sys.argv[1]}/copy", symlinks=True, ignore=left_out, dirs_exist_ok=True), [f"{sys.argv[1]}/aside"]
+    os.makedirs(more[0], exist_ok=True)
+    os.makedirs(f"{top}/.git", exist_ok=True)
+every = rt.crates_of(top, *more)
+for name in sorted(os.listdir(top)):
+    if name != ".git" and os.path.isdir(f"{top}/{name}"):
+        rt.rtlib.stop_on_unread(f"{top}/{name}", every)
 """
 
 
@@ -25,7 +32,9 @@ class CheckoutTest(Case):
     """A test for each thing that was left from before."""
 
     def refusals(self, folder):
-        run = subprocess.run([sys.executable, "-B", "-c", REFUSALS], cwd=folder, env={**os.environ, "PYTHONPATH": str(TOP)}, capture_output=True, text=True)
+        room = self.path("of-refusals")
+        room.mkdir(exist_ok=True)
+        run = subprocess.run([sys.executable, "-B", "-c", REFUSALS, room], cwd=folder, env={**os.environ, "PYTHONPATH": str(TOP)}, capture_output=True, text=True)
         return run.stderr if run.returncode else ""
 
     def copy_of_sources(self, name):
@@ -41,6 +50,16 @@ class CheckoutTest(Case):
         library()
         said = self.refusals(TOP)
         self.see("rt ci takes a checkout that was built and used", not said, said)
+
+    def test_not_built(self):
+        """A checkout that isn't built says what the program is, and its version, at once. It builds for all else."""
+        top = self.copy_of_sources("fresh")
+        (top / "build").write_text("#!/bin/sh\necho building; exit 1\n")
+        told = (TOP / "docs/help.txt").read_text()
+        version = subprocess.run([workspace.program(), "--version"], capture_output=True, text=True).stdout
+        for word, wanted in (("--help", told), ("-h", told), ("help", told), ("--version", version), ("-V", version), ("inspect", "building\n")):
+            run = subprocess.run([top / "age_tool", word], capture_output=True, text=True, stdin=subprocess.DEVNULL)
+            self.see(f"{word} in a checkout that isn't built", run.stdout == wanted and (wanted == "building\n") != ("isn't built" in run.stderr), run)
 
     @needs("cc")
     def test_space(self):

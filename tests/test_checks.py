@@ -1,11 +1,17 @@
 """Tries what the gate itself rests on: that what is gone, left out or published by another way is noticed. None of it needs the program."""
+import contextlib
+import io
 import pathlib
+import re
 import subprocess
 import sys
 import tempfile
+import types
 import unittest
+import unittest.mock
 
 from tests import counted, test_runs
+from tests.case import Case
 from tools import sources
 from tools.workspace import TOP, loaded
 
@@ -23,10 +29,21 @@ class ChecksTest(unittest.TestCase):
                 (folder / name).write_text((TOP / "tests" / name).read_text())
             (folder / "test_it.py").write_text(text)
             words = [sys.executable, "-m", "tests.counted", "test_it"]
-            return subprocess.run(words, cwd=made, capture_output=True, text=True, env=more, check=True).stdout.splitlines()[-1]
+            return subprocess.run(words, cwd=made, capture_output=True, text=True, env=more).stdout.splitlines()[-1]
 
     def test_nothing_is_tried(self):
         self.assertEqual(self.said(EMPTY), "0 passed, 1 failed, 0 skipped")
+
+    def test_nothing_is_told(self):
+        """A test that checks nothing, or whose failure unittest wouldn't count, has failed."""
+        head = "import threading, unittest\n\nclass ItTest(unittest.TestCase):\n"
+        for body in ("for it in []: self.assertTrue(it)", "yield self.fail()", "it = threading.Thread(target=self.fail); it.start(); it.join()"):
+            with self.subTest(body):
+                self.assertRegex(self.said(f"{head}    def test_it(self):\n        {body}\n"), r" [1-9]\d* failed, 0 skipped$")
+        for holds in ("True", "False"):
+            text = f"{head}    @unittest.expectedFailure\n    def test_it(self): self.assertTrue({holds})\n"
+            with self.subTest(f"expected to fail, {holds}"):
+                self.assertEqual(self.said(text), "0 passed, 1 failed, 0 skipped")
 
     def test_left_out(self):
         """What the gate's machine may lack is counted as left out, and the rest has failed there."""
@@ -35,6 +52,50 @@ class ChecksTest(unittest.TestCase):
                 self.assertEqual(self.said(LEFT_OUT % needed, AGE_TEST_ALL="1"), f"0 passed, {failed} failed, 1 skipped")
                 self.assertEqual(self.said(LEFT_OUT % needed), "0 passed, 0 failed, 1 skipped")
         self.assertTrue(counted.may_lack("no file of 3 TiB can be made: File too large"))
+
+    def test_see(self):
+        """A check that doesn't hold fails its test, and the next ones are made."""
+        class ItTest(Case):
+            def test_it(self):
+                for holds in (False, None, "", True):
+                    self.see(repr(holds), holds)
+
+        result = counted.Counted(unittest.runner._WritelnDecorator(io.StringIO()), False, 0)
+        ItTest("test_it").run(result)
+        self.assertEqual((len(result.failures), result.passed), (3, 1))
+
+    def test_errors(self):
+        text = EMPTY.replace("pass", "def test_it(self): raise KeyError\n    def test_more(self): self.assertTrue(True)")
+        self.assertEqual(self.said(text), "1 passed, 1 failed, 0 skipped")
+
+    def test_check(self):
+        """`check` tries the core of the edits and runs all files of tests; whatever fails, ends early, has no count or is gone shows in its
+        status."""
+        check = loaded(TOP / "check")
+        for script, found in (("print('1 passed, 0 failed')", (1, 0)), ("print('1 passed, 0 failed'); exit(1)", (1, 1)), ("", (0, 1)), ("print('1 passed, 2 failed'); exit(1)", (1, 2))):
+            with self.subTest(script), contextlib.redirect_stdout(io.StringIO()):
+                self.assertEqual(check.counted(sys.executable, "-c", script), found)
+        ran = []
+        with unittest.mock.patch.multiple(check, counted=lambda *words: ran.append(words) or (1, 0), kit=lambda: types.SimpleNamespace(Kept=None)):
+            self.assertEqual((check.run_gate(), ran[-1]), ((1, 1, 0), ("checks/edits", "--core")))
+        for failing in (0, 1):
+            failed = lambda *words: (1, int((words[0] == "checks/edits") == bool(failing)))
+            with unittest.mock.patch.multiple(check, counted=failed, kit=lambda: types.SimpleNamespace(Kept=None)):
+                self.assertEqual(check.run_gate(), (1, failing, 1))
+        files, (crates, edits) = sorted(TOP.glob("tests/test_*.py")), map(int, re.match(r"(\d+) crates, (\d+) edits", (TOP / "tests/ran").read_text()).groups())
+        for said, gate, failed in (
+            ("1 passed, 0 failed, 0 skipped\n", (crates, edits, 0), 0), ("1 passed, 1 failed, 0 skipped\n", (crates, edits, 0), 1), ("it was killed\n", (crates, edits, 0), 1),
+            ("README.md says: nothing of that\n1 passed, 0 failed, 0 skipped\n", (crates, edits, 0), 1), ("1 passed, 0 failed, 0 skipped\n", (crates, edits - 1, 0), 1),
+            ("1 passed, 0 failed, 0 skipped\n", (crates - 1, edits, 0), 1), ("1 passed, 0 failed, 0 skipped\n", (crates, edits, 1), 1),
+        ):
+            ran = []
+            patched = {"run_file": lambda it: ran.append(it) or said, "program": lambda: "", "library": lambda: "", "run_gate": lambda: gate}
+            with self.subTest(said), contextlib.redirect_stdout(io.StringIO()), unittest.mock.patch.dict("os.environ"), unittest.mock.patch.multiple(check, **patched):
+                self.assertEqual(check.main(), failed != 0)
+                self.assertEqual(sorted(ran), files)
+        with contextlib.redirect_stdout(io.StringIO()), unittest.mock.patch.dict("os.environ"), unittest.mock.patch.multiple(
+                check, run_file=lambda it: "1 passed, 0 failed, 0 skipped\n" if it != files[0] else "", program=str, library=str, run_gate=lambda: (crates, edits, 0)):
+            self.assertTrue(check.main())
 
     def transcript(self, text):
         """The cases of a transcript, with their lines joined."""
@@ -78,7 +139,15 @@ class ChecksTest(unittest.TestCase):
         spoiling = ("let _ = File::create(rt, path);", "file.set_len(0)?;", "fs::rename(rt, one, other)?;", "calls::remove(rt, path)?;")
         spoiling += ("use age_machine::calls::{cut, close};", "use age_machine::calls as harmless;", "let _ = open_to_write(rt, name, 0o600);")
         spoiling += ("use std::io::{self, Write};", "io::Write::write(&mut file, b\"x\")?;", "use std::io::prelude::*;", "Writing::new(file).put(b\"x\")?;")
-        for place, lines in (("files", spoiling), ("output", ("calls::remove(rt, path)?;", "use age_machine::calls::{close, cut};"))):
+        spoiling += ("use std::fs::{self, remove_file};", "use std::{fs::{self, remove_file}, io};", "use std::fs::{self, rename as moved};")
+        spoiling += ("use std::fs as disk;", "use std::{fs as disk, fs, io};", "use std::fs::File as Opened;", "use std::{io as sys};", "use std::fs::*;")
+        spoiling += ("std::os::unix::fs::FileExt::write_at(file, from, 0)?;", "use std::os::unix::fs::{chown};", "fs :: rename(rt, one, other)?;")
+        spoiling += ("use crate::output::HostOut as Own;", "use age_machine::HostMachine as Own;")
+        opening = ("let mut own = HostMachine::new(self.rt);", "let _ = HostOut::make(alloc, rt, name, durability);", "let mut own = kept.machine();")
+        spoiling += ("use std::fs::{File, rename};", "File::set_len(&file, 0)?;", "file.write_vectored(&held)?;", "fs::create(rt, path)?;")
+        spoiling += ("file.write_all_at(b\"x\", 0)?;", "let it = calls :: remove;", "libc::unlink(path);", "std::fs::remove_file(rt, name)?;")
+        spoiling += ("use std::process::Command;", "let _ = std::env::var(\"HOME\");", "use std::{net, io};", "rt.stdin().read(into)?;", "std::thread::spawn(it);")
+        for place, lines in (("files", spoiling), ("prepare", opening), ("output", ("calls::remove(rt, path)?;", "use age_machine::calls::{close, cut};"))):
             for line in lines:
                 with self.subTest(line, place=place), tempfile.TemporaryDirectory() as room:
                     path = pathlib.Path(room) / f"age_disk/src/{place}.rt"
@@ -89,5 +158,5 @@ class ChecksTest(unittest.TestCase):
     def test_claims(self):
         """A number that a page has and the tests don't is noticed."""
         check = loaded(TOP / "check")
-        said = "CONTRIBUTING.md says: # Working on this repository\nCONTRIBUTING.md says: 9,999 runs of nothing\n"
-        self.assertEqual([*check.unsaid(said)], ["CONTRIBUTING.md doesn't say: 9,999 runs of nothing"])
+        said = "CONTRIBUTING.md says: # Working on this repository\nCONTRIBUTING.md says: 9,999 runs of nothing\nREADME.md says: 24 calls\n"
+        self.assertEqual([*check.unsaid(said)], ["CONTRIBUTING.md doesn't say: 9,999 runs of nothing", "README.md doesn't say: 24 calls"])

@@ -8,6 +8,8 @@ from tools import terminal
 from tools.workspace import CRATES, TOP
 
 FOLDER = TOP / "docs" / "completions"
+# The folder may have any name.
+UTF_8 = {**os.environ, "LC_ALL": "C.UTF-8"}
 COMMANDS = "encrypt decrypt resume inspect drill"
 OPTIONS = "--pass --file-key --shared --max-log --save"
 IN_BASH = '. ./age_tool.bash; COMP_WORDS=("$@"); COMP_CWORD=$(($# - 1)); _age_tool; printf "%s\\n" "${COMPREPLY[@]}"'
@@ -26,12 +28,12 @@ class CompletionsTest(Case):
 
     def in_fish(self, typed):
         words = ["fish", "--no-config", "-c", f"source age_tool.fish; complete -C '{typed}'"]
-        lines = subprocess.run(words, cwd=FOLDER, capture_output=True, text=True).stdout.splitlines()
+        lines = subprocess.run(words, cwd=FOLDER, capture_output=True, text=True, env=UTF_8).stdout.splitlines()
         return "\n".join(line.split("\t")[0] for line in lines)
 
     def in_zsh(self, typed):
         """It shows its completions at a terminal alone."""
-        child, tty = terminal.start(["env", "-C", str(FOLDER), "zsh", "-f", "-i"], {"TERM": "dumb"})
+        child, tty = terminal.start(["env", "-C", str(FOLDER), "zsh", "-f", "-i"], {"TERM": "dumb", **UTF_8})
         begin = f"PS1='% '; fpath=('{FOLDER}' $fpath); autoload -Uz compinit; compinit -u -D; LISTMAX=1000; bindkey '^I' list-choices; echo rea''dy\n"
         os.write(tty, begin.encode())
         terminal.output(tty, b"ready\r\n", 10)
