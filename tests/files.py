@@ -106,11 +106,11 @@ class FilesCase(Case):
 class Feeding:
     """A decryption that waits for more of its input, with a chunk written and its position to be saved in `saved`."""
 
-    def __init__(self, case, words="decrypt --pass pass --save saved in out", env=None):
+    def __init__(self, case, words="decrypt --pass pass --save saved in out", **more):
         self.case = case
-        case.remove("in", "out")
+        case.remove("in", *([] if "stdout" in more else ["out"]))
         os.mkfifo(case.path("in"))
-        self.run = case.started(words, env=env)
+        self.run = case.started(words, **more)
         self.input = self.opened()
         self.input.write(case.age[:140000])
         self.input.flush()

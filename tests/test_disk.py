@@ -3,9 +3,11 @@ or read, next to other runs, and on a disk that fails, by a library that is load
 import contextlib
 import errno
 import fcntl
+import itertools
 import os
 import pathlib
 import random
+import re
 import resource
 import shutil
 import signal
@@ -17,6 +19,7 @@ import time
 from tests.case import SECONDS, needs, twice, without_advice
 from tests.files import LOCKED, NOBODY, PLAIN, WRITE, Feeding, FilesCase
 from tests.files import as_nobody, chunk_fault, reason, refused, unsaved, unwritten, waits_for
+from tools import shim
 
 LENGTH = "another program changed its length"
 REMOVED = "it was removed meanwhile"
@@ -263,6 +266,17 @@ class DiskTest(FilesCase):
         self.expect(1, unwritten("new", LOCKED), "decrypt --pass pass age new", "another run was quicker", {"FLOCK": errno.EWOULDBLOCK})
         self.see("another run was quicker: OUT is there", self.is_there("new") and self.read("new") == b"")
 
+    def test_written_by_another(self):
+        """A new OUT that another program has written to isn't removed."""
+        os.mkfifo(self.path("in"))
+        run = self.started("decrypt --pass pass in new")
+        with open(self.path("in"), "wb") as pipe:
+            waits_for(lambda: self.is_there("new"))
+            self.write("new", b"another's")
+            pipe.write(b"this is no age file\n")
+        self.ends("another program has written to OUT", run, 1, b"age_tool: 1 NotAge line 1\n")
+        self.see("another program has written to OUT: it is there", self.is_there("new") and self.read("new") == b"another's")
+
     @needs("cc")
     def test_no_locks(self):
         self.expect(0, b"", "decrypt --pass pass age out", "a file system without locks", {"FLOCK": errno.ENOLCK})
@@ -270,6 +284,51 @@ class DiskTest(FilesCase):
         self.write("wrong", b"another passphrase\n")
         self.expect(1, b"age_tool: 13 WrongKey\n", "decrypt --pass wrong age new", "a new OUT without locks", {"FLOCK": errno.ENOLCK})
         self.see("a new OUT without locks stays, as another run may have it", self.is_there("new") and self.read("new") == b"")
+        for error in (errno.EINVAL, errno.ENOSYS, errno.EOPNOTSUPP):
+            self.expect(0, b"", "decrypt --pass pass age out", f"no locks: {errno.errorcode[error]}", {"FLOCK": error})
+
+    @needs("cc")
+    def test_locks_that_fail(self):
+        """Where a lock can't be had for another reason, another run may have OUT: it isn't written."""
+        self.write("out", b"old text")
+        for error in (errno.EIO, errno.EACCES, errno.EBADF):
+            name = f"a lock fails: {errno.errorcode[error]}"
+            self.expect(1, unwritten("out", error), "decrypt --pass pass age out", name, {"FLOCK": error})
+            self.see(f"{name}: OUT", self.read("out") == b"old text")
+
+    @needs("cc")
+    def test_gone_as_it_is_opened(self):
+        """An OUT that goes as it is opened isn't left empty, nor a link to it."""
+        self.write("wrong", b"another passphrase\n")
+        self.write("out", b"old text")
+        self.expect(1, b"age_tool: 13 WrongKey\n", "decrypt --pass wrong age out", "an OUT that goes", {"GONE": 1})
+        self.see("an OUT that goes: nothing is left", not self.is_there("out"))
+        self.write("out", b"old text")
+        self.path("link").symlink_to("out")
+        self.expect(0, b"", "decrypt --pass pass age link", "an OUT behind a link", {"GONE": 1})
+        self.see("an OUT behind a link", self.read("link") == PLAIN)
+
+    @needs("cc")
+    def test_failing_looks(self):
+        """A file that can't be looked at is no fault of the command line: the run says 26 or 27 or goes on, and leaves no empty position."""
+        self.expect(1, chunk_fault(2), "decrypt --pass pass --save position cut old")
+        position = self.read("position")
+        for words, more in (
+            ("decrypt --no-clobber --pass pass --save new cut out", {"ON": 1}),
+            ("decrypt --pass pass --save new cut out", {}),
+            ("resume --position position --save position --old old --pass pass cut out", {}),
+        ):
+            for at in itertools.count(1):
+                # (a room that can't be looked at any more is left, and the next run would look at each)
+                self.remove("out", "new", "failed", *(it.name for it in self.room.glob("*.new-*")))
+                self.write("position", position)
+                ended = self.tool(*words.split(), env=shim.loaded(STATX=errno.EIO, AT=at, COUNT=self.path("failed"), **more))
+                if not self.is_there("failed"):
+                    break
+                is_right = re.match(rb"age_tool: (17 ChunkDamaged chunk 2|26 Read|27 Write)\n", ended.stderr)
+                is_empty = self.is_there("new") and self.read("new") == b""
+                self.see(f"{words}, look {at}", ended.returncode == 1 and is_right and not is_empty, ended)
+            self.see(f"{words}: looks", at > 20, at)
 
     def sticky_folder(self, setting):
         """A folder like /tmp, with this setting of the system on until the test ends. The test is left out if it can't be changed."""
@@ -521,7 +580,8 @@ class DiskTest(FilesCase):
         self.expect(0, b"", "encrypt --pass pass --log 4 plain age")
         self.fused("broken", READ=errno.EIO, FROM=3 << 20)
         self.write("broken-held/age", self.read("age"))
-        said = b"age_tool: 26 Read\n" + reason("read broken/age", errno.EIO)
+        salvage = b"; without another copy, python3 -m agefile salvage saves what still opens\n"
+        said = b"age_tool: 26 Read\n" + reason("read broken/age", errno.EIO)[:-1] + salvage
         self.expect(1, said, "decrypt --pass pass --save saved broken/age out", "a source that breaks")
         chunks = self.path("out").stat().st_size >> 16
         self.see("a source that breaks: a position", chunks > 40 and self.is_position("saved", chunks), chunks)
@@ -647,11 +707,16 @@ class DiskTest(FilesCase):
 
     def test_closed(self):
         """If standard streams are closed, nothing that is meant for them goes to a file."""
+        self.write("wrong", b"wrong\n")
         for streams in ("<&-", ">&-", "2>&-", "<&- >&-", "<&- 2>&-", ">&- 2>&-", "<&- >&- 2>&-"):
             self.remove("saved", "out")
             words = f"{self.program} decrypt --progress --pass pass --save saved cut out {streams}"
             ended = subprocess.run(["sh", "-c", words], cwd=self.room, stderr=subprocess.DEVNULL, timeout=SECONDS)
             self.see(f"closed: {streams}", ended.returncode == 1 and self.read("out") == PLAIN[:131072] and self.is_position("saved", 2))
+            words = f"{self.program} decrypt --progress --pass wrong --save saved age out {streams}"
+            held = self.read("saved"), self.read("out")
+            ended = subprocess.run(["sh", "-c", words], cwd=self.room, stderr=subprocess.DEVNULL, timeout=SECONDS)
+            self.see(f"closed: {streams}, with a position and an OUT that are there", ended.returncode == 1 and (self.read("saved"), self.read("out")) == held)
 
     def test_offsets(self):
         """What goes to standard output goes where that stands, and cuts nothing off."""
@@ -801,19 +866,26 @@ class DiskTest(FilesCase):
         self.see("a new output is whole", self.read("whole") == PLAIN)
 
     def test_no_clobber_of_a_position(self):
-        """With --no-clobber the file of --save is left alone if it holds something else than a position, and isn't waited for."""
-        said = b"it holds no position, and --no-clobber was given"
-        for name, held in (("age", self.age), ("short", b"age-position/"), ("line", b"\n")):
+        """With --no-clobber the file of --save is left alone if it holds something, another run's position too, and isn't waited for."""
+        said = b"it exists, and --no-clobber was given"
+        for name, held in (("age", self.age), ("short", b"age-position/"), ("line", b"\n"), ("another", b"age-position/v2 1 ..\n")):
             self.write(name, held)
             ended = self.tool(*f"decrypt --no-clobber --pass pass --save {name} cut new".split())
             wanted = WRITE + b"age_tool: can't write %s: %s\n" % (name.encode(), said)
             self.see(f"{name} isn't replaced", (ended.returncode, ended.stderr) == (1, wanted), ended.stderr)
             self.see(f"{name} is kept, and OUT isn't made", self.read(name) == held and not self.is_there("new") and not self.is_there(f"{name}.new-0"))
         self.write("empty", b"")
-        self.write("saved", b"age-position/v1 of another version")
-        for name in ("empty", "saved", "new-position"):
+        for name in ("empty", "new-position"):
             self.expect(1, chunk_fault(2), f"decrypt --no-clobber --pass pass --save {name} cut {name}.part")
             self.see(f"a position replaces {name}", self.is_position(name, 2))
+        self.write("cut", self.age[:80000])
+        self.expect(1, chunk_fault(1), "decrypt --no-clobber --pass pass --save saved cut part")
+        self.write("cut", self.age[:150000])
+        resume = "resume --no-clobber --pass pass --position saved --save saved --old part cut again"
+        self.expect(1, chunk_fault(2), resume)
+        self.see("the position of this command is replaced", self.is_position("saved", 2))
+        self.expect(1, WRITE + reason("write empty", said.decode()), resume.replace("--save saved", "--save empty").replace("again", "third"))
+        self.remove("part")
         self.expect(1, chunk_fault(2), "decrypt --pass pass --save short cut part")
         self.see("without --no-clobber any file is replaced", self.is_position("short", 2))
 

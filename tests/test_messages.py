@@ -12,13 +12,16 @@ from tools.workspace import TOP
 
 ZEROS = "A" * 43
 VERSION, SCRYPT, END = "age-encryption.org/v1\n", f"-> scrypt {22 * 'A'} ", f"--- {ZEROS}\n"
+NEEDS = "a passphrase with work factor N takes 2^N KiB of memory"
 # Faults that no run has, each with its sentence and the reason.
 UNMADE = ((22, "more than 2^48 chunks: split the plaintext", "they have 2^64 bytes, and a file has fewer than 2^63"),
+          (28, f"out of memory: {NEEDS}", "without a passphrase a run takes less memory than the limit with which the others are made"),
           (29, "read 2^63 times without ending: supply an input that ends", "at a million reads a second these take 292,000 years"))
 RETRY = "if you trust the file, retry with "
 KEYS = "age_tool inspect shows its stanzas; a key file is for age -d -i, or for python3 -m agefile decrypt --identity"
 NO_LINE = "this may not be an age file: its first line has no newline"
 LIMIT = ("work factor {0}: a passphrase takes {1} of memory: " + RETRY + "--max-log {0}").format
+MEMORY = "out of memory: work factor {}: a passphrase takes {} of memory".format
 OLD = "--old takes the output of the run that saved the position"
 FORGED = "altered or forged: no age program writes such a header: don't trust the file"
 
@@ -60,13 +63,16 @@ ROWS = (
     (24, "full.age", None, "not the file of the position: IN must be the file that was being decrypted when the position was saved",
      "resume --position position --old part --pass pass full.age back"),
     (25, "short-old", 70_000 * "x", f"shorter than the position says: {OLD}", "resume --position position --old=short-old --pass pass plain.age back"),
-    (28, None, None, "out of memory: a passphrase with work factor N takes 2^N KiB of memory", "encrypt --pass pass --log 22 plain back"),
+    (28, None, None, MEMORY(22, "4.0 GiB"), "encrypt --pass pass --log 22 plain back"),
+    (28, None, None, MEMORY(19, "512.0 MiB"), "encrypt --pass pass --log 19 plain back"),
+    (28, "twenty", f"{VERSION}{SCRYPT}20\n{ZEROS}\n{END}", MEMORY(20, "1.0 GiB")),
     (30, "flipped", lambda it: it.read("position").replace(b"v2 2 ", b"v2 1 "),
      "altered, or not of this file's key: use the position file exactly as --save wrote it", "resume --position=flipped --old part --pass pass plain.age back"),
     (31, "altered", bytes(200_000), f"not the text of the position: {OLD}", "resume --position position --old altered --pass pass plain.age back"),
 )
 
 # What the system answered. Each: the number, the words, and what is said.
+SALVAGE = "without another copy, python3 -m agefile salvage saves what still opens"
 MISSING, FOLDER = "No such file or directory", "Is a directory"
 MACHINE = (
     (26, "encrypt --pass none plain back", f"can't open none: {MISSING}; --pass takes the name of a file that holds the passphrase"),
@@ -80,6 +86,10 @@ MACHINE = (
     (26, "inspect plain/more", "can't open plain/more: Not a directory"),
     (26, "inspect loop", "can't open loop: Too many levels of symbolic links"),
     (26, "inspect /proc/self/mem", "can't read /proc/self/mem: Input/output error"),
+    (26, "encrypt --pass pass --log 1 /proc/self/mem back", "can't read /proc/self/mem: Input/output error"),
+    (26, "decrypt --pass pass /proc/self/mem back", f"can't read /proc/self/mem: Input/output error; {SALVAGE}"),
+    (26, "decrypt --pass /proc/self/mem plain.age back", "can't read /proc/self/mem: Input/output error"),
+    (26, "resume --position position --old part --pass pass /proc/self/mem back", f"can't read /proc/self/mem: Input/output error; {SALVAGE}"),
     (27, "encrypt --pass pass --log 1 plain none/new", f"can't create none/new: {MISSING}"),
     (27, "decrypt --pass pass plain.age folder", f"can't write folder: {FOLDER}"),
     (27, "decrypt --pass pass plain.age /dev/full", "can't write /dev/full: No space left on device"),
@@ -154,12 +164,12 @@ class MessagesTest(Case):
             self.see(f"{number} of {name}", ended.returncode == 1 and re.fullmatch(rb"age_tool: %d [\w ]+\n" % number, ended.stderr), ended.stderr)
             self.see(f"what is said of {number} of {name}", ended.advice == said, ended.advice)
             row = re.search(rf"^\| {number} \| .*$", page, re.M)[0]
-            to_do = RETRY if number == 11 else sentence.partition(": ")[2]
+            to_do = {11: RETRY, 28: NEEDS}.get(number) or sentence.partition(": ")[2]
             self.see(f"FAULTS says to do the same after {number} of {name}", to_do in row or "above 22" in sentence, to_do, row)
         known = {int(row["No."]) for row in tables((TOP / "docs" / "FAULTS.md").read_text()) if "No." in row}
         self.see("each fault", {it[0] for it in (*ROWS, *UNMADE, *MACHINE)} == known, known)
         for number, sentence, reason in UNMADE:
-            row, said = re.search(rf"^\| {number} \| .*$", page, re.M)[0], (TOP / "crates/age_messages/src/hints.rt").read_text()
+            row, said = re.search(rf"^\| {number} \| .*$", page, re.M)[0], (TOP / "crates/age_hints/src/hints.rt").read_text()
             self.see(f"FAULTS says to do the same after {number}", f'"{sentence}"' in said and sentence.partition(": ")[2] in row, reason)
 
     def test_answers(self):

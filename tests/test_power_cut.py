@@ -282,11 +282,17 @@ class Case(typing.NamedTuple):
 
     def keeps_out(self):
         """It stops before there is a byte to write."""
-        return self.has_wrong_pass() or "../cut-0" in self.words
+        return self.has_wrong_pass() or self.stops_at_once()
+
+    def stops_at_once(self):
+        """It stops at chunk 0, whose position replaces nothing."""
+        return "../cut-0" in self.words
 
     def saved(self):
         """Where it saves a position."""
-        return self.word_after("--save") if self.status == 1 and not self.has_wrong_pass() else None
+        name = self.word_after("--save")
+        is_there = self.stops_at_once() and name in self.before
+        return name if self.status == 1 and not self.has_wrong_pass() and not is_there else None
 
     def is_for(self, command):
         return self.words.startswith(command)
@@ -309,6 +315,8 @@ class Case(typing.NamedTuple):
         """What a power cut does to such a run."""
         if self.status == 0:
             return {LOST_OUT}
+        if self.saved() is None:
+            return set()
         return {LOST_POSITION, TORN_POSITION} | (set() if self.keeps_out() else {REFUSED})
 
 
@@ -527,7 +535,11 @@ class Trial:
         folder = self.room.laid_out(held)
         ended = self.room.run(folder, f"{self.case.words} --no-sync")
         left = held_in(folder)
-        if (ended.returncode, ended.stderr) != (self.ended.returncode, self.ended.stderr):
+        said, wanted = ended.stderr, self.ended.stderr
+        if self.case.stops_at_once() and self.case.saved() in held:
+            # The file is there by now, so none is saved: the fault is the same.
+            said, wanted = said.splitlines()[0], wanted.splitlines()[0]
+        if (ended.returncode, said) != (self.ended.returncode, wanted):
             return False
         if self.case.is_for("encrypt"):
             return self.is_whole(Part.of(left["out"]))

@@ -21,6 +21,7 @@ def within_memory():
 
 # What is said after the command that goes on from a position.
 ANEW = "age_tool: resume reads only the rest of IN; from a fast disk, age_tool decrypt is quicker\n"
+NO_TEXT = "bytes that are no UTF-8"
 
 
 class ProgramTest(Case):
@@ -70,7 +71,9 @@ class ProgramTest(Case):
     def test_usage(self):
         """The line says that a key has to be given, which the rules of the arguments can't say. A command's help fits a terminal."""
         key = "<--pass <FILE>|--file-key <HEX>|--shared <FILE>>"
-        self.see("the program's help", all(len(it) <= 80 for it in self.tool("--help").stdout.splitlines()))
+        told = self.tool("--help").stdout
+        self.see("the program's help", all(len(it) <= 80 for it in told.splitlines()))
+        self.see("docs/help.txt, which a checkout shows that isn't built, is that", (TOP / "docs/help.txt").read_bytes() == told)
         for command, which in (("encrypt", ""), ("inspect", ""), ("decrypt", key), ("resume", key), ("drill", "<--clear|--pass <FILE>>")):
             shown = self.tool(command, "--help").stdout.decode()
             with self.subTest(command):
@@ -217,8 +220,9 @@ class ProgramTest(Case):
                 wanted = f"{row['No.']} {row['Name']} {sentence(row['What it means'])} OUT: {row['What is left in OUT']}. What to do: {row['What to do']}."
                 wanted = re.sub(r"\[([^]]*)\]\([^)]*\)", r"\1", wanted).replace("`", "").replace(r"\|", "|")
                 self.see(f"help {row['No.']}", (ended.returncode, ended.stderr, said) == (0, b"", wanted), ended.stderr, said)
+                self.see(f"help {row['Name']}", self.tool("help", row["Name"]).stdout == ended.stdout)
                 self.see(f"help {row['No.']} fits a terminal", all(len(it) <= 80 for it in ended.stdout.splitlines()), ended.stdout)
-        for words in ("help 0", "help 32", "help 256", "help x", "help 17 18", "17"):
+        for words in ("help 0", "help 32", "help 256", "help x", "help 17 18", "17", "help wrongkey", "help WrongKey 1", "WrongKey"):
             self.see(words, self.tool(*words.split()).returncode == 2)
         self.see("help of a command", self.tool("help", "drill").stdout == self.tool("drill", "--help").stdout)
         with open("/dev/full", "wb") as full:
@@ -246,20 +250,51 @@ class ProgramTest(Case):
             ("encrypt -r age1 plain back", "for a recipient: python3 -m agefile encrypt --recipient KEY IN OUT"),
             ("encrypt -R all plain back", "for recipients: python3 -m agefile encrypt --recipients-file FILE IN OUT"),
             ("encrypt --armor plain back", "age_tool writes no armor: leave it out"), ("encrypt -f plain back", "without --no-clobber an existing OUT is overwritten"),
-            ("-v", "the version is shown by age_tool --version"), ("decrypt --pass pass plain.age cut.age back", "a command takes one file at a time"),
+            ("-v", "--progress shows how far a run is, and age_tool --version the version"), ("decrypt --pass pass plain.age cut.age back", "a command takes one file at a time"),
             ("encrypt --log -1 plain back", "for a file of that name, write './-1'"), ("decrypt --passs pass plain.age back", "a similar argument exists: '--pass'"),
+            ("decrypt -q --pass pass plain.age back", "leave it out: without --progress a run that succeeds says little"),
+            ("encrypt --overwrite plain back", "without --no-clobber an existing OUT is overwritten"),
         ):
             ended = self.tool(*words.split())
             tips = re.findall(rb"(?m)^  tip: (.*)$", ended.stderr)
             usage = re.search(rb"\n\nUsage: age_tool .*\n(?: {7}.*\n)?\nFor more information, try '--help'\.\n$", ended.stderr)
             self.see(words, (ended.returncode, tips) == (2, [hint.encode()]) and usage, ended.stderr)
 
+    def test_commands_of_others(self):
+        """A word in the place of the command gets a tip, or the list of the commands, which is that of `--help`."""
+        listed = self.tool("--help").stdout.decode().partition("\nCommands:\n")[2].partition("\n\n")[0]
+        *commands, last = re.findall(r"(?m)^  (\w+) ", listed)
+        known = f"the commands are {', '.join(commands)} and {last}"
+        for words, hint in (
+            ("verify plain.age", "age_tool decrypt --pass FILE IN /dev/null checks all of IN"), ("test plain.age", "age_tool decrypt --pass FILE IN /dev/null checks all of IN"),
+            ("ls plain.age", "age_tool inspect FILE shows its header"), ("restore plain.age back", "age_tool decrypt --pass FILE IN OUT decrypts"),
+            ("keygen", "age_tool makes no keys; age-keygen does"), ("version", "the version is shown by age_tool --version"), ("plain.age", known), ("help x", known),
+            ("help 32", known), ("encrpt", "some similar subcommands exist: 'decrypt', 'encrypt'"),
+        ):
+            ended = self.tool(*words.split())
+            word = words.removeprefix("help ").split()[0]
+            said = f"age_tool: no such command: '{word}'\n\n  tip: {hint}\n\nUsage: age_tool [COMMAND]\n\nFor more information, try '--help'.\n"
+            self.see(words, (ended.returncode, ended.stderr.decode()) == (2, said), ended.stderr)
+
+    def test_missing_arguments(self):
+        """All of them are named at once, also what opens a file, of which the command needs one of several."""
+        key, way = "one of --pass <FILE>, --file-key <HEX> and --shared <FILE>", "one of --clear and --pass <FILE>"
+        for words, missing in (
+            ("decrypt plain.age", ["<OUT>", key]), ("decrypt", ["<IN>", "<OUT>", key]), ("decrypt plain.age -- --pass=x --file-key", None),
+            ("decrypt -- --pass=x", ["<OUT>", key]), ("decrypt --pass pass plain.age", ["<OUT>"]), ("decrypt --shared=secret plain.age", ["<OUT>"]),
+            ("decrypt --file-key 00", ["<IN>", "<OUT>"]), ("resume --old part plain.age", ["--position <FILE>", "<OUT>", key]), ("drill script", ["<IN>", way]),
+            ("drill --clear script", ["<IN>"]), ("drill", ["<SCRIPT>", "<IN>", way]), ("encrypt plain", ["--pass <FILE>", "<OUT>"]),
+        ):
+            ended = self.tool(*words.split())
+            said = "age_tool: these arguments are missing:\n" + "".join(f"  {it}\n" for it in missing or ()) + "\nUsage: age_tool "
+            self.see(words, ended.returncode == 2 and ended.stderr.decode().startswith(said) == bool(missing), ended.stderr)
+
     def test_words_that_are_refused(self):
         """What the parser says of a word shows codes, as all other lines do."""
         name, shown = "c\x1b]0;a\x07\r\u202e\u200b\nage_tool: 27 Write", rb"c\u{1b}]0;a\u{7}\r\u{202e}\u{200b}\nage_tool: 27 Write"
         for words, begins in (
             (("decrypt", "--pass", "pass", "plain.age", "back", name), b"age_tool: unexpected argument '%s'\n\n  tip: a command takes one file at a time\n\nUsage: "),
-            ((name,), b"age_tool: no such command: '%s'\n\nUsage: "), (("encrypt", "--" + name), b"age_tool: unexpected argument '--%s'\n\n  tip: "),
+            ((name,), b"age_tool: no such command: '%s'\n\n  tip: the commands are "), (("encrypt", "--" + name), b"age_tool: unexpected argument '--%s'\n\n  tip: "),
             (("encrypt", f"--log={name}"), b"age_tool: invalid value '%s' for '--log <N>': not a number from 1 to 22\n"),
         ):
             ended = self.tool(*words)
@@ -271,6 +306,8 @@ class ProgramTest(Case):
             (b"correct horse\r\n", "a carriage return"), (b"\xef\xbb\xbfcorrect horse\n", "a byte order mark"), (b"correct horse\n\n", "a second newline"),
             (b"correct\nhorse\n", "a second line"), (b"correct\0horse", "a zero byte"), (b"correct\thorse\n", "a control character"), (b"correct\x7fhorse\n", "a control character"),
             (b"correct horse\n", None), (b"correct horse", None), ("gr\u00f6\u00dfer\n".encode(), None), (b"\xef\xbb\xbe", None),
+            (b"a\xe9b\n", NO_TEXT), (b"\xef\xbb", NO_TEXT), (b"\xef\xbba\n", NO_TEXT), (b"horse\xf0\x9f\x90", NO_TEXT), ("horse \U0001f40e".encode(), None),
+            (4_095 * b"x", None), (4_095 * b"x" + b"\n", None), (4_096 * b"x", "more than 4,095 bytes"), (2_048 * "\u00e4".encode(), "more than 4,095 bytes"),
         ):
             self.write("words", held)
             said = f"age_tool: the passphrase in words has {what}, which can't be typed when age asks for it\n".encode() if what else b""
@@ -281,6 +318,22 @@ class ProgramTest(Case):
             self.see(f"{held} encrypts itself", (ended.returncode, ended.advice) == (0, said), ended.advice)
             ended = self.tool(*"decrypt --pass words words.age back".split())
             self.see(f"{held} decrypts", (ended.returncode, ended.advice) == (0, b""), ended.advice)
+
+    def test_passphrases_that_are_no_text(self):
+        """What Python decodes as UTF-8 is text, and nothing else: each byte beyond ASCII, and bytes at the limits of what may follow."""
+        pieces = [bytes([it]) for it in (0x80, 0xbf, 0xc3, 0xff)]
+        pieces += [bytes([first, second]) for first in (0xc1, 0xc2, 0xdf) for second in (0x7e, 0x80, 0xbf, 0xc0)]
+        pieces += [bytes([first, second, 0x80]) for first in (0xe0, 0xed, 0xef) for second in (0x9f, 0xa0)]
+        pieces += [bytes([first, second, 0xbf, 0x80]) for first in (0xf0, 0xf1, 0xf4, 0xf5) for second in (0x8f, 0x90)]
+        for piece in pieces:
+            try:
+                (b"a" + piece + b"b").decode()
+                wanted = b""
+            except UnicodeDecodeError:
+                wanted = f"age_tool: the passphrase in words has {NO_TEXT}, which can't be typed when age asks for it\n".encode()
+            self.write("words", b"a" + piece + b"b")
+            ended = self.tool(*"encrypt --no-sync --pass words --log 1 words words.age".split())
+            self.see(piece, (ended.returncode, ended.advice) == (0, wanted), ended.advice)
 
     def test_words_that_do_something_else(self):
         dash = b"age_tool: - is a file of that name: the standard streams are /dev/stdin and /dev/stdout\n"
@@ -295,7 +348,7 @@ class ProgramTest(Case):
             self.see(words, (ended.returncode, said in ended.advice if said else ended.advice) == (status, True if said else b""), ended.advice)
 
     def test_work_factors(self):
-        """A report and a refusal say what memory a passphrase takes."""
+        """A report at a terminal, and a refusal, say what memory a passphrase takes."""
         zeros = "A" * 43
         for log, said in (
             ("1", "work factor 1: a passphrase takes 2.0 KiB of memory"), ("19", "work factor 19: a passphrase takes 512.0 MiB of memory"),
@@ -304,16 +357,26 @@ class ProgramTest(Case):
             self.write("costly", f"age-encryption.org/v1\n-> scrypt AAAAAAAAAAAAAAAAAAAAAA {log}\n{zeros}\n--- {zeros}\n".encode())
             line = f"age_tool: {said or 'work factor above 22: no age_tool opens it'}\n".encode()
             with open(self.path("costly"), "rb") as costly:
-                for ended in (self.tool("inspect", "costly"), self.tool(stdin=costly)):
-                    self.see(f"a report of {log[:5]}", (ended.returncode, ended.stderr, ended.advice) == (0, b"", line), ended.stderr, ended.advice)
+                for ended in (self.on_terminal("stderr", "inspect", "costly"), self.on_terminal("stderr", stdin=costly)):
+                    self.see(f"a report of {log[:5]}", (ended.returncode, ended.stderr) == (0, line if len(log) < 4 else b""), ended.stderr)
+            ended = self.tool("inspect", "costly")
+            self.see(f"a report of {log[:5]} to a pipe", (ended.returncode, ended.stderr, ended.advice) == (0, b"", b""), ended.advice)
             if log != "1":
                 ended = self.decrypt("--max-log", "1", "costly", "back")
                 self.ends(f"a limit below {log[:5]}", ended, 1, b"", b"age_tool: 11 WorkTooHigh\n")
                 retry = f": if you trust the file, retry with --max-log {log}" if said else ""
                 wanted = line.replace(b"age_tool: ", b"age_tool: costly: ", 1)[:-1] + f"{retry} (age_tool help 11)\n".encode()
                 self.see(f"the advice on {log[:5]}", ended.advice == wanted, ended.advice)
-        ended = self.tool("inspect", "pass")
-        self.see("a refused file has none", b"work factor" not in ended.advice, ended.advice)
+        scrypt = f"-> scrypt AAAAAAAAAAAAAAAAAAAAAA 1\n{zeros}\n"
+        for what, stanzas in (
+            ("two stanzas", f"{scrypt}-> X25519 {zeros}\n{zeros}\n"), ("two of a passphrase", 2 * scrypt), ("a longer body", f"{scrypt[:-1]}A\n"),
+            ("a body of two lines", f"{scrypt[:35]}{64 * 'A'}\n\n"), ("a short salt", scrypt.replace("A", "", 1)), ("no passphrase", f"-> X25519 {zeros}\n{zeros}\n"),
+        ):
+            self.write("unopened", f"age-encryption.org/v1\n{stanzas}--- {zeros}\n".encode())
+            ended = self.on_terminal("stderr", "inspect", "unopened")
+            self.see(f"no passphrase opens {what}", (ended.returncode, ended.stderr) == (0, b""), ended.stderr)
+        ended = self.on_terminal("stderr", "inspect", "pass")
+        self.see("a refused file has none", b"work factor" not in ended.stderr, ended.stderr)
 
     def test_what_takes_long(self):
         """From 64 MiB on: a terminal shows that the disk is waited for, and a log nothing of it; an old output is copied first, which is said with
@@ -358,37 +421,62 @@ class ProgramTest(Case):
         ):
             ended = self.decrypt(f"--save={name}", "--", "cut.age", f"{name}.part")
             command = ended.advice.decode().rpartition("to go on from there: ")[2].removesuffix(ANEW)
-            is_command = command.startswith("age_tool resume --position ") and command.endswith(" .. IN NEW\n")
+            is_command = command.startswith("age_tool resume --position ") and command.endswith(" --pass pass cut.age NEW\n")
             self.see(f"a command for {name!r}", is_command and command[:-1].isprintable(), ended.advice)
-            given = f'"$0" {command[:-11].removeprefix("age_tool ")} --pass pass plain.age whole'
-            pasted = subprocess.run(["bash", "-c", given, self.program], cwd=self.room, capture_output=True, env={"LC_ALL": "C"})
-            self.see(f"the command for {name!r}", pasted.returncode == 0 and self.read("whole") == self.plain, command, pasted.stderr)
-            self.remove("whole")
+            self.write("cut.age", self.age)
+            for shell in ("bash", "dash") if name.isprintable() else ("bash",):
+                given = f'age_tool() {{ "$0" "$@"; }}; {command.replace(" NEW", " whole")}'
+                pasted = subprocess.run([shell, "-c", given, self.program], cwd=self.room, capture_output=True, env={"LC_ALL": "C"})
+                self.see(f"the command for {name!r} in {shell}", pasted.returncode == 0 and self.read("whole") == self.plain, command, pasted.stderr)
+                self.remove("whole")
+            self.write("cut.age", self.age[:150_000])
         self.see("no name is run", not self.is_there("RUN"))
         for name, shown in (
-            ("./a_b-c:d,e+f@g%h.9", "./a_b-c:d,e+f@g%h.9"), ("a b;c", "'a b;c'"), ("gr\u00f6\u00dfe", "'gr\u00f6\u00dfe'"), ("it's", r"$'it\'s'"), ("tab\t", r"$'tab\011'"),
+            ("./a_b-c:d,e+f@g%h.9", "./a_b-c:d,e+f@g%h.9"), ("a b;c", "'a b;c'"), ("gr\u00f6\u00dfe", "'gr\u00f6\u00dfe'"), ("it's", r"'it'\''s'"), ("tab\t", r"$'tab\011'"),
         ):
             ended = self.decrypt("--save", name, "cut.age", "part")
-            self.see(f"the form of {name!r}", f" --position {shown} --old part .. IN NEW\n".encode() in ended.advice, ended.advice)
+            self.see(f"the form of {name!r}", f" --position {shown} --old part --pass pass cut.age NEW\n".encode() in ended.advice, ended.advice)
         long = "./" * 600 + "position"
         ended = self.decrypt("--save", long, "cut.age", "part")
-        said = f"age_tool: position saved in {long[:1000]}..; to go on from there: age_tool resume --position {long} --old part .. IN NEW\n{ANEW}"
+        said = f"age_tool: position saved in {long[:1000]}..; to go on from there: age_tool resume --position {long} --old part --pass pass cut.age NEW\n{ANEW}"
         self.see("a long name is whole in the command", ended.advice.endswith(said.encode()), ended.advice)
 
     def test_advice_on_positions(self):
         self.write("cut.age", self.age[:150_000])
         ended = self.decrypt("--save", "position", "cut.age", "part")
-        said = b"age_tool: position saved in position; to go on from there: age_tool resume --position position --old part .. IN NEW\n" + ANEW.encode()
+        command = b"age_tool: position saved in position; to go on from there: age_tool resume --position position --old part %s NEW\n" + ANEW.encode()
+        said = command % b"--pass pass cut.age"
         self.see("a position was saved", ended.advice.endswith(said), ended.advice)
-        ended = self.decrypt("--save", "position", "cut.age", "/dev/null")
-        said_of_null = b"age_tool: position saved in position; resume would need the text that /dev/null took\n"
-        self.see("whose old output is nowhere", ended.advice.endswith(said_of_null), ended.advice)
+        for name in ("/dev/null", "/dev/zero"):
+            ended = self.decrypt("--save", "position", "cut.age", name)
+            said_of_device = f"age_tool: position saved in position; resume would need the text that {name} took\n".encode()
+            self.see(f"whose old output is nowhere: {name}", ended.advice.endswith(said_of_device), ended.advice)
+        ended = self.decrypt("--save", "position", "cut.age", "/dev/full")
+        self.see("what a full device took is no old text", b"--old /dev/full" not in ended.advice, ended.advice)
+        with open(self.path("cut.age"), "rb") as cut:
+            ended = self.decrypt("--save=position", "/dev/stdin", "part", stdin=cut)
+        self.see("standard input has no name", ended.advice.endswith(command % b"--pass pass IN"), ended.advice)
+        self.remove("position")
         ended = self.decrypt("--save=position", "cut.age", "/dev/stdout")
         self.see("whose old output is elsewhere", ended.advice.endswith(said.replace(b"part", b"OLD")), ended.advice)
         ended = self.decrypt("--save=position", "pass", "back")
         self.see("none was", ended.advice.endswith(b"age_tool: no position was saved\n"), ended.advice)
         ended = self.decrypt("cut.age", "part")
         self.see("none was asked for", b"position" not in ended.advice, ended.advice)
+
+    def test_position_that_is_printed(self):
+        """One that can't be saved is printed as a command of a shell, which puts it into a file from which a run goes on."""
+        self.write("cut.age", self.age[:150_000])
+        self.decrypt("--save", "position", "cut.age", "part")
+        wanted = self.read("position")
+        ended = self.decrypt("--save", "/dev/full", "cut.age", "part")
+        command = re.search(rb"(?m)^age_tool: to save the position elsewhere: (.*) > FILE$", ended.advice)
+        self.see("it is printed, and no more is said", command and ended.advice.count(b"\n") == 2 and ended.advice.endswith(b"> FILE\n"), ended.advice)
+        for shell in ("bash", "dash"):
+            subprocess.run([shell, "-c", f"{command[1].decode()} > printed"], cwd=self.room, check=True)
+            self.see(f"by {shell} it is the position", self.read("printed") == wanted, self.read("printed"))
+        ended = self.tool(*"resume --position printed --old part --pass pass plain.age whole".split())
+        self.see("a run goes on from it", ended.returncode == 0 and self.read("whole") == self.plain, ended.stderr)
 
     def test_advice_at_a_terminal(self):
         said = b"age_tool: 26 Read\nage_tool: can't open none: No such file or directory\n"

@@ -4,7 +4,6 @@ import errno
 import fcntl
 import os
 import random
-import select
 import signal
 import stat
 import subprocess
@@ -159,6 +158,47 @@ class SavingTest(FilesCase):
         self.expect(0, b"", "resume --position saved --old out --pass pass age whole", "resumed after a wait that failed")
         self.see("resumed after a wait that failed: the text", self.read("whole") == bytes(40 << 20))
 
+    def test_no_earlier_position(self):
+        """A position isn't replaced by one before it: by a resumed run whose OUT isn't known to be on the disk, or is a pipe."""
+        self.expect(1, chunk_fault(2), "decrypt --pass pass --save saved cut out", "a stop")
+        os.rename(self.path("out"), self.path("old"))
+        held = self.read("saved")
+        unsettled = chunk_fault(2) + b"age_tool: 27 Write\n"
+        words = "resume --position saved --old old --pass pass --save saved cut"
+        self.expect(1, unsettled, f"{words} out", "no wait went well", {"FSYNC": errno.EIO, "ONLY": "out"})
+        self.see("no wait went well: the position as it was", self.read("saved") == held)
+        first = self.started(f"{words} /dev/stdout", stdout=subprocess.PIPE)
+        first.stdout.read()
+        self.ends("a pipe", first, 1, unsettled)
+        self.see("a pipe: the position as it was", self.read("saved") == held)
+        self.expect(1, chunk_fault(2), f"{words} out", "all went well")
+        self.see("all went well: a position", self.is_position("saved", 2))
+
+    def test_first_chunk(self):
+        """A position at chunk 0 is put only where nothing has the name: it takes the place of nothing."""
+        self.write("first", self.age[:400] + b"?" + self.age[401:])
+        words = "decrypt --pass pass --save saved first out"
+        self.expect(1, chunk_fault(0), words, "nothing has the name")
+        self.see("nothing has the name: a position", self.is_position("saved", 0) and not self.is_there("out"))
+        first = self.read("saved")
+        self.expect(1, chunk_fault(2), "decrypt --pass pass --save other cut old", "a stop at a later chunk")
+        for name, held in (("a later position", self.read("other")), ("another file", b"somebody's file"), ("an empty file", b"")):
+            self.write("saved", held)
+            ended = self.tool(*words.split())
+            self.see(name, (ended.returncode, ended.stderr) == (1, chunk_fault(0)), ended.stderr)
+            self.see(f"{name}: said", ended.advice.endswith(b"age_tool: no position was saved\n"), ended.advice)
+            self.see(f"{name}: as it was", self.read("saved") == held and os.listdir(self.room).count("saved.new-0") == 0)
+        self.remove("saved")
+        os.symlink("nothing", self.path("saved"))
+        self.expect(1, chunk_fault(0), words, "a link to nothing")
+        self.see("a link to nothing: as it was", self.path("saved").is_symlink() and not self.is_there("nothing"))
+        self.remove("saved")
+        self.write("saved", first)
+        self.expect(1, chunk_fault(0), "resume --position saved --old none --pass pass --save saved first out", "a resumed run")
+        self.see("a resumed run: as it was", self.read("saved") == first)
+        self.expect(1, chunk_fault(2), "resume --position saved --old none --pass pass --save saved cut out", "a later stop")
+        self.see("a later stop: a position", self.is_position("saved", 2))
+
     def test_pipe(self):
         """Of what a pipe took, the last 4 MiB may still be on their way: the position is before them, and not far before."""
         text = random.Random(1).randbytes(12 << 20)
@@ -187,6 +227,11 @@ class SavingTest(FilesCase):
         os.truncate(self.path("out"), 131072 + 5)
         feeding.stops("OUT was made longer", chunk_fault(2))
         self.see("OUT was made longer: a position", self.is_position("saved", 2))
+        with open(self.path("out"), "wb") as out:
+            feeding = Feeding(self, "decrypt --pass pass --save saved in /dev/stdout", stdout=out)
+            os.truncate(self.path("out"), 70000)
+            feeding.stops("standard output's file was cut off", chunk_fault(2))
+        self.see("standard output's file was cut off: a position within it", self.is_position("saved", 1), self.read("saved"))
 
     # ---- room for a position
 
@@ -341,30 +386,17 @@ class SavingTest(FilesCase):
 
     @needs(root=True)
     def test_unreadable_pipe(self):
-        """The line of the fault comes before the position is saved, which waits at a pipe that may only be written."""
+        """A pipe that may only be written is refused at once: opening it would wait for a reader. A reader of another gets its end."""
         os.umask(0)
         os.mkfifo(self.path("inbox"), 0o222)
         os.umask(0o022)
-        os.mkfifo(self.path("in"))
-        for read in ("cut", "in"):
-            for is_killed in (True, False):
-                with subprocess.Popen(["sh", "-c", "exec cat cut >in"], cwd=self.room) as feeding:
-                    self.see_fault_first(read, is_killed)
-                    feeding.kill()
-
-    def see_fault_first(self, read, is_killed):
-        """Counts whether the line of the fault is there while the run waits to save its position."""
-        name = f"a pipe that may only be written, IN is {read}, {is_killed}"
-        first = self.started(f"decrypt --pass pass --save inbox {read} /dev/null", **as_nobody())
-        came = select.select([first.stderr], [], [], SECONDS)[0]
-        self.see(f"{name}: the fault", came and first.stderr.readline() == chunk_fault(2))
-        self.see(f"{name}: it is waited at", first.poll() is None)
-        if is_killed:
-            first.kill()
-            self.ends(f"{name}: the run is killed", first, -signal.SIGKILL, b"")
-        else:
-            self.see(f"{name}: a position", self.read("inbox").startswith(b"age-position/v2 2 "))
-            self.ends(f"{name}: the run goes on", first, 1, b"")
+        words = "decrypt --pass pass --save inbox cut new"
+        self.expect(1, unwritten("inbox", errno.EACCES), words, "a pipe that may only be written", **as_nobody())
+        self.see("a pipe that may only be written: nothing was begun", not self.is_there("new"))
+        os.mkfifo(self.path("pipe"))
+        with subprocess.Popen(["cat", "pipe"], cwd=self.room, stdout=subprocess.PIPE) as reader:
+            self.expect(0, b"", "decrypt --pass pass --save pipe age out", "a run that saves no position")
+            self.see("a run that saves no position: its reader ends", reader.communicate(timeout=SECONDS) == (b"", None))
 
     def test_direct(self):
         """If no file can be made next to the one of `--save`, or take its place, that one is written itself."""

@@ -1,7 +1,7 @@
 /* A file system over a folder (by libfuse), whose calls fail or take time as variables of the environment say. The first word is the
  * folder; the others go to libfuse.
  *
- * FLUSH and FSYNC: closing and syncing a file fails with that error. READ: a read of what is at FROM or beyond fails with that one, and so
+ * FLUSH and FSYNC: closing what was written, and syncing a file, fails with that error. READ: a read of what is at FROM or beyond fails with that one, and so
  * does each read after it. NOLINK: files get no second name. DELAY: each question about a file's status, and each write, takes so many
  * milliseconds; each read of a KiB takes PACE microseconds. CALLS names a file that gets a letter for each of them: g or w. */
 #define FUSE_USE_VERSION 31
@@ -63,9 +63,12 @@ static int read_file(const char *name, char *into, size_t size, off_t at, struct
     if (n > 0 && getenv("PACE")) usleep(atol(getenv("PACE")) * n / 1024);
     return answer(n);
 }
+// Something was written since a file was closed.
+static int has_written;
 static int write_file(const char *name, const char *from, size_t size, off_t at, struct fuse_file_info *file) {
     (void)name;
     note('w');
+    has_written = 1;
     return answer(pwrite(file->fh, from, size, at));
 }
 static int cut(const char *name, off_t length, struct fuse_file_info *file) {
@@ -73,7 +76,9 @@ static int cut(const char *name, off_t length, struct fuse_file_info *file) {
 }
 static int flush(const char *name, struct fuse_file_info *file) {
     (void)name, (void)file;
-    return failing("FLUSH");
+    int had_written = has_written;
+    has_written = 0;
+    return had_written ? failing("FLUSH") : 0;
 }
 static int sync_file(const char *name, int only_data, struct fuse_file_info *file) {
     (void)name, (void)only_data, (void)file;

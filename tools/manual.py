@@ -8,7 +8,7 @@ from tools.workspace import TOP
 SOURCE, PAGE = TOP / "docs" / "FAULTS.md", TOP / "docs" / "age_tool-faults.7"
 ROWS = TOP / "crates" / "age_tool" / "src" / "faults.rt"
 HEAD = """.\\" Made from docs/FAULTS.md by checks/documents --write.
-.TH AGE_TOOL-FAULTS 7 2026-11-29 "age_tool" "Faults"
+.TH AGE_TOOL-FAULTS 7 2026-11-30 "age_tool" "Faults"
 .SH NAME
 age_tool\\-faults \\- what the faults of age_tool mean, what they leave, and what to do
 .SH DESCRIPTION
@@ -19,7 +19,6 @@ OUT is the output of
 .B decrypt
 or
 .BR resume .
-"As it was" means: as before the run.
 The first line of a header is line 1, and the first chunk (65,536 bytes of plaintext) is chunk 0.
 """
 

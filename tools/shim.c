@@ -5,7 +5,8 @@
  * FSYNC, FTRUNCATE, FLOCK, RENAME, LINK and WRITE (from write number AT on):
  * these fail with that error. ONLY says of which kind of file FSYNC fails: d, f or b; or 1, standard output alone, or out, the file of
  * that name. FROM: it fails from that call on. Each call number EVERY of read and write is interrupted. READ: read number AT of a pipe
- * fails with that error, and no other.
+ * fails with that error, and no other. STATX: look number AT at a file fails with that error, and with ON each later one; COUNT names a
+ * file that is made then.
  *
  * SWAP: `folder` leads to `other` before that write to a place in a file. PIPED: before that open of `saved` to be written a pipe takes
  * its place. TURNED: as `cut` is opened, `saved` becomes a link to that. GONE: `out` is removed before it is opened to be written. TRIGGER names a file that gets a 1 before the first sync. SYNCED names one that gets a line for each file that is synced.
@@ -218,6 +219,16 @@ ssize_t writev(int fd, const struct iovec *parts, int count) {
         left -= size;
     }
     return n;
+}
+static int is_refused_look(void) {
+    static long looks;
+    looks++;
+    if (!getenv("STATX") || looks < number("AT") || (looks > number("AT") && !getenv("ON"))) return 0;
+    if (getenv("COUNT")) close(NEXT(open)(getenv("COUNT"), O_CREAT | O_WRONLY, 0600));
+    return fails("STATX");
+}
+int statx(int folder, const char *restrict name, int flags, unsigned mask, struct statx *restrict found) {
+    return is_refused_look() ? -1 : NEXT(statx)(folder, name, flags, mask, found);
 }
 int ftruncate(int fd, off_t length) {
     int ended = fails("FTRUNCATE") ? broke(fd) : NEXT(ftruncate)(fd, length);

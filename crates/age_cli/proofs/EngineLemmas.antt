@@ -1,23 +1,30 @@
 -- What becomes of OUT, from what an engine promises and how OUT was ended.
-use Rattle.std.proofs.Common.{◌≡◌, ◌∙◌, ◌⊎◌, ◌++◌, ◌∷◌, ◌<◌, ℕ, ap, sym, subst, refl, inl, inr, true, List, [], Option, Some, None, Result, Ok, Err}
+use Rattle.std.proofs.Common.{◌≡◌, ◌∙◌, ◌⊎◌, ◌++◌, ◌∷◌, ◌<◌, ℕ, ap, sym, subst, refl, inl, inr, true, true≢false, List, [], Option, Some, None, Result, Ok, Err}
 use Rattle.std.proofs.Common.{OnOk, IfOk, IfErr}
-use Rattle.std.specs.Prelude.{IsSomeAnd, IfSome, is_some, ◌≢◌}
+use Rattle.std.specs.Prelude.{IsSomeAnd, IfSome, MatchOption, is_some, ◌≢◌, Contains, Bool, false}
 use Rattle.clap.specs.Words.{Text}
 use Rattle.age_file.specs.{Ports, SecretView, EncryptsFront}
 use Rattle.age_file.specs.declared.encryption.Written.{Written}
 use Rattle.age_file.specs.Encrypts.{Encrypts}
 use Rattle.age_fault.specs.declared.fault.FileFault.{FileFault}
-use Rattle.age_fileset.specs.{Event, FilesView, Close, Outcome, Found, Absent, Unwritten, Settled, Entry, entry, PutsOnly, CameSince}
+use Rattle.age_fileset.specs.{Event, FilesView, Close, Outcome, Found, Absent, Unwritten, Settled, Put, Entry, entry, PutsOnly, CameSince}
 use Rattle.age_fileset.proofs.{grows_then}
 use Rattle.age_cli_args.specs.declared.request.ClobberOption.TheVariants.{Refused}
 use Rattle.age_cli_args.specs.declared.request.Paths.{Paths}
 use Rattle.age_command.specs.{Follows}
 use Rattle.age_command.specs.declared.ending.Ending.{Ending}
 use Rattle.age_command.specs.declared.ending.Ending.TheVariants.{Fault}
-use Rattle.age_machine.specs.{EndedFile, OutFile, TouchesItself}
+use Rattle.age_machine.specs.{EndedFile, OutFile, TouchesItself, TouchesFile, FileCall, Opened, opening_of, is_waited, AllAnswered}
+use Rattle.age_machine.specs.declared.machine.Kind.TheVariants.{Regular}
+use Rattle.age_machine.specs.declared.in_place.Opening.{Opening}
+use Rattle.age_machine.specs.declared.in_place.Opening.TheVariants as way
+use Rattle.age_machine.specs.Disk.{Disk}
+use Rattle.age_machine.specs.Ends.{OpensDevice}
+use Rattle.age_machine.proofs.LawLemmas.{calls_answered}
+use Rattle.age_cli.specs.Acts.{IsAnsweredOnce}
 use Rattle.age_cli.specs.{WasRead, Engine, encrypt_engine, Returned, HasEngineEnded, HasEngineStopped, Interruption}
 use Rattle.age_cli.specs.inner.{AreNew, sealing_end, Concludes, IsPut}
-use Rattle.age_cli.proofs.PutLemmas.{saved_as}
+use Rattle.age_cli.proofs.PutLemmas.{due_as, saved_as, put_came}
 
 -- ---- What an engine promises, by how it ended.
 
@@ -37,13 +44,32 @@ pub sealing_stops : (secret : SecretView) (before after : Ports) (r : Result Wri
 sealing_stops secret before after (Ok written) fails = tt
 sealing_stops secret before after (Err f) fails = (fails, refl)
 
+-- ---- A disk that answers the calls of an output.
+
+unwaited : (path : List ℕ) (n : ℕ) (opening : Opening) → is_waited opening ≡ false → opening_of path n opening ≡ Opened path n (Regular false)
+unwaited path n way.New not = absurd (true≢false not)
+unwaited path n (way.Found named waited) not = ap (λ w. Opened path n (Regular w)) not
+
+answered_file : (f : OutFile) (calls : List FileCall) (touches : TouchesFile f calls) (waits : Bool) → is_waited touches.opening ≡ waits
+    → ((disk : Disk) × AllAnswered f.path calls disk) ⊎ Contains calls (Opened f.path f.number (Regular false))
+answered_file f calls touches true is = inl (calls_answered f calls touches is)
+answered_file f calls touches false is = inr (subst (Contains calls) (unwaited f.path f.number touches.opening is) touches.opened)
+
+answered_by : (file : Option OutFile) (calls : List FileCall) → MatchOption file ((calls ≡ []) ⊎ ((n : ℕ) × OpensDevice n calls)) (λ f. TouchesFile f calls)
+    → IfSome file (λ f. ((disk : Disk) × AllAnswered f.path calls disk) ⊎ Contains calls (Opened f.path f.number (Regular false)))
+answered_by None calls touches = tt
+answered_by (Some f) calls touches = answered_file f calls touches (is_waited touches.opening) refl
+
+answered_once : (e : EndedFile) → TouchesItself e → IsAnsweredOnce e
+answered_once e touches = answered_by e.file e.calls touches
+
 -- ---- What becomes of the file of OUT, and of the position.
 
 module _ (IsPorts : Ports → Type 0) (Came : Outcome → Type 0) (engine : Engine) (p : Paths) (before after : Ports)
     (before_is : IsPorts before) (after_is : IsPorts after) (new : AreNew before) (input : WasRead Came (Found p.from.now) p.from.now before.source after.source)
     (fresh : p.clobber ≡ Refused → Came (Absent p.to.now)) (named : after.sink.taken.label ≡ p.to.now) where
-  abbrev returned : (e : Option EndedFile) (out : EndedFile) → e ≡ Some out → out.took ≡ after.sink.taken.bytes → TouchesItself out → Returned IsPorts Came p e
-  returned e out is took within = record {
+  abbrev returned : (e : Option EndedFile) (out : EndedFile) → e ≡ Some out → out.took ≡ after.sink.taken.bytes → Returned IsPorts Came p e
+  returned e out is took = record {
     before = before;
     after = after;
     before_is = before_is;
@@ -55,8 +81,10 @@ module _ (IsPorts : Ports → Type 0) (Came : Outcome → Type 0) (engine : Engi
     out = out;
     is = is;
     took = took;
-    within = within;
   }
+
+  same_put : (out : EndedFile) → out.took ≡ after.sink.taken.bytes → Put after.sink.taken.label after.sink.taken.bytes ≡ Put p.to.now out.took
+  same_put out took = ap (λ n. Put n after.sink.taken.bytes) named ∙ ap (λ b. Put p.to.now b) (sym took)
 
   same_entry : (out : EndedFile) → out.took ≡ after.sink.taken.bytes → entry after.sink.taken.label after.sink.taken.bytes ≡ entry p.to.now out.took
   same_entry out took = ap (λ n. entry n after.sink.taken.bytes) named ∙ ap (λ b. entry p.to.now b) (sym took)
@@ -68,12 +96,15 @@ module _ (IsPorts : Ports → Type 0) (Came : Outcome → Type 0) (engine : Engi
         let o = the_some now.ended c.ended in
         record {
           leaves = record {
-            run = returned now.ended o.0 o.1 o.2.took o.2.within;
+            run = returned now.ended o.0 o.1 o.2.took;
             promise = did.0;
+            named = subst Came (same_put o.0 o.2.took) (late _ (put_came after.sink.taken.label after.sink.taken.bytes mid now c.puts_only));
             closed = o.2.closed;
             there = o.2.there (did.1 ∙ new.failed);
             safe = λ synced. o.2.safe synced (did.1 ∙ new.failed);
+            answered = answered_once o.0 o.2.within;
           };
+          within = o.2.within;
           puts = subst (λ (x : Entry). PutsOnly (x ∷ []) old now) (same_entry o.0 o.2.took)
               (grows_then [] (entry after.sink.taken.label after.sink.taken.bytes ∷ []) old mid now opened c.puts_only);
         }
@@ -92,7 +123,8 @@ module _ (IsPorts : Ports → Type 0) (Came : Outcome → Type 0) (engine : Engi
     engine_stopped done closed (Ok x) did stops certain (Err (Fault f)) c =
         let o = the_some now.ended c.0.ended in
         record {
-          run = returned now.ended o.0 o.1 o.2.took o.2.within;
+          run = returned now.ended o.0 o.1 o.2.took;
+          within = o.2.within;
           fault = f;
           save = Ok tt;
           reported = refl;
@@ -106,6 +138,8 @@ module _ (IsPorts : Ports → Type 0) (Came : Outcome → Type 0) (engine : Engi
           });
           outs = [];
           rest = [];
+          due = None;
+          is_due = refl;
           puts = grows_then [] [] old mid now opened c.0.puts_only;
           out = inl refl;
           saved = (refl, refl, closed c.0.noted);
@@ -113,7 +147,8 @@ module _ (IsPorts : Ports → Type 0) (Came : Outcome → Type 0) (engine : Engi
     engine_stopped done closed (Err s) did stops certain (Err e) c =
         let o = the_some now.ended c.ended in
         record {
-          run = returned now.ended o.0 o.1 o.2.took o.2.within;
+          run = returned now.ended o.0 o.1 o.2.took;
+          within = o.2.within;
           fault = s.fault;
           save = c.how;
           reported = c.reported;
@@ -129,7 +164,9 @@ module _ (IsPorts : Ports → Type 0) (Came : Outcome → Type 0) (engine : Engi
           rest = c.rest;
           puts = grows_then [] (c.outs ++ c.rest) old mid now opened c.puts_only;
           out = out_so o.0 o.2.took c.outs c.out;
-          saved = saved_as (CameSince mid now) Came late closed p.durability s.settled s.position engine.save c.how c.rest now.saved c.saved;
+          due = c.due;
+          is_due = due_as (CameSince mid now) Came late s.position engine.save c.due c.is_due;
+          saved = saved_as (CameSince mid now) Came late closed p.durability s.settled c.due engine.save c.how c.rest now.saved c.saved;
         }
     engine_stopped done closed (Ok x) did stops certain (Err e) c = absurd c
     engine_stopped done closed end did stops certain (Ok y) c = tt

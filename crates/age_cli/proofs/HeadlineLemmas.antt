@@ -1,7 +1,7 @@
 -- The headline for OUT, from what the commands did.
 use Rattle.std.proofs.Common.{◌≡◌, ◌≤◌, ◌*◌, ◌∙◌, ◌⊎◌, ◌++◌, ℕ, inl, inr, ap, sym, subst, refl, true, true≢false, List, [], ◌∷◌, length, take, Option, Some}
 use Rattle.std.proofs.Common.{None, append-nil, append_assoc, arith, rules, ⊎_elim, Bool, false, Result, Ok, Err}
-use Rattle.std.specs.Prelude.{IfSome, is_some, ◌==◌, bytes_eq, OnErr, IsErrAnd, if◌then◌else◌}
+use Rattle.std.specs.Prelude.{IfSome, is_some, ◌==◌, bytes_eq, OnErr, IsErrAnd, if◌then◌else◌, IsSomeAnd}
 use Rattle.std.specs.Option.{option_map_or, option_or}
 use Rattle.std.specs.Io.KnownBytes.{Consumes, IsAtEnd, prepend_known}
 use Rattle.age_io.specs.Supply.{Supply}
@@ -13,7 +13,7 @@ use Rattle.clap.specs.declared.error.kind.ErrorKind.TheVariants.{DisplayHelp, Di
 use Rattle.age_chunk.specs.{chunk_limit, chunk_count, chunk_length}
 use Rattle.age_stream.specs.{IsPrefixOf}
 use Rattle.age_file.proofs.RunLemmas.{Fits, begins_fits}
-use Rattle.age_file.proofs.GivenLemmas.{call_right}
+use Rattle.age_file.proofs.GivenLemmas.{call_right, gave_text}
 use Rattle.age_file.specs.{AnswersRight, Beginning, DecryptAnswers, BeginsWith, Resumption, resumption, from_either, IsFrom, position_text, Ports, Run, IsFromStart, IsRun, IsTexts}
 use Rattle.age_file.specs.declared.decryption.Done.{Done}
 use Rattle.age_file.specs.{SecretView, AgeFile}
@@ -46,6 +46,7 @@ use Rattle.age_cli.specs.Commands.{MakesSecret}
 use Rattle.age_cli.specs.{CameFirst, Engine, HasEngineStopped, IsSaved, IsStored, OfEngine, OpensOf, Returned, IsUsage, stop_ending}
 use Rattle.age_cli.specs.{WasRead, decrypt_engine, kept_for, status_by, old_found, World, Obeys, DoesOther, OpensBy, IsPositionIn}
 use Rattle.age_cli.specs.{IsRead, IsWritersInput, KeepsOut, IsWritersOld, BeginsAt, IsWritersResumption, out_of, save_of, EncryptLeavesOut, FileHolds}
+use Rattle.age_cli.specs.{DecryptLeavesOut, IsEarlierOf, IsFileIn, IsRestIn, ResumeLeavesOut}
 use Rattle.age_cli.proofs.PutLemmas.{no_usage}
 use Rattle.age_cli.proofs.ReadLemmas.{made_by}
 
@@ -299,7 +300,7 @@ module _ (words : List Text) (IsPorts : Ports → Type 0) (before after : World)
   module _ (engine : Engine) (p : Paths) (done : List Event) (ending : Ending)
       (s : HasEngineStopped IsPorts since engine p done ending before.files after.files) where
     saved_rest : (q : Text) → (engine.save ≡ Some q → ⊥) → AreOthers q s.rest
-    saved_rest q other = saved_others q s.rest since p.durability s.settled s.position engine.save s.save after.files.saved _ s.saved other
+    saved_rest q other = saved_others q s.rest since p.durability s.settled s.due engine.save s.save after.files.saved _ s.saved other
 
     left_others : (q : Text) → (Some p.to.now ≡ Some q → ⊥) → (engine.save ≡ Some q → ⊥) → AreOthers q (s.outs ++ s.rest)
     left_others q out save =
@@ -521,6 +522,159 @@ module _ (words : List Text) (IsPorts : Ports → Type 0) (before after : World)
           subst (λ (t : Text). olds t ≡ Some w.2) (same_text f.paths.from.now e.paths.from.now _ mine.paths.from its.paths.from) w.4,
           w.5,
           subst (λ (t : Text). news t ≡ Some w.3) (same_text f.paths.to.now e.paths.to.now _ mine.paths.to its.paths.to) w.6,
+        )
+    go asked acts mine = absurd (differs _ _ name is_asked.0 mine.0 refl refl)
+
+  -- ---- What a decryption leaves.
+
+  -- what a source gave to its end is all that stood there
+  all_read : (input : Option (List ℕ)) (a b : Option (List ℕ)) (bytes : List ℕ) → is_some input ≡ true → input ≡ a → Consumes a b bytes → IsAtEnd b
+      → input ≡ Some bytes
+  all_read input a b bytes there coming read end =
+      let found = read_from a b bytes (ap is_some (sym coming) ∙ there) read in
+      coming ∙ (found.1 ∙ ap Some (ap (λ (l : List ℕ). bytes ++ l) (found.2 end) ∙ append-nil bytes))
+
+  abbrev LeavesPlain : IdentityOptions → (from to : Text) → Type 0
+  LeavesPlain u from to = (identity : Identity) × OpensBy olds u identity × (text : List ℕ) × IsFileIn identity (olds from) text × (news to ≡ Some text)
+
+  opened_text : (d : Decrypting) → DoneFor (Decrypt d) (Ok tt) → LeavesPlain d.identity d.paths.from.now d.paths.to.now
+  opened_text d acts =
+      let of = acts.done in
+      let ends = of.2 in
+      let ran = ends.leaves.run in
+      let puts = entry d.paths.to.now ran.out.took ∷ [] in
+      let others = unread [] d.paths (option_text d.identity.pass) (option_text d.identity.shared) None None (option_text d.save)
+      (λ twice. (acts.apart twice).1) puts (λ q out save. ((λ here. out (ap Some here)), tt)) in
+      let h = ends.leaves.promise in
+      let gave = gave_text (kept_for (option_text d.save)) (allows_by of.0) (refuses_by of.0) ran.before ran.after None h.0 h.1 h.2 in
+      let input = input_was puts ends.puts d None others ran in
+      let took : ran.out.took ≡ gave.0 = ran.took ∙ (gave.2.0.bytes ∙ ap (λ (l : List ℕ). l ++ gave.0) ran.taken) in (
+        of.0,
+        opened puts ends.puts d None others of.0 of.1,
+        gave.0,
+        (
+          gave.1.header,
+          gave.1.key,
+          gave.1.nonce,
+          gave.1.bytes,
+          all_read (olds d.paths.from.now) ran.before.source.supply.left ran.after.source.supply.left gave.1.bytes input.0 input.1 gave.1.read.left
+              gave.1.at_end.1,
+          gave.1.file,
+          gave.1.opens,
+        ),
+        put_since before.files after.files was is kept_was kept_is puts ends.puts d.paths.to.now ran.out.took [] refl tt ∙ ap Some took,
+      )
+
+  -- the earlier output as it stood there
+  old_was : (puts : List Entry) → PutsOnly puts before.files after.files → (p : Position) (name : Text) → AreOthers name puts
+      → (first : SourceView) (size : Option ℕ) → since (old_found p name first.supply.left size)
+      → (is_some first.supply.left ≡ true) × (first.supply.left ≡ or_empty (olds name))
+  old_was puts grows p name other first size found = go (p.index == 0) found where
+    some_empty : (o : Option (List ℕ)) → is_some (or_empty o) ≡ true
+    some_empty None = refl
+    some_empty (Some b) = refl
+
+    or_some : (o : Option (List ℕ)) → is_some o ≡ true → o ≡ or_empty o
+    or_some None there = absurd (true≢false (sym there))
+    or_some (Some b) there = refl
+
+    go : (b : Bool) → since (if b then FoundOrEmpty name first.supply.left size else Found name first.supply.left size)
+        → (is_some first.supply.left ≡ true) × (first.supply.left ≡ or_empty (olds name))
+    go true c =
+        let found = found_any_was before.files after.files was is kept_was kept_is name first.supply.left size c
+        (earlier puts grows name (FoundOrEmpty name first.supply.left size) other c) in
+        (ap is_some found ∙ some_empty (olds name), found)
+    go false c =
+        let found = found_was before.files after.files was is kept_was kept_is name first.supply.left size c
+        (earlier puts grows name (Found name first.supply.left size) other c) in
+        (found.0, found.1 ∙ or_some (olds name) (ap is_some (sym found.1) ∙ found.0))
+
+  begins_old : (held coming : Option (List ℕ)) (a more rest : List ℕ) → coming ≡ held → coming ≡ Some ((a ++ more) ++ rest)
+      → IsSomeAnd held (λ all. IsPrefixOf a all)
+  begins_old held coming a more rest is read = subst (λ (o : Option (List ℕ)). IsSomeAnd o (λ all. IsPrefixOf a all)) (sym read ∙ is)
+      (more ++ rest, sym (append_assoc a more rest))
+
+  abbrev LeavesRest : IdentityOptions → (position old from to : Text) → Type 0
+  LeavesRest u position old from to = (identity : Identity) × OpensBy olds u identity × (p : Position) × IsPositionIn (olds position) p
+      × (text : List ℕ) × IsEarlierOf p (olds old) text × IsRestIn identity p (olds from) text × (news to ≡ Some text)
+
+  resumed_text : (r : Resuming) → DoneFor (Resume r) (Ok tt)
+      → LeavesRest r.decrypting.identity r.position.now r.old.now r.decrypting.paths.from.now r.decrypting.paths.to.now
+  resumed_text r acts =
+      let d = r.decrypting in
+      let of = acts.done in
+      let p = of.2 in
+      let ends = of.4 in
+      let ran = ends.leaves.run in
+      let puts = entry d.paths.to.now ran.out.took ∷ [] in
+      let others = unread [] d.paths (option_text d.identity.pass) (option_text d.identity.shared) (Some r.position.now) (Some r.old.now) (option_text d.save)
+      (λ twice. (acts.apart twice).1) puts (λ q out save. ((λ here. out (ap Some here)), tt)) in
+      let h = ends.leaves.promise in
+      let gave = gave_text (kept_for (option_text d.save)) (allows_by of.0) (refuses_by of.0) ran.before ran.after (Some (resumption p h.0 h.1))
+      h.5.0 h.5.1 h.5.2 in
+      let input = input_was puts ends.puts d (Some r.old.now) others ran in
+      let old = old_was puts ends.puts p r.old.now (others r.old.now (inr (inr (inr (inl refl))))) h.0 h.4.size h.4.found in
+      let front = gave.1.0 in
+      let rest = gave.1.1 in
+      let copied = take (p.index * chunk_length) gave.0 in
+      let read = read_from h.0.supply.left h.1.supply.left (copied ++ front.more) old.0 front.read.left in
+      let took : ran.out.took ≡ gave.0 = ran.took ∙ (gave.2.0.bytes ∙ ap (λ (l : List ℕ). l ++ gave.0) ran.taken) in (
+        of.0,
+        opened puts ends.puts d (Some r.old.now) others of.0 of.1,
+        p,
+        first_was r.position.now (position_text p) of.3,
+        gave.0,
+        (front.carries, begins_old (or_empty (olds r.old.now)) h.0.supply.left copied front.more read.0 old.1 read.1),
+        (
+          rest.file,
+          rest.own,
+          rest.read.text,
+          rest.read.opens,
+          rest.read.size,
+          rest.below,
+          rest.skipped,
+          rest.size,
+          all_read (olds d.paths.from.now) ran.before.source.supply.left ran.after.source.supply.left _ input.0 input.1 rest.read.read.left rest.at_end.1,
+        ),
+        put_since before.files after.files was is kept_was kept_is puts ends.puts d.paths.to.now ran.out.took [] refl tt ∙ ap Some took,
+      )
+
+  pub opened_of : (r : Result (Unit {0}) Ending) → OnErr r (status ≡ 0 → ⊥) → Obeyed r → DecryptLeavesOut words olds news status
+  opened_of (Err ending) failed obeys d made zero = absurd (failed zero)
+  opened_of (Ok tt) failed (inr o) d (name, rows, asks, is_asked) zero = absurd (not_help words asks.taken o.done.0)
+  opened_of (Ok tt) failed (inl o) d (name, rows, asks, is_asked) zero = go o.asked o.acts (rows_of o.asked name rows asks o.made) where
+    go : (asked : Request) → DoneFor asked (Ok tt) → IsRequest name rows asked → LeavesPlain d.identity d.paths.from.now d.paths.to.now
+    go (Decrypt e) acts (is_its, mine) =
+        let its = is_asked.1 in
+        let w = opened_text e acts in (
+          w.0,
+          same_opens rows e.identity d.identity mine.identity its.identity olds w.0 w.1,
+          w.2,
+          subst (λ (t : Text). IsFileIn w.0 (olds t) w.2) (same_text e.paths.from.now d.paths.from.now _ mine.paths.from its.paths.from) w.3,
+          subst (λ (t : Text). news t ≡ Some w.2) (same_text e.paths.to.now d.paths.to.now _ mine.paths.to its.paths.to) w.4,
+        )
+    go asked acts mine = absurd (differs _ _ name is_asked.0 mine.0 refl refl)
+
+  pub resumed_of : (r : Result (Unit {0}) Ending) → OnErr r (status ≡ 0 → ⊥) → Obeyed r → ResumeLeavesOut words olds news status
+  resumed_of (Err ending) failed obeys a made zero = absurd (failed zero)
+  resumed_of (Ok tt) failed (inr o) a (name, rows, asks, is_asked) zero = absurd (not_help words asks.taken o.done.0)
+  resumed_of (Ok tt) failed (inl o) a (name, rows, asks, is_asked) zero = go o.asked o.acts (rows_of o.asked name rows asks o.made) where
+    go : (asked : Request) → DoneFor asked (Ok tt) → IsRequest name rows asked
+        → LeavesRest a.decrypting.identity a.position.now a.old.now a.decrypting.paths.from.now a.decrypting.paths.to.now
+    go (Resume s) acts (is_its, mine) =
+        let its = is_asked.1 in
+        let d = a.decrypting in
+        let e = s.decrypting in
+        let w = resumed_text s acts in (
+          w.0,
+          same_opens rows e.identity d.identity mine.decrypting.identity its.decrypting.identity olds w.0 w.1,
+          w.2,
+          subst (λ (t : Text). IsPositionIn (olds t) w.2) (same_text s.position.now a.position.now _ mine.position its.position) w.3,
+          w.4,
+          subst (λ (t : Text). IsEarlierOf w.2 (olds t) w.4) (same_text s.old.now a.old.now _ mine.old its.old) w.5,
+          subst (λ (t : Text). IsRestIn w.0 w.2 (olds t) w.4)
+              (same_text e.paths.from.now d.paths.from.now _ mine.decrypting.paths.from its.decrypting.paths.from) w.6,
+          subst (λ (t : Text). news t ≡ Some w.4) (same_text e.paths.to.now d.paths.to.now _ mine.decrypting.paths.to its.decrypting.paths.to) w.7,
         )
     go asked acts mine = absurd (differs _ _ name is_asked.0 mine.0 refl refl)
 

@@ -14,13 +14,13 @@ use Rattle.age_file.specs.{position_text}
 use Rattle.age_file.specs.declared.position.Position.{Position}
 use Rattle.age_machine.specs.{Closes, Discards, EndedFile, OutFile, SavedFile, IsThere, IsOnDisk}
 use Rattle.age_machine.specs.Saved.{Saves}
-use Rattle.age_fileset.specs.{Unwritten, Entry, entry, FilesView, Close, Does, PutsOnly, CameSince, IsMemoryOr, Outcome, Put, refused_as, written_as, puts_in}
-use Rattle.age_fileset.proofs.{came_one, none_plain, grows_then, grows_by, then_came, did_events, unwritten_puts}
+use Rattle.age_fileset.specs.{Unwritten, Entry, entry, FilesView, Close, Does, PutsOnly, CameSince, IsMemoryOr, Absent, Outcome, Put, refused_as, written_as, puts_in}
+use Rattle.age_fileset.proofs.{came_one, came_then, none_plain, grows_then, grows_by, then_came, did_events, unwritten_puts}
 use Rattle.age_command.proofs.{followed, longer, then_follows}
 use Rattle.age_command.specs.{Follows, is_usage, replacing}
 use Rattle.age_command.specs.declared.ending.Ending.{Ending}
 use Rattle.age_command.specs.declared.ending.Ending.TheVariants.{Fault}
-use Rattle.age_cli.specs.{IsThereUnlessFailed, IsSaved, Interruption, stop_ending}
+use Rattle.age_cli.specs.{IsDue, IsThereUnlessFailed, IsSaved, Interruption, stop_ending}
 use Rattle.age_cli.specs.inner.{ClosesOut, Concludes, IsLeft, IsPut, IsUnsavable, LacksOne, LeavesOut, PutsRest, SavesStop}
 use Rattle.age_cli.proofs.OpeningLemmas.{same_events}
 use Rattle.age_command.proofs.FileLemmas.{did_came}
@@ -45,6 +45,24 @@ lost_came name fault old new is same = came_one old new (Unwritten name) (is ∙
 pub grows_put : (name bytes : List ℕ) (old new : FilesView) → new.outcomes ≡ old.outcomes ++ Put name bytes ∷ [] → PutsOnly (entry name bytes ∷ []) old new
 unfolding puts_in
 grows_put name bytes old new is = record { more = Put name bytes ∷ []; is = is; puts_are = refl }
+
+no_entry : (e : Entry) (es : List Entry) → [] ≡ e ∷ es → ⊥
+no_entry e es is = cc
+
+put_among : (more : List Outcome) (name bytes : List ℕ) → puts_in more ≡ entry name bytes ∷ []
+    → (before : List Outcome) × (later : List Outcome) × (more ≡ before ++ Put name bytes ∷ later)
+unfolding puts_in
+put_among [] name bytes is = absurd (no_entry _ _ is)
+put_among (Put n b ∷ more) name bytes is =
+    let one : entry n b ≡ entry name bytes = cc in
+    ([], more, ap (λ (e : Entry). Put e.name e.bytes ∷ more) one)
+put_among (o ∷ more) name bytes is = let h = put_among more name bytes is in (o ∷ h.0, h.1, ap (λ l. o ∷ l) h.2)
+
+-- and so it came
+pub put_came : (name bytes : List ℕ) (old new : FilesView) → PutsOnly (entry name bytes ∷ []) old new → CameSince old new (Put name bytes)
+put_came name bytes old new puts =
+    let h = put_among puts.more name bytes puts.puts_are in
+    record { before = h.0; later = h.1; is = puts.is ∙ ap (λ l. old.outcomes ++ l) h.2 }
 
 -- an output was closed, which took bytes
 pub left_puts : (sink : SinkView) (r : Result (Unit {0}) FileFault) (old new : FilesView) → new.outcomes ≡ old.outcomes ++ written_as sink.taken.label sink.taken.bytes r
@@ -109,11 +127,13 @@ module _ (durability : Durability) (old new : FilesView) where
   puts_so settled save None (Err second) saved why = absurd (true≢false (sym why.2))
   puts_so settled None (Some p) (Err second) saved why = absurd (true≢false (sym why.1))
 
-  pub puts_rest : (save : Option Text) (stop : Interruption) (how : Result (Unit {0}) FileFault) → Saved durability save stop.settled stop.position old new how
-      → WhySaved save stop.position how → PutsRest durability save stop old new (stop_ending stop.fault how)
-  puts_rest save stop how saved why =
-      let so = puts_so stop.settled save stop.position how saved why in
-      record { how = how; reported = refl; rest = so.0; puts = so.1; saved = so.2 }
+-- what is due, by what was said by then
+pub due_as : (Came Later : Outcome → Type 0) → ((o : Outcome) → Came o → Later o) → (position : Option Position) (save : Option Text) (due : Option Position)
+    → IsDue Came position save due → IsDue Later position save due
+due_as Came Later so (Some p) (Some name) due (inl (same, absent)) = inl (same, λ first. so (Absent name) (absent first))
+due_as Came Later so (Some p) (Some name) due (inr none) = inr none
+due_as Came Later so (Some p) None due same = same
+due_as Came Later so None save due same = same
 
 -- what was said by then
 pub saved_as : (Came Later : Outcome → Type 0) {Untried Untried' : Type 0} → ((o : Outcome) → Came o → Later o) → (Untried → Untried') → (durability : Durability) (settled : ℕ)
@@ -131,6 +151,22 @@ saved_as Came Later so then durability settled (Some p) (Some name) how rest sav
 saved_as Came Later so then durability settled (Some p) None how rest saved (well, none, untried) = (well, none, then untried)
 saved_as Came Later so then durability settled None save how rest saved (well, none, untried) = (well, none, then untried)
 
+-- what is due was found, and then it was put, or not
+pub puts_rest : (durability : Durability) (old mid new : FilesView) → Does [] old mid → (save : Option Text) (stop : Interruption) (due : Option Position)
+    → IsDue (CameSince old mid) stop.position save due → (how : Result (Unit {0}) FileFault) → Saved durability save stop.settled due mid new how
+    → WhySaved save due how → PutsRest durability save stop old new (stop_ending stop.fault how)
+puts_rest durability old mid new did save stop due is how saved why =
+    let so = puts_so durability mid new stop.settled save due how saved why in
+    record {
+      how = how;
+      reported = refl;
+      rest = so.0;
+      puts = grows_then [] so.0 old mid new (grows_by [] old mid did) so.1;
+      due = due;
+      is_due = due_as (CameSince old mid) (CameSince old new) (came_then so.0 old mid new so.1) stop.position save due is;
+      saved = saved_as (CameSince mid new) (CameSince old new) (did_came did) (λ kept. kept ∙ same_events did) durability stop.settled due save how so.0 new.saved so.2;
+    }
+
 -- ---- How an output was ended.
 
 module _ {save : Option Text} {durability : Durability} {sink : SinkView} {stop : Interruption} {old mid new : FilesView} {e : Ending} where
@@ -146,7 +182,9 @@ module _ {save : Option Text} {durability : Durability} {sink : SinkView} {stop 
     rest = by.rest;
     puts_only = grows_then left.outs by.rest old mid new left.puts_only by.puts;
     out = left.out;
-    saved = saved_as (CameSince mid new) (CameSince old new) (then_came left.outs old mid new left.puts_only) (λ kept. kept ∙ left.noted) durability stop.settled stop.position save
+    due = by.due;
+    is_due = due_as (CameSince mid new) (CameSince old new) (then_came left.outs old mid new left.puts_only) stop.position save by.due by.is_due;
+    saved = saved_as (CameSince mid new) (CameSince old new) (then_came left.outs old mid new left.puts_only) (λ kept. kept ∙ left.noted) durability stop.settled by.due save
         by.how by.rest new.saved by.saved;
   }
 
@@ -161,8 +199,10 @@ module _ {save : Option Text} {durability : Durability} {sink : SinkView} {stop 
     rest = s.rest;
     puts_only = grows_then [] (s.outs ++ s.rest) old mid new (grows_by [] old mid did) s.puts_only;
     out = s.out;
+    due = s.due;
+    is_due = due_as (CameSince mid new) (CameSince old new) (did_came did) stop.position save s.due s.is_due;
     saved = saved_as (CameSince mid new) (CameSince old new) (did_came did) (λ noted. noted ∙ ap (λ es. es ++ Close durability ∷ []) (same_events did)) durability stop.settled
-        stop.position save s.how s.rest new.saved s.saved;
+        s.due save s.how s.rest new.saved s.saved;
   }
 
 module _ (save : Option Text) (durability : Durability) (sink : SinkView) (old mid new : FilesView) (did : Does [] old mid) where

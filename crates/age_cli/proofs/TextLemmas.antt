@@ -59,9 +59,11 @@ module _ (IsPorts : Ports → Type 0) (Came : Outcome → Type 0) (p : Paths) (e
   leaves Gives Promise l text gave wrote = record {
     run = l.run;
     promise = subst (λ (t : List ℕ). Gives l.run.before l.run.after t) (sym (l.run.took ∙ (wrote.bytes ∙ ap (λ (b : List ℕ). b ++ text) l.run.taken))) gave;
+    named = l.named;
     closed = l.closed;
     there = l.there;
     safe = l.safe;
+    answered = l.answered;
   }
 
   pub leaves_file : (secret : SecretView) → LeavesText IsPorts Came (λ old new took. (encrypt_engine secret).ends old new) p ended
@@ -88,7 +90,8 @@ module _ (IsPorts : Ports → Type 0) (Came : Outcome → Type 0) (p : Paths) (e
 
 -- ---- One that stopped before it wrote.
 
-module _ (IsPorts : Ports → Type 0) (Came : Outcome → Type 0) (p : Paths) (old ended : Option EndedFile) (run : Returned IsPorts Came p ended) where
+module _ (IsPorts : Ports → Type 0) (Came : Outcome → Type 0) (p : Paths) (old ended : Option EndedFile) (run : Returned IsPorts Came p ended)
+    (within : TouchesItself run.out) where
   abbrev Untouched : Type 0
   Untouched = run.out.took ≡ [] → IsUntouched run.after.sink.failed run.out
 
@@ -97,7 +100,7 @@ module _ (IsPorts : Ports → Type 0) (Came : Outcome → Type 0) (p : Paths) (o
       let none : run.out.took ≡ [] = run.took ∙ (ap (λ (s : SinkView). s.taken.bytes) same ∙ run.taken) in
       let unfailed : run.after.sink.failed ≡ 0 = ap (λ (s : SinkView). s.failed) same ∙ run.failed in
       inr (subst (λ (o : Option EndedFile). IsSomeAnd o (λ out. TouchesItself out × (out.took ≡ []) × IsUntouched 0 out)) (sym run.is)
-      (run.within, none, subst (λ (n : ℕ). IsUntouched n run.out) unfailed (so none)))
+      (within, none, subst (λ (n : ℕ). IsUntouched n run.out) unfailed (so none)))
 
   -- by what its run promises of a stop
   spares_early : (identity : Identity) (from : Option Resumption) (stop : Stopped) → Untouched → IsBeforeText stop.fault
@@ -133,7 +136,7 @@ module _ (IsPorts : Ports → Type 0) (before after : FilesView) (ending : Endin
       → HasEngineStopped IsPorts since (decrypt_engine IsPorts since save identity earlier) p done ending before after → SparesOut before.ended after.ended
   spares_stop p identity save earlier done s =
       let mine : IsBeforeText s.fault = subst IsBeforeText (same_fault fault s.fault s.save (subst (IsEndingOf fault) s.reported is)) early in
-      ⊎_elim (λ stop. spares_engine IsPorts since p before.ended after.ended s.run identity save earlier s.settled s.fault s.position
+      ⊎_elim (λ stop. spares_engine IsPorts since p before.ended after.ended s.run s.within identity save earlier s.settled s.fault s.position
       stop.untouched mine stop.promise) (λ unended. absurd (subst IsBeforeText unended.is.0 mine)) s.cause
 
   pub spares_of_request : (asked : Request) → IsForText asked

@@ -1,7 +1,7 @@
 -- What a command does with files, done or stopped.
 use Rattle.std.specs.Prelude.{◌≡◌, ℕ, true, Result, Ok, Err, if◌then◌else◌, List, [], ◌∷◌, Option, Some, None}
 use Rattle.std.specs.Prelude.{is_some, ◌++◌, OnOk, IfErr, IsErrAnd, ◌≢◌, ◌⊎◌, length, IfSome, IsSomeAnd, ◌<◌}
-use Rattle.std.specs.Prelude.{◌≤◌, ◌*◌}
+use Rattle.std.specs.Prelude.{Contains, false, ◌≤◌, ◌*◌, option_map}
 use Rattle.clap.specs.Words.{Text}
 use Rattle.age_io.specs.{SourceView, SinkView, Shown as ShownOne, ShowsReading, IsAtEnd}
 use Rattle.age_io.specs.declared.durability.Durability.{Durability}
@@ -20,10 +20,14 @@ use Rattle.age_file.specs.declared.position.PositionPolicy.TheVariants.{Kept, Dr
 use Rattle.age_file.specs.declared.decryption.Stopped.{Stopped}
 use Rattle.age_file.specs.Encrypts.{Encrypts}
 use Rattle.age_machine.specs.{EndedFile, TouchesItself, IsThere, IsOnDisk, IsUntouched, SavedFile}
+use Rattle.age_machine.specs.Calls.{Opened}
+use Rattle.age_machine.specs.Saves.{AllAnswered}
+use Rattle.age_machine.specs.declared.machine.Kind.TheVariants.{Regular}
+use Rattle.age_machine.specs.Disk.{Disk}
 use Rattle.age_machine.specs.Saved.{Saves}
 use Rattle.age_fileset.specs.{Event, FilesView, Outcome, Found, Absent, Unwritten, Settled, Alike}
 use Rattle.age_fileset.specs.{OneStream, InUse, Terminal, CameSince, HasGiven, HasGivenAll, Entry}
-use Rattle.age_fileset.specs.{PutsOnly, entry, puts_in}
+use Rattle.age_fileset.specs.{PutsOnly, entry, puts_in, Put}
 use Rattle.age_cli_args.specs.{option_text}
 use Rattle.age_cli_args.specs.declared.request.ClobberOption.TheVariants.{Refused}
 use Rattle.age_cli_args.specs.declared.request.Decrypting.{Decrypting}
@@ -84,16 +88,24 @@ encrypt_engine secret = record {
 }
 
 -- The position to save of a stop: one of its run within what is certain, if it came to its payload
--- and positions are kept. Else the stop's own, if it has one.
-abbrev pub IsPlaced : Option Run → PositionPolicy → (settled : ℕ) → (own at : Option Position) → Type 0
-IsPlaced (Some r) Kept settled own position = IsSomeAnd position (IsPositionWithin r settled)
-IsPlaced run keep settled own position = position ≡ own
+-- and positions are kept, but none before the one that it went on from: then that. Else the stop's own,
+-- if it has one.
+abbrev pub IsPlaced : Option Run → PositionPolicy → (start : Option Position) → (settled : ℕ)
+    → (own at : Option Position) → Type 0
+IsPlaced (Some r) Kept start settled own position =
+    IsSomeAnd position (λ p. (IsPositionWithin r settled p × IfSome start (λ s. s.index ≤ p.index))
+    ⊎ (start ≡ Some p))
+IsPlaced run keep start settled own position = position ≡ own
 
 -- a run stopped with this fault, and this is the position to save
-abbrev pub StopsText : PositionPolicy → (Stops : Option Run → Stopped → Type 0) → (settled : ℕ) → FileFault
-    → Option Position → Type 0
-StopsText keep Stops settled fault position = (run : Option Run) × (stop : Stopped)
-    × (stop.fault ≡ fault) × Stops run stop × IsPlaced run keep settled stop.position position
+abbrev pub StopsText : PositionPolicy → (start : Option Position) → (Stops : Option Run → Stopped → Type 0)
+    → (settled : ℕ) → FileFault → Option Position → Type 0
+StopsText keep start Stops settled fault position = (run : Option Run) × (stop : Stopped)
+    × (stop.fault ≡ fault) × Stops run stop × IsPlaced run keep start settled stop.position position
+
+-- the position that it goes on from
+abbrev pub start_of : Option (Position × Text) → Option Position
+start_of earlier = option_map (λ e. e.0) earlier
 
 -- the ports of a source and a sink of one set of files: what they show, and how often they failed
 pub record PortsOf {In Out : Type 0} (read : In → SourceView) (wrote : Out → SinkView) (p : Ports)
@@ -120,7 +132,8 @@ module _ (IsPorts : Ports → Type 0) (Came : Outcome → Type 0) where
     ends = GoesOn earlier (λ from before after. (done : Done) × (run : Run)
         × DecryptEnds (kept_for save) (allows_by i) (begun from) before after done run);
     stops = λ settled fault position. GoesOn earlier (λ from before after. StopsText (kept_for save)
-        (DecryptStops (kept_for save) (allows_by i) (begun from) before after) settled fault position);
+        (start_of earlier) (DecryptStops (kept_for save) (allows_by i) (begun from) before after) settled fault
+        position);
   }
 
 -- ---- What a command does of what it is asked.
@@ -211,6 +224,14 @@ pub record IsStored (Came : Outcome → Type 0) (durability : Durability) (name 
   pub lost : IfErr save (λ second. (puts ≡ [])
       × ((second ≡ Memory) ⊎ ((second ≡ Write) × Came (Unwritten name))))
 
+-- The position that is due to be put to the file of this name: that of the stop. But one of chunk 0, which
+-- says nothing that `decrypt` doesn't do, is only if nothing has the name.
+abbrev pub IsDue : (Came : Outcome → Type 0) → (position : Option Position) → Option Text
+    → (due : Option Position) → Type 0
+IsDue Came (Some p) (Some name) due = ((due ≡ Some p) × (p.index ≡ 0 → Came (Absent name)))
+    ⊎ ((due ≡ None) × (p.index ≡ 0))
+IsDue Came position name due = due ≡ position
+
 -- If there is a position, and a name for its file, it was put there, and so much of OUT is certain; or the
 -- save failed before: memory was refused, or the position stands beyond what is certain. Otherwise nothing
 -- was done.
@@ -228,6 +249,12 @@ IsSaved Came durability settled position name save puts saved Untried =
 abbrev pub IsThereUnlessFailed : Durability → EndedFile → Type 0
 IsThereUnlessFailed durability out = (IsThere out × (durability ≡ Synced → IsOnDisk out))
     ⊎ IfSome out.file (λ f. 0 < out.failed)
+
+-- Some disk answers the calls of a regular file: so what is said of each that does isn't said of none. But
+-- one that was opened without a name is on no path.
+abbrev pub IsAnsweredOnce : EndedFile → Type 0
+IsAnsweredOnce e = IfSome e.file (λ f. ((disk : Disk) × AllAnswered f.path e.calls disk)
+    ⊎ Contains e.calls (Opened f.path f.number (Regular false)))
 
 -- no output was ended, or one that took nothing and is untouched
 abbrev pub SparesOut : (before after : Option EndedFile) → Type 0
@@ -269,22 +296,24 @@ module _ (IsPorts : Ports → Type 0) (Came : Outcome → Type 0) where
     pub out : EndedFile
     pub is : ended ≡ Some out
     pub took : out.took ≡ after.sink.taken.bytes
-    pub within : TouchesItself out
 
-  -- It kept a promise of what was read and of what OUT took. OUT was closed with just that: it is at its
-  -- path, and on the disk, if that was to be waited for.
+  -- It kept a promise of what was read and of what OUT took, which was put under OUT's name. OUT was closed
+  -- with just that: it is at its path, and on the disk, if that was to be waited for; and a disk answers.
   pub record LeavesText (Promise : Ports → Ports → (took : List ℕ) → Type 0) (p : Paths)
       (ended : Option EndedFile) : Type 0 where
     pub run : Returned p ended
     pub promise : Promise run.before run.after run.out.took
+    pub named : Came (Put p.to.now run.out.took)
     pub closed : run.out.is_closed ≡ true
     pub there : IsThere run.out
     pub safe : p.durability ≡ Synced → IsOnDisk run.out
+    pub answered : IsAnsweredOnce run.out
 
-  -- It ended, and OUT was put under its name. Nothing else was put.
+  -- It ended, and OUT was put under its name. Nothing else was put, or touched for it.
   pub record HasEngineEnded (engine : Engine) (p : Paths) (before after : FilesView) : Type 0 where
     pub leaves : LeavesText (λ old new took. engine.ends old new) p after.ended
     pub puts : PutsOnly (entry p.to.now leaves.run.out.took ∷ []) before after
+    pub within : TouchesItself leaves.run.out
 
   -- The engine stopped with this fault and at this position. The output is untouched if its sink took
   -- nothing, and closed otherwise; and how much of it is certain was asked, if a position is to be saved.
@@ -308,11 +337,12 @@ module _ (IsPorts : Ports → Type 0) (Came : Outcome → Type 0) where
     pub caused : IfSome run.out.file (λ f. 0 < run.out.failed)
 
   -- It stopped with the fault that is reported, or its output couldn't be ended. What its sink took was
-  -- put, or nothing was; and then its position, if it has one and there is a file for it, or the ending
+  -- put, or nothing was; and then its position, if it has one that is due to a file, or the ending
   -- says why not. If that wasn't tried, no file was to be replaced: what was done is of the order `done`.
   pub record HasEngineStopped (engine : Engine) (p : Paths) (done : List Event) (ending : Ending)
       (before after : FilesView) : Type 0 where
     pub run : Returned p after.ended
+    pub within : TouchesItself run.out
     pub fault : FileFault
     pub save : Result (Unit {0}) FileFault
     pub reported : ending ≡ stop_ending fault save
@@ -323,7 +353,9 @@ module _ (IsPorts : Ports → Type 0) (Came : Outcome → Type 0) where
     pub rest : List Entry
     pub puts : PutsOnly (outs ++ rest) before after
     pub out : (outs ≡ []) ⊎ ((outs ≡ entry p.to.now run.out.took ∷ []) × (run.out.took ≢ []))
-    pub saved : IsSaved Came p.durability settled position engine.save save rest after.saved
+    pub due : Option Position
+    pub is_due : IsDue Came position engine.save due
+    pub saved : IsSaved Came p.durability settled due engine.save save rest after.saved
         (Follows done before.events after.events)
 
 -- It ended as if no engine ran: no output is touched, nothing was put, and no file was to be replaced.

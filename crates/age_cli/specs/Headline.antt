@@ -1,13 +1,14 @@
 -- When OUT holds nothing but what the file's writer wrote: the headline at the command line.
 use Rattle.std.specs.Prelude.{◌≡◌, ◌⊎◌, ℕ, ◌*◌, ◌≤◌, true, List, [], ◌++◌, length, take, Option, Some, None}
-use Rattle.std.specs.Prelude.{Result, Err, IfErr, IsErrAnd, option_map}
+use Rattle.std.specs.Prelude.{Result, Err, IfErr, IsErrAnd, option_map, ◌<◌, drop, IsSomeAnd}
 use Rattle.clap.specs.Words.{Text}
 use Rattle.age_stanza.specs.{HeadText}
-use Rattle.age_chunk.specs.{chunk_count, chunk_length, block_length, chunk_limit}
+use Rattle.age_stanza.specs.declared.header.Header.{Header}
+use Rattle.age_chunk.specs.{chunk_count, chunk_length, block_length, chunk_limit, payload}
 use Rattle.age_io.specs.{Shown, SourceView, SinkView, Consumes, IsAtEnd}
 use Rattle.age_stream.specs.{IsPrefixOf}
-use Rattle.age_keys.specs.{Opens}
-use Rattle.age_file.specs.{Ports, ports, Run, IsFromStart, IsTexts, BelongsTo}
+use Rattle.age_keys.specs.{Opens, FileOf, box}
+use Rattle.age_file.specs.{Ports, ports, Run, IsFromStart, IsTexts, BelongsTo, CarriesText, OpenedFile}
 use Rattle.age_file.specs.declared.position.Position.{Position}
 use Rattle.age_file.specs.{GaveFile, GaveOld, GaveRest, position_text, SecretView, AgeFile}
 use Rattle.age_cli_args.specs.Requests.{Requests}
@@ -27,7 +28,7 @@ use Rattle.age_fault.specs.declared.fault.FileFault.TheVariants.{Stream, BadPosi
 use Rattle.age_fault.specs.declared.fault.FileFault.TheVariants.{Write, Memory, ReadNeverEnds}
 use Rattle.age_fault.specs.declared.fault.FileFault.TheVariants.{OldTextDiffers}
 use Rattle.age_fileset.specs.{Files, FilesView, Outcome, CameSince, HasGiven, HasGivenAll, Shelf, seen_in}
-use Rattle.age_fileset.specs.{entry_of}
+use Rattle.age_fileset.specs.{entry_of, or_empty}
 use Rattle.age_cli.specs.Commands.{WasRead, old_found, FailsReport, MakesSecret}
 use Rattle.age_machine.specs.{EndedFile}
 use Rattle.age_cli.specs.Acts.{Acts, OpensOf, paths_of, LeavesText, ShowsProgress, SparesOut, IsUsage}
@@ -118,6 +119,43 @@ EncryptLeavesOut words old new status = (e : Encrypting) → Requests words (Enc
     × (text : List ℕ) × (file : List ℕ) × (old e.paths.from.now ≡ Some text) × AgeFile secret text file
     × (new e.paths.to.now ≡ Some file)
 
+-- this is the age file of a text, which an identity opens
+abbrev pub IsFileIn : Identity → Option (List ℕ) → List ℕ → Type 0
+IsFileIn identity input text = (header : Header) × (key : List ℕ) × (nonce : List ℕ) × (bytes : List ℕ)
+    × (input ≡ Some bytes) × FileOf header key nonce text bytes × Opens (allows_by identity) header key
+
+-- After 0 of `decrypt` IN held the age file of what OUT holds, which the options and the files that they
+-- name open.
+abbrev pub DecryptLeavesOut : List Text → (old new : Files) → ℕ → Type 0
+DecryptLeavesOut words old new status = (d : Decrypting) → Requests words (Decrypt d) → status ≡ 0
+    → (identity : Identity) × OpensBy old d.identity identity
+    × (text : List ℕ) × IsFileIn identity (old d.paths.from.now) text × (new d.paths.to.now ≡ Some text)
+
+-- an earlier output begins with a text's chunks before a position, whose chain it carries; one that isn't
+-- there counts as empty
+abbrev pub IsEarlierOf : Position → Option (List ℕ) → List ℕ → Type 0
+IsEarlierOf p earlier text = CarriesText text p
+    × IsSomeAnd (or_empty earlier) (λ all. IsPrefixOf (take (p.index * chunk_length) text) all)
+
+-- this is the header and the nonce of the position's file, which an identity opens, the blocks before the
+-- position's chunk, and then the payload of a text from that chunk on
+abbrev pub IsRestIn : Identity → Position → Option (List ℕ) → List ℕ → Type 0
+IsRestIn identity p input text = (file : OpenedFile) × BelongsTo p file
+    × HeadText file.header file.header_bytes × Opens (allows_by identity) file.header file.key
+    × (length file.nonce ≡ 16) × (p.index < chunk_count chunk_length text)
+    × (skipped : List ℕ) × (length skipped ≡ p.index * block_length)
+    × (input ≡ Some ((file.header_bytes ++ file.nonce) ++ (skipped
+    ++ drop (p.index * block_length) (payload (box file.key file.nonce) chunk_length text))))
+
+-- After 0 of `resume` the earlier output held the chunks of what OUT holds before the position in its
+-- file, and IN the rest of its payload.
+abbrev pub ResumeLeavesOut : List Text → (old new : Files) → ℕ → Type 0
+ResumeLeavesOut words old new status = (r : Resuming) → Requests words (Resume r) → status ≡ 0
+    → (identity : Identity) × OpensBy old r.decrypting.identity identity
+    × (p : Position) × IsPositionIn (old r.position.now) p × (text : List ℕ)
+    × IsEarlierOf p (old r.old.now) text × IsRestIn identity p (old r.decrypting.paths.from.now) text
+    × (new r.decrypting.paths.to.now ≡ Some text)
+
 -- OUT and the file of `--save`, if what is asked has them
 abbrev pub out_of : Request → Option Text
 out_of asked = option_map (λ p. p.to.now) (paths_of asked)
@@ -151,6 +189,7 @@ RunsKeepOut IsPorts Input Output Faults Progress old new =
     → let was = entry_of old.entries in let is = entry_of new.entries in
     DecryptKeepsOut words was is status × ResumeKeepsOut words was is status
     × SparesOthers words was is status × EncryptLeavesOut words was is status
+    × DecryptLeavesOut words was is status × ResumeLeavesOut words was is status
 
 -- ---- What follows for a run from what its parts promise.
 

@@ -1,5 +1,5 @@
 -- What only private code cites: how a part of the program ended, and the files of a command.
-use Rattle.std.specs.Prelude.{◌≡◌, ◌≢◌, ◌⊎◌, ℕ, ◌++◌, ◌∷◌, [], List, Option, None, Result, Ok, Err, IsErrAnd}
+use Rattle.std.specs.Prelude.{◌≡◌, ◌≢◌, ◌⊎◌, ℕ, ◌++◌, ◌∷◌, [], List, Option, None, Result, Ok, Err, IsErrAnd, ◌≤◌}
 use Rattle.std.specs.Prelude.{true, IsSomeAnd, length, Some, IfSome, Bool, is_some, OnOk, IfErr}
 use Rattle.std.specs.Prelude.{if◌then◌else◌, IfOk, ◌<◌, ◌*◌}
 use Rattle.clap.specs.Words.{Text}
@@ -21,7 +21,7 @@ use Rattle.age_keys.specs.{IsAllowed, PassphraseIdentity}
 use Rattle.age_command.specs.declared.ending.Ending.{Ending}
 use Rattle.age_command.specs.declared.ending.Ending.TheVariants.{Fault, Usage}
 use Rattle.age_machine.specs.{Closes, EndedFile, OutFile, TouchesItself, IsUntouched}
-use Rattle.age_cli.specs.Acts.{stop_ending, IsSaved, Engine}
+use Rattle.age_cli.specs.Acts.{stop_ending, IsDue, IsSaved, Engine}
 use Rattle.age_cli.specs.Acts.{SparesOut, AreSame, IsUnusable, NamesOne, IsThereUnlessFailed}
 use Rattle.age_cli.specs.declared.interruption.Interruption.{Interruption}
 use Rattle.age_io.specs.Supply.{Supply}
@@ -102,7 +102,9 @@ pub record PutsRest (durability : Durability) (save : Option Text) (stop : Inter
   pub reported : ending ≡ stop_ending stop.fault how
   pub rest : List Entry
   pub puts : PutsOnly rest old new
-  pub saved : IsSaved (CameSince old new) durability stop.settled stop.position save how rest new.saved
+  pub due : Option Position
+  pub is_due : IsDue (CameSince old new) stop.position save due
+  pub saved : IsSaved (CameSince old new) durability stop.settled due save how rest new.saved
       (new.events ≡ old.events)
 
 -- OUT was left as a stop leaves it, whose sink is this, and its position was saved, if there is one and a
@@ -119,7 +121,9 @@ pub record SavesStop (save : Option Text) (durability : Durability) (sink : Sink
   pub rest : List Entry
   pub puts_only : PutsOnly (outs ++ rest) old new
   pub out : IsPut sink outs
-  pub saved : IsSaved (CameSince old new) durability stop.settled stop.position save how rest new.saved
+  pub due : Option Position
+  pub is_due : IsDue (CameSince old new) stop.position save due
+  pub saved : IsSaved (CameSince old new) durability stop.settled due save how rest new.saved
       (new.events ≡ old.events ++ Close durability ∷ [])
 
 -- it was closed whole, or it couldn't be, as the set of files said
@@ -146,16 +150,20 @@ pub record IsInspected (size : Option ℕ) (old new : Supply) (r : Report) : Typ
 
 -- ---- How a decryption was concluded.
 
--- the position of a stop by the marks of its run, within what is certain; its own, if it has no marks
-abbrev pub IsPlacedBy : Option MarksView → (settled : ℕ) → (own position : Option Position) → Type 0
-IsPlacedBy None settled own position = position ≡ own
-IsPlacedBy (Some m) settled own position = IsSomeAnd position (IsMarked m settled)
+-- the position of a stop by the marks of its run, within what is certain, but not before where it
+-- started; its own, if it has no marks
+abbrev pub IsPlacedBy : Option MarksView → (start : Option Position) → (settled : ℕ)
+    → (own position : Option Position) → Type 0
+IsPlacedBy None start settled own position = position ≡ own
+IsPlacedBy (Some m) start settled own position =
+    IsSomeAnd position (λ p. (IsMarked m settled p × IfSome start (λ s. s.index ≤ p.index))
+    ⊎ (start ≡ Some p))
 
-abbrev pub PlacesEnd : Option MarksView → (settled : ℕ) → Result Done Stopped
+abbrev pub PlacesEnd : Option MarksView → (start : Option Position) → (settled : ℕ) → Result Done Stopped
     → Result (Unit {0}) Interruption → Type 0
-PlacesEnd marks settled (Ok done) engine = engine ≡ Ok tt
-PlacesEnd marks settled (Err s) engine = (position : Option Position)
-    × IsPlacedBy marks settled s.position position
+PlacesEnd marks start settled (Ok done) engine = engine ≡ Ok tt
+PlacesEnd marks start settled (Err s) engine = (position : Option Position)
+    × IsPlacedBy marks start settled s.position position
     × (engine ≡ Err (record { fault = s.fault; position = position; settled = settled }))
 
 -- An engine ran over a source and a sink of the files, and OUT was ended. `end` is how it ended; of a

@@ -1,11 +1,11 @@
 //! How a decryption ends, and the position of a stop.
 
-ghost use Rattle.std.specs.Prelude.{◌≡◌, [], IfSome};
+ghost use Rattle.std.specs.Prelude.{◌≡◌, ◌⊎◌, ◌≤◌, [], Some, IfSome, option_map};
 ghost use Rattle.age_io.specs.{Named};
 ghost use Rattle.age_fileset.specs.{CameSince, Does, Gave, reading_of};
 ghost use Rattle.age_cli_args.specs.{option_text};
-ghost use Rattle.age_cli.specs.{kept_for};
-ghost use Rattle.age_cli.specs.inner.{IsPlacedBy, PlacesEnd};
+ghost use Rattle.age_cli.specs.{kept_for, start_of};
+ghost use Rattle.age_cli.specs.inner.{IsPlacedBy, PlacesEnd, earlier_of};
 
 use crate::decrypt_command::OldText;
 use crate::interruption::Interruption;
@@ -35,13 +35,45 @@ pub(crate) struct Decrypted<'w, S: Source, O: Sink> {
     pub(crate) out: O,
 }
 
-/// The position to save of a stop: by its marks the last one within what OUT holds for certain, or
-/// its own, if it has no marks.
-fn place_of(stopped: &Stopped, marks: &Option<Marks>, settled: u64) -> Option<Position>
-    ensures { IsPlacedBy marks.now settled stopped.now.position result }
+/// The position that a decryption goes on from, if it does.
+pub(crate) fn start_of<S: Source>(earlier: &Option<OldText<'_, S>>) -> Option<Position>
+    ensures { result ≡ start_of (option_map earlier_of earlier.now) }
+{
+    match earlier {
+        Some(old) => Some(old.position),
+        None => None,
+    }
+}
+
+/// The later one of a position and of where its run started.
+fn not_before(place: Position, start: Option<Position>) -> Position
+    ensures { (result ≡ place × IfSome start (λ s. s.index ≤ result.index)) ⊎ (start ≡ Some result) }
+{
+    match start {
+        Some(start) => {
+            if place.index < start.index {
+                start
+            } else {
+                place
+            }
+        }
+        None => place,
+    }
+}
+
+/// The position to save of a stop: by its marks the last one within what OUT holds for certain, but
+/// none before where the run started, which would take the place of a better one; or its own, if it
+/// has no marks.
+fn place_of(
+    stopped: &Stopped,
+    marks: &Option<Marks>,
+    start: Option<Position>,
+    settled: u64,
+) -> Option<Position>
+    ensures { IsPlacedBy marks.now start settled stopped.now.position result }
 {
     match marks {
-        Some(marks) => Some(marks.within(settled)),
+        Some(marks) => Some(not_before(marks.within(settled), start)),
         None => stopped.position,
     }
 }
@@ -50,14 +82,15 @@ fn place_of(stopped: &Stopped, marks: &Option<Marks>, settled: u64) -> Option<Po
 pub(crate) fn placed_end(
     end: Result<Done, Stopped>,
     marks: &Option<Marks>,
+    start: Option<Position>,
     settled: u64,
 ) -> Result<(), Interruption>
-    ensures { PlacesEnd marks.now settled end result }
+    ensures { PlacesEnd marks.now start settled end result }
 {
     match end {
         Ok(_) => Ok(()),
         Err(stopped) => {
-            let position = place_of(&stopped, marks, settled);
+            let position = place_of(&stopped, marks, start, settled);
             Err(Interruption {
                 fault: stopped.fault,
                 position,

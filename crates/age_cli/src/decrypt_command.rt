@@ -14,7 +14,7 @@ ghost use Rattle.age_cli.specs.{kept_for};
 ghost use Rattle.age_cli.specs.inner.{EndsBy, IsBlamedBy, IsNewOld, IsSameOld, OpensFiles, RunsEngine};
 ghost use Rattle.age_cli.specs.inner.{ShowsRun, earlier_of, goes_on, order_in};
 
-use crate::conclusion::{Decrypted, finish_old, placed_end, positions_for};
+use crate::conclusion::{Decrypted, finish_old, placed_end, positions_for, start_of};
 use crate::output::{
     Content, Writing, begin_meter, check_names, end_meter, end_output, open_both, settle_end,
 };
@@ -193,6 +193,7 @@ pub(crate) fn decrypt_ready<'w, F: FileSet<'w>, E: Sink, P: Meter>(
         ShowsRun (F.size ready.entry.source) coming left (P.shown progress.old) (P.shown progress.new))
         result }
 {
+    let start = start_of(&ready.earlier);
     let Decrypted {
         end,
         marks,
@@ -203,7 +204,7 @@ pub(crate) fn decrypt_ready<'w, F: FileSet<'w>, E: Sink, P: Meter>(
     finish_old(files, earlier);
     files.finish(source);
     let settled = settle_end(files, &mut out, writing, end.is_err());
-    let engine = placed_end(end, &marks, settled);
+    let engine = placed_end(end, &marks, start, settled);
     end_output(alloc, files, out, writing, faults, announced, engine)
 }
 

@@ -1,12 +1,13 @@
 //! How a command that writes a text stops, and where its position goes.
 
-ghost use Rattle.std.specs.Prelude.{◌≡◌, ◌⊎◌, ◌++◌, ◌≤◌, ◌*◌, true, None, OnOk, IfErr};
+ghost use Rattle.std.specs.Prelude.{◌≡◌, ◌⊎◌, ◌++◌, ◌≤◌, ◌*◌, [], true, None, OnOk, IfErr};
 ghost use Rattle.std.specs.Prelude.{IsSomeAnd, is_some};
 ghost use Rattle.age_chunk.specs.{chunk_length};
 ghost use Rattle.age_fault.specs.declared.fault.FileFault.TheVariants.{Write};
-ghost use Rattle.age_fileset.specs.{IsMemoryOr, written_as};
+ghost use Rattle.age_fileset.specs.{CameSince, Does, IsMemoryOr, written_as};
 ghost use Rattle.age_cli_args.specs.{option_text};
 ghost use Rattle.age_command.specs.{Announces, Follows, replacing};
+ghost use Rattle.age_cli.specs.Acts.{IsDue};
 ghost use Rattle.age_cli.specs.inner.{IsUnsavable, LacksOne, PutsRest, sealing_end};
 ghost use Rattle.age_machine.specs.Saved.{Saves};
 ghost use Rattle.age_file.specs.{position_text};
@@ -41,6 +42,26 @@ pub(crate) fn sealing_end(sealed: Result<Written, FileFault>) -> Result<(), Inte
             settled: 0,
         }),
     }
+}
+
+/// The position to put to the file of this name: that of a stop. But one at chunk 0 says nothing that
+/// `decrypt` doesn't do, so it takes the place of nothing.
+fn due_position<'w, F: FileSet<'w>>(
+    files: &mut F,
+    name: Option<&'w str>,
+    position: Option<Position>,
+) -> Option<Position>
+    ensures does { Does [] (F.view files.old) (F.view files.new) }
+    ensures due { IsDue (CameSince (F.view files.old) (F.view files.new)) position
+        (option_text name.entry) result }
+{
+    let (Some(to), Some(place)) = (name, position) else {
+        return position;
+    };
+    if place.index > 0 {
+        return position;
+    }
+    if files.is_absent(to) { position } else { None }
 }
 
 /// Saves a position, if there is one and a file for it. It isn't saved (27) if it stands beyond what
@@ -96,14 +117,8 @@ pub(crate) fn report_and_save<'w, F: FileSet<'w>, E: Sink>(
 {
     *announced = announce(faults, stop.fault);
     let durability = asked.paths.durability;
-    match save(
-        alloc,
-        files,
-        asked.save,
-        stop.position,
-        stop.settled,
-        durability,
-    ) {
+    let due = due_position(files, asked.save, stop.position);
+    match save(alloc, files, asked.save, due, stop.settled, durability) {
         Ok(()) => Ending::Fault(stop.fault),
         Err(second) => Ending::Unsaved(stop.fault, second),
     }

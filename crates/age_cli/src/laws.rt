@@ -13,7 +13,9 @@ use age_io::Meter;
 /// block of IN opens except as its writer sealed it; 0 means all of the plaintext; and only OUT and
 /// the file of `--save` differ, after 0 OUT alone. The plaintext has at most 2^48 chunks, and the
 /// earlier output of `resume` begins with those before its position. After 0 of `encrypt` OUT is the
-/// age file of all that IN held, for what the files of `--pass` and `--random` held.
+/// age file of all that IN held, for what the files of `--pass` and `--random` held; after 0 of
+/// `decrypt`, whoever wrote it, IN held the age file of OUT, which the options open; and after 0 of
+/// `resume` the earlier output held the chunks of OUT before the position, and IN the rest.
 pub fn runs_keep_out<I: Source, O: Sink, E: Sink, P: Meter>(before: &MemFiles, after: &MemFiles)
     ensures { RunsKeepOut (PortsOf shown_in shown_out) I O E P before.now after.now }
 {

@@ -1,10 +1,10 @@
 //! The program over arguments, files, a source and sinks.
 //!
 //! `run` takes the arguments after the program's name, a set of files, the input, the output, a
-//! sink for faults and a meter for progress, and returns the status: 0 on success, 1 on a fault, 2
-//! on a bad command line. It is generic over all of them, so that its contract speaks of every
-//! input and every set of files; the program hands in the machine's. What `drill` does is in
-//! `age_drill`; the other commands are here.
+//! sink for faults, a meter for progress and what makes the text of a refusal, and returns the
+//! status: 0 on success, 1 on a fault, 2 on a bad command line. It is generic over all of them, so
+//! that its contract speaks of every input and every set of files; the program hands in the
+//! machine's. What `drill` does is in `age_drill`; the other commands are here.
 //!
 //! `encrypt_file`, `decrypt_file` and `resume_file` do what one command asks for, once its words
 //! are read. Each finds what opens or seals the input, opens the files in a fixed order, runs the
@@ -21,7 +21,6 @@ mod laws;
 mod output;
 mod print;
 mod program;
-mod refusal;
 mod resume_command;
 
 pub use age_fileset::{FileSet, MemFiles, OpenFault};

@@ -17,9 +17,8 @@ ghost use Rattle.age_cli.specs.inner.{IsForOutput};
 use crate::decrypt_command::decrypt_file;
 use crate::encrypt_command::encrypt_file;
 use crate::inspect_command::{report, report_file};
-use crate::refusal::refusal_text;
 use crate::resume_command::resume_file;
-use age_cli_args::{Request, read_request};
+use age_cli_args::{Request, Wording, read_request};
 use age_command::{Announcement, Ending, Usage, put_bytes, report_ending};
 use age_drill::drill_file;
 use age_file::{FileFault, Sink, Source, flush_all};
@@ -30,11 +29,12 @@ use clap::error::ErrorKind;
 use std::alloc::Global;
 
 /// Help and the version go to the output if they are asked for; other arguments are refused.
-fn answer_refusal<O: Sink>(
+fn answer_refusal<O: Sink, W: Wording>(
     alloc: Global,
     words: &[&str],
     error: Error,
     output: &mut O,
+    wording: &W,
 ) -> Result<(), Ending>
     ensures asked { IsOk result → IsForOutput (kind_of error) }
     ensures prints { OnOk result (Prints (O.view output.old) (O.view output.new)) }
@@ -45,7 +45,7 @@ fn answer_refusal<O: Sink>(
     if error.kind() == ErrorKind::OutOfMemory {
         return Err(Ending::Fault(FileFault::Memory));
     }
-    let Ok(text) = refusal_text(alloc, words, &error) else {
+    let Ok(text) = wording.text_of(alloc, words, &error) else {
         return Err(Ending::Fault(FileFault::Memory));
     };
     if error.kind() != ErrorKind::DisplayHelp && error.kind() != ErrorKind::DisplayVersion {
@@ -56,7 +56,7 @@ fn answer_refusal<O: Sink>(
 }
 
 /// Does what the words ask for.
-fn obey<'w, F: FileSet<'w>, I: Source, O: Sink, E: Sink, P: Meter>(
+fn obey<'w, F: FileSet<'w>, I: Source, O: Sink, E: Sink, P: Meter, W: Wording>(
     alloc: Global,
     words: &'w [&'w str],
     files: &mut F,
@@ -65,6 +65,7 @@ fn obey<'w, F: FileSet<'w>, I: Source, O: Sink, E: Sink, P: Meter>(
     faults: &mut E,
     announced: &mut Announcement,
     progress: &mut P,
+    wording: &W,
 ) -> Result<(), Ending>
     ensures announced { Tells announced.new result (E.view faults.old) (E.view faults.new)
         (faults.new ≡ faults.old) }
@@ -83,7 +84,7 @@ fn obey<'w, F: FileSet<'w>, I: Source, O: Sink, E: Sink, P: Meter>(
     let request = match read_request(alloc, words) {
         Ok(Some(request)) => request,
         Ok(None) => return Err(Ending::Usage(Usage::Unread)),
-        Err(error) => return answer_refusal(alloc, words, error, output),
+        Err(error) => return answer_refusal(alloc, words, error, output, wording),
     };
     match &request {
         Request::Inspect(Some(name)) => report_file(alloc, files, name, output),
@@ -120,10 +121,12 @@ fn status(ending: &Ending) -> u8
 /// to its end. If OUT is a regular file and the disk answers as expected, it is at its path, and
 /// without `--no-sync` a power cut leaves nothing else there.
 ///
+/// `wording` makes the text for words that are refused, or ask for help.
+///
 /// With `--progress`, `progress` is shown how many bytes IN has, if the set of files can say so,
 /// and how many of them each pull gave, and then that the reading is over, before a fault is
 /// reported.
-pub fn run<'w, F: FileSet<'w>, I: Source, O: Sink, E: Sink, P: Meter>(
+pub fn run<'w, F: FileSet<'w>, I: Source, O: Sink, E: Sink, P: Meter, W: Wording>(
     alloc: Global,
     words: &'w [&'w str],
     files: &mut F,
@@ -131,6 +134,7 @@ pub fn run<'w, F: FileSet<'w>, I: Source, O: Sink, E: Sink, P: Meter>(
     output: &mut O,
     faults: &mut E,
     progress: &mut P,
+    wording: &W,
 ) -> u8
     ensures zero { ZeroLeaves (texts words.now) (PortsOf F.In.view F.Out.view) (F.view files.old)
         (F.view files.new) result }
@@ -152,6 +156,7 @@ pub fn run<'w, F: FileSet<'w>, I: Source, O: Sink, E: Sink, P: Meter>(
         faults,
         &mut announced,
         progress,
+        wording,
     ) {
         Ok(()) => 0,
         Err(ending) => {

@@ -66,22 +66,10 @@ const MAX_LOG: Argument = Argument {
     help: help::MAX_LOG,
 };
 
-const SAVE: Argument = Argument {
-    id: "save",
-    given: Given::Value("FILE"),
-    help: help::SAVE,
-};
-
 const NO_SYNC: Argument = Argument {
     id: "no-sync",
     given: Given::Flag,
     help: help::NO_SYNC,
-};
-
-const NO_CLOBBER: Argument = Argument {
-    id: "no-clobber",
-    given: Given::Flag,
-    help: help::NO_CLOBBER,
 };
 
 const PROGRESS: Argument = Argument {
@@ -96,7 +84,7 @@ const ENCRYPT: &[Argument] = &[
     Argument { id: "log", given: Given::Number, help: help::LOG },
     Argument { id: "random", given: Given::Value("FILE"), help: help::RANDOM },
     NO_SYNC,
-    NO_CLOBBER,
+    Argument { id: "no-clobber", given: Given::Flag, help: help::NO_CLOBBER },
     PROGRESS,
     Argument { id: "IN", given: Given::Operand, help: help::PLAIN_IN },
     Argument { id: "OUT", given: Given::Operand, help: help::FILE_OUT },
@@ -108,9 +96,9 @@ const DECRYPT: &[Argument] = &[
     FILE_KEY,
     SHARED,
     MAX_LOG,
-    SAVE,
+    Argument { id: "save", given: Given::Value("FILE"), help: help::SAVE },
     NO_SYNC,
-    NO_CLOBBER,
+    Argument { id: "no-clobber", given: Given::Flag, help: help::NO_CLOBBER_OR_SAVE },
     PROGRESS,
     Argument { id: "IN", given: Given::Operand, help: help::FILE_IN },
     Argument { id: "OUT", given: Given::Operand, help: help::PLAIN_OUT },
@@ -124,9 +112,9 @@ const RESUME: &[Argument] = &[
     FILE_KEY,
     SHARED,
     MAX_LOG,
-    SAVE,
+    Argument { id: "save", given: Given::Value("FILE"), help: help::SAVE_AGAIN },
     NO_SYNC,
-    NO_CLOBBER,
+    Argument { id: "no-clobber", given: Given::Flag, help: help::NO_CLOBBER_AGAIN },
     PROGRESS,
     Argument { id: "IN", given: Given::Operand, help: help::FILE_IN },
     Argument { id: "OUT", given: Given::Operand, help: help::WHOLE_OUT },

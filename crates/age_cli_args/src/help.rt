@@ -2,7 +2,7 @@
 
 /// The version of the workspace, which `--version` prints. A release has the date of its commit in the
 /// place of `not a release` (release/build).
-pub(crate) const VERSION: &str = "1.2.0 (not a release)";
+pub(crate) const VERSION: &str = "1.3.0 (not a release)";
 
 pub(crate) const PROGRAM: &str = "Encrypt, decrypt and inspect age files (age-encryption.org/v1).";
 
@@ -98,7 +98,9 @@ newline and is one of:
 
 For each line the drill prints its number, the reader's status (open, last,
 done, failed-N or refused-25) and the number of plaintext bytes held. A script
-has at most 1,000 lines and 1,048,576 bytes, a payload at most 16,777,216 bytes.";
+has at most 1,000 lines and 1,048,576 bytes, a payload at most 16,777,216 bytes.
+With --pass an altered byte is refused (failed-17): try `flip 0` first. With
+--clear only an altered mark is.";
 
 pub(crate) const PASS: &str = "File with the passphrase, 1 to 65,536 bytes. The
 passphrase is the file's contents; one trailing newline
@@ -123,15 +125,28 @@ pub(crate) const MAX_LOG: &str = "With --pass, refuse work factors above N, 1 to
 pub(crate) const SAVE: &str = "If decryption stops at a fault, save its position here,
 for `resume`. A run that is killed, as by Ctrl-C, saves
 none. Must not be a file that this command reads or
-writes, except resume's --position. Slower from a pipe.
-Best on a disk that OUT can't fill";
+writes. Takes three times the processor time, whatever
+IN is. Best on a disk that OUT can't fill";
+
+pub(crate) const SAVE_AGAIN: &str = "If decryption stops at a fault, save its position here.
+A run that is killed, as by Ctrl-C, saves none. Must
+not be a file that this command reads or writes, except
+that of --position. Takes three times the processor
+time, whatever IN is. Best on a disk that OUT can't
+fill";
 
 pub(crate) const NO_SYNC: &str = "Don't wait until OUT, a regular file or a block device,
 has reached the disk. Errors that come only then (NFS,
 quotas) go unnoticed";
 
-pub(crate) const NO_CLOBBER: &str = "Refuse an existing OUT (27); it stays as it was. The
-file of --save has to be new, empty or a position";
+pub(crate) const NO_CLOBBER: &str = "Refuse an existing OUT (27); it stays unchanged";
+
+pub(crate) const NO_CLOBBER_OR_SAVE: &str = "Refuse an existing OUT (27); it stays unchanged. The
+file of --save has to be new or empty";
+
+pub(crate) const NO_CLOBBER_AGAIN: &str = "Refuse an existing OUT (27); it stays unchanged. The
+file of --save has to be new, empty or that of
+--position";
 
 pub(crate) const PROGRESS: &str = "Show on standard error how much of IN has been read; at
 a terminal also how fast, and how long the rest takes";
@@ -157,7 +172,9 @@ pub(crate) const WHOLE_OUT: &str =
 --save";
 
 pub(crate) const CLEAR: &str = "IN is a payload in the clear: chunks of 4 bytes, each
-followed by a mark of 16 bytes. An example, no encryption";
+followed by a mark of 16: the chunk's number in 11, 1 in
+the last chunk, else 0, and 4 zero bytes. The mark says
+nothing of the text, so altered text isn't refused";
 
 pub(crate) const SCRIPT: &str = "The file with the script";
 

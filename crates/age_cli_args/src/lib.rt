@@ -6,9 +6,11 @@ mod commands;
 mod help;
 mod reading;
 mod request;
+mod wording;
 
 pub use reading::read_request;
 pub use request::{
     ClobberOption, Decrypting, Drilling, Encrypting, IdentityOptions, Paths, ProgressOption,
     Request, Resuming,
 };
+pub use wording::Wording;

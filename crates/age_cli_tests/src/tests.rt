@@ -1,4 +1,5 @@
 use age_cli::{MemFiles, run};
+use age_hints::Refusals;
 use age_io::{MemSink, MemSource, Meter};
 use age_messages::{LineStyle, ProgressLine};
 use std::alloc::Global;
@@ -254,6 +255,7 @@ fn ends(alloc: Global, files: &mut MemFiles, words: &[&str], wanted: u8) -> bool
         &mut output,
         &mut faults,
         &mut None::<ProgressLine<MemSink, Ticking>>,
+        &Refusals,
     );
     status == wanted
 }
@@ -327,6 +329,7 @@ fn status_of(alloc: Global, fail_call: u64) -> Result<u8, Fail> {
         &mut output,
         &mut faults,
         &mut None::<ProgressLine<MemSink, Ticking>>,
+        &Refusals,
     );
     let is_reported = faults.bytes() == b"age_tool: 27 Write\n".as_slice();
     Ok(if is_reported == (status == 1) {

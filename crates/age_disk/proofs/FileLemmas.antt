@@ -1,10 +1,10 @@
 -- What is known of a file while puts go on, and once it was ended; and of a new file that was put to a path.
 use Rattle.std.proofs.Common.{◌≡◌, ◌<◌, ℕ, List, [], ◌∷◌, ◌++◌, Bool, true, false, Option, Some, None, Result, arith, sym, ap, ◌∙◌, refl, subst}
-use Rattle.std.specs.Prelude.{Contains, Ok, Err, IfOk, IfSome, OnOk, OnErr, MatchResult, is_ok}
+use Rattle.std.specs.Prelude.{Ok, Err, IfOk, IfSome, OnOk, OnErr, MatchResult, is_ok}
 use Rattle.age_io.specs.{one_more}
 use Rattle.age_io.specs.declared.durability.Durability.{Durability}
 use Rattle.age_io.specs.declared.durability.Durability.TheVariants.{Synced}
-use Rattle.age_machine.specs.{FileCall, Closed, EndedFile, Closes, OutFile, OutView, TouchesFile, text_of, IsThereAs, IsSafe}
+use Rattle.age_machine.specs.{FileCall, ClosesLast, EndedFile, Closes, OutFile, OutView, TouchesFile, text_of, IsThereAs, IsSafe}
 use Rattle.age_machine.specs.{IsKept, SavedFile, PutsAtOnce}
 use Rattle.age_machine.specs.Saved.{Saves}
 use Rattle.age_disk.specs.{HasNode, sink_of, IsTaking, FileId}
@@ -85,7 +85,7 @@ module _ (durability : Durability) (out : OutView) (failed : ℕ) (failing : Boo
       → (durability ≡ Synced → out.failed ≡ 0
       → OnOk r (IsSafe out.file.path (text_of out.calls) calls))
       → (out.failed ≡ 0 → OnOk r (IsThereAs out.file.path out.file.number (text_of out.calls) calls)) → OnErr r (0 < count)
-      → OnOk r (Contains calls (Closed out.file.number))
+      → OnOk r (ClosesLast out.file.number calls)
       → Closes durability (Some out.file) (sink_of failed failing took) r (ended which)
   file_closes r sure safe there caused closed =
       subst (λ (w : Option OutFile). Closes durability (Some out.file) (sink_of failed failing took) r

@@ -15,7 +15,7 @@ ghost use Rattle.age_disk.specs.inner.Saving.{SavesBytes};
 ghost use Rattle.age_machine.specs.Saved.{Saves};
 
 use crate::in_use::{
-    admit_out, check_unused, find_same, is_for_faults, is_known, keep, keep_stream,
+    admit_out, check_unused, fault_of, find_same, is_for_faults, is_known, keep, keep_stream,
 };
 use crate::input::HostIn;
 use crate::names::{FileId, StreamId, tape_of};
@@ -235,26 +235,39 @@ impl<'r, 'w> HostFiles<'r, 'w> {
     /// Fails if a file that was prepared is open now, or standard error, or in another folder.
     fn check_apart(&self, prepared: &Prepared<'_>) -> io::Result<()> {
         prepared.check_folder(self.rt)?;
-        check_unused(self.rt, self.open.as_slice(), prepared.id(self.rt))
+        check_unused(self.rt, self.open.as_slice(), prepared.id(self.rt)?)
     }
 
-    /// Keeps a file that was prepared, and is this one, if it is none of those that are open, nor
-    /// standard error.
+    /// Prepares a file to be replaced, which may be open if it is that of `spared`.
+    fn prepare_named(
+        &self,
+        alloc: Global,
+        name: &'w str,
+        spared: Option<&'w str>,
+        durability: Durability,
+    ) -> io::Result<Prepared<'w>> {
+        let spared = match spared {
+            Some(spared) => FileId::seen_at(self.rt, spared)?,
+            None => None,
+        };
+        prepared_at(alloc, self.rt, name, spared, durability, self.failures)
+    }
+
+    /// Keeps a file that was prepared, if it is none of those that are open, nor standard error.
     fn admit_prepared(
         &mut self,
         prepared: Prepared<'w>,
-        id: Option<FileId>,
         is_for_faults: bool,
     ) -> Result<(), OpenFault>
         ensures kept { (self.new.log ≡ self.old.log) × (self.new.ended ≡ self.old.ended)
             × (self.new.saved ≡ self.old.saved) }
-        ensures apart { (one : FileId) → id ≡ Some one → Contains self.old.open.items one
-            → result ≡ Err SameFile }
+        ensures apart { (one : FileId) → prepared.entry.seen ≡ Some one
+            → Contains self.old.open.items one → result ≡ Err SameFile }
         ensures only { result ≡ Err SameFile → (is_for_faults ≡ true)
-            ⊎ IsSomeAnd id (Contains self.old.open.items) }
+            ⊎ IsSomeAnd prepared.entry.seen (Contains self.old.open.items) }
         ensures faults { IfErr result (OpenFails Write) }
     {
-        if is_known(self.open.as_slice(), id) || is_for_faults {
+        if is_known(self.open.as_slice(), prepared.seen) || is_for_faults {
             let other = is_for_faults.then_some("standard error");
             self.failures.note_twice(prepared.name(), other);
             return Err(OpenFault::SameFile);
@@ -280,17 +293,6 @@ fn opening(rt: &HostRuntime, name: &str) -> Action {
 /// Whether an empty regular file has this name.
 fn is_empty_at(rt: &HostRuntime, name: &str) -> bool {
     matches!(found_at(rt, name), Ok(Some(found)) if found.is_file() && found.len() == 0)
-}
-
-/// Running out of memory is reported as such, and anything else as `other`.
-fn fault_of(error: io::Error, other: FileFault) -> FileFault
-    ensures { IsMemoryOr other result }
-{
-    if error.kind() == io::ErrorKind::OutOfMemory {
-        FileFault::Memory
-    } else {
-        other
-    }
 }
 
 // A method with a clause of its own repeats the trait's that the search can't prove. This set doesn't
@@ -401,12 +403,10 @@ impl<'r, 'w> FileSet<'w> for HostFiles<'r, 'w> {
         durability: Durability,
     ) -> Result<(), OpenFault> {
         self.log.note(Doing::Prepare(name, spared));
-        let spared = spared.and_then(|spared| FileId::at(self.rt, spared));
-        let prepared = prepared_at(alloc, self.rt, name, spared, durability, self.failures);
-        let admitted = match prepared {
+        let admitted = match self.prepare_named(alloc, name, spared, durability) {
             Ok(prepared) => {
-                let id = prepared.id(self.rt);
-                self.admit_prepared(prepared, id, is_for_faults(self.rt, id))
+                let is_for_faults = is_for_faults(self.rt, prepared.seen);
+                self.admit_prepared(prepared, is_for_faults)
             }
             Err(error) => Err(self.refusal(name, error)),
         };
@@ -447,6 +447,15 @@ impl<'r, 'w> FileSet<'w> for HostFiles<'r, 'w> {
         let fault = self.refusal(name, io::Error::from(io::ErrorKind::AlreadyExists));
         self.log.note(Doing::Refused(name, fault));
         Err(fault)
+    }
+
+    /// What can't be looked at may be there.
+    fn is_absent(&mut self, name: &'w str) -> bool {
+        let is_absent = matches!(found_at(self.rt, name), Ok(None));
+        if is_absent {
+            self.log.note(Doing::Absent(name));
+        }
+        is_absent
     }
 
     fn create_new(
@@ -528,7 +537,9 @@ impl<'r, 'w> FileSet<'w> for HostFiles<'r, 'w> {
         let (ended, closed) = out.close(self.rt, durability);
         match closed {
             Ok(()) => {
-                if id.is_some() && id != FileId::at(self.rt, name) {
+                if id.is_some()
+                    && matches!(FileId::seen_at(self.rt, name), Ok(seen) if seen != id)
+                {
                     self.failures.moved.set(Some(name));
                 }
                 if ended.is_unwaited() {
@@ -588,7 +599,7 @@ impl<'r, 'w> FileSet<'w> for HostFiles<'r, 'w> {
                 Ok(())
             }
             Err(error) => {
-                self.failures.note_unsaved(name, error);
+                self.failures.note_unsaved(name, error, bytes);
                 let fault = fault_of(error, FileFault::Write);
                 self.log.note(Doing::Refused(name, OpenFault::Fault(fault)));
                 Err(fault)

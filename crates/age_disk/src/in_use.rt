@@ -3,7 +3,7 @@
 ghost use Rattle.std.specs.Prelude.{◌≡◌, ◌≢◌, [], true, Some, Err, IfOk, IfErr, IsErr, OnOk, IfSome};
 ghost use Rattle.std.specs.Prelude.{IsSomeAnd, Contains};
 ghost use Rattle.age_fault.specs.declared.fault.FileFault.TheVariants.{Read, Write, Memory};
-ghost use Rattle.age_fileset.specs.{OpenFails};
+ghost use Rattle.age_fileset.specs.{IsMemoryOr, OpenFails};
 ghost use Rattle.age_fileset.specs.declared.files.OpenFault.TheVariants.{SameFile};
 ghost use Rattle.age_disk.specs.{IsApart, HasAll};
 ghost use Rattle.age_disk.specs.declared.names.FileId.{FileId};
@@ -14,7 +14,7 @@ use crate::prepare::Prepared;
 use age_fault::FileFault;
 use age_fileset::OpenFault;
 use age_io::Durability;
-use age_messages::RunFailures;
+use age_messages::{Action, RunFailures};
 use std::alloc::Global;
 use std::io;
 use std::rt::HostRuntime;
@@ -109,6 +109,32 @@ fn admit(opened: &mut Vec<FileId>, id: Option<FileId>) -> Result<(), OpenFault>
     Ok(keep(opened, id)?)
 }
 
+/// The name of the file that is this one among those that were prepared. Fails if the system can't
+/// look at one of them.
+fn find_prepared<'w>(
+    rt: &HostRuntime,
+    prepared: &[Prepared<'w>],
+    id: Option<FileId>,
+) -> io::Result<Option<&'w str>> {
+    for one in prepared.iter() {
+        if one.is_of(rt, id)? {
+            return Ok(Some(one.name()));
+        }
+    }
+    Ok(None)
+}
+
+/// Running out of memory is reported as such, and anything else as `other`.
+pub(crate) fn fault_of(error: io::Error, other: FileFault) -> FileFault
+    ensures { IsMemoryOr other result }
+{
+    if error.kind() == io::ErrorKind::OutOfMemory {
+        FileFault::Memory
+    } else {
+        other
+    }
+}
+
 /// Keeps a file that was opened to be written, if it is none of those that were opened or prepared
 /// before; otherwise it is as it was before, and its name is kept, with the other one if that is known.
 pub(crate) fn admit_out<'w>(
@@ -124,17 +150,19 @@ pub(crate) fn admit_out<'w>(
     ensures faults { IfErr result (OpenFails Write) }
 {
     let id = out.id();
-    let other = prepared.iter().find(|p| p.is_of(rt, id));
+    let other = find_prepared(rt, prepared, id);
     let admitted = match other {
-        Some(_) => Err(OpenFault::SameFile),
-        None => admit(opened, id),
+        Ok(None) => admit(opened, id),
+        Ok(Some(_)) => Err(OpenFault::SameFile),
+        Err(error) => Err(OpenFault::Fault(fault_of(error, FileFault::Write))),
     };
     match admitted {
         Ok(()) => Ok(out),
         Err(fault) => {
             match other {
-                Some(other) => failures.note_twice(other.name(), Some(name)),
-                None => failures.note_twice(name, None),
+                Ok(Some(other)) => failures.note_twice(other, Some(name)),
+                Ok(None) => failures.note_twice(name, None),
+                Err(error) => failures.note(Action::Write, name, error),
             }
             out.discard(rt, Durability::Buffered);
             Err(fault)

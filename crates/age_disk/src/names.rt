@@ -158,9 +158,19 @@ impl FileId {
         FileId::File(node)
     }
 
-    /// The id of the file to which a name leads, if there is one.
+    /// The id of the file to which a name leads; `None` if there is none. Fails if the system can't
+    /// look at it: then nobody knows which file it is.
+    pub(crate) fn seen_at(rt: &HostRuntime, name: &str) -> io::Result<Option<FileId>> {
+        match fs::metadata(rt, name) {
+            Ok(found) => Ok(FileId::of(&found)),
+            Err(error) if error.kind() == io::ErrorKind::NotFound => Ok(None),
+            Err(error) => Err(error),
+        }
+    }
+
+    /// The same, where a file that can't be looked at counts as none.
     pub fn at(rt: &HostRuntime, name: &str) -> Option<FileId> {
-        FileId::of(&fs::metadata(rt, name).ok()?)
+        FileId::seen_at(rt, name).unwrap_or(None)
     }
 
     /// The id of the file to which a stream leads that is open. Fails if the system doesn't show

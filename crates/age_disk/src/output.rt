@@ -152,10 +152,14 @@ fn claimed(rt: &HostRuntime, target: Target, id: Option<FileId>, name: &str) -> 
     match target {
         Target::File(mut out) => {
             out.claim()?;
-            if FileId::at(rt, name) != id {
-                return Err(io::Error::from(io::ErrorKind::NotFound));
+            match FileId::seen_at(rt, name) {
+                Ok(seen) if seen == id => Ok(Target::File(out)),
+                Ok(_) => Err(io::Error::from(io::ErrorKind::NotFound)),
+                Err(error) => {
+                    let _ = out.discard(Durability::Buffered);
+                    Err(error)
+                }
             }
-            Ok(Target::File(out))
         }
         other => Ok(other),
     }
@@ -630,10 +634,7 @@ impl HostOut {
             }
             _ => self.pace.taken,
         };
-        match &self.target {
-            Target::File(out) => held.min(out.room()),
-            other => held.saturating_sub(other.on_the_way(rt)),
-        }
+        self.target.certain_of(rt, held)
     }
 
     /// Whether puts were tried, and none took a byte.

@@ -1,7 +1,9 @@
 //! Opens, makes and removes files of the machine.
 
 use crate::names::is_on_disk;
-use age_machine::{POSITION_MODE, calls, is_at, kept_above, open_to_write};
+use age_machine::{
+    Node, POSITION_MODE, above_streams, calls, found_at, is_at, kept_above, open_to_write,
+};
 use std::fs::{self, File};
 use std::io;
 use std::rt::HostRuntime;
@@ -31,14 +33,46 @@ pub(crate) fn make_file(rt: &HostRuntime, path: &str) -> io::Result<File> {
 /// Removes a file that this run made at a path, unless another run has it, or another file is there
 /// by now. If the file system has no locks it stays: another run may be writing to it.
 pub(crate) fn remove_own(rt: &HostRuntime, file: &File, path: &str) {
-    if matches!(file.try_lock(), Ok(())) {
-        remove_at(rt, file, path);
+    if matches!(file.try_lock(), Ok(())) && is_at(rt, file, path) {
+        let _ = calls::remove(rt, path);
     }
 }
 
-/// Removes a file that no other run opens, unless another file is at its path by now.
-pub(crate) fn remove_at(rt: &HostRuntime, file: &File, path: &str) {
-    if is_at(rt, file, path) {
+/// Fails if no file can be made at a path, or none that can be looked at. One that can is removed at
+/// once.
+pub(crate) fn check_makes(rt: &HostRuntime, path: &str) -> io::Result<()> {
+    let file = make_file(rt, path)?;
+    let looked = file.metadata();
+    remove_new(rt, &file, path);
+    looked?;
+    Ok(())
+}
+
+/// Removes a file that has just been made at a path, unless another one is seen there by now.
+pub(crate) fn remove_new(rt: &HostRuntime, file: &File, path: &str) {
+    let is_another = match (file.metadata(), found_at(rt, path)) {
+        (Ok(own), Ok(Some(there))) => Node::of(&own) != Node::of(&there),
+        _ => false,
+    };
+    if !is_another {
         let _ = calls::remove(rt, path);
     }
+}
+
+/// What was opened, if it is the file that was found at a name: so no new link is followed.
+pub(crate) fn if_found(opened: Option<File>, found: Node) -> io::Result<File> {
+    match opened {
+        Some(file) if Node::of(&file.metadata()?) == found => Ok(file),
+        _ => Err(io::Error::from(io::ErrorKind::NotFound)),
+    }
+}
+
+/// The pipe that was found at a name, open to be written. It is opened to be read too for a moment,
+/// so that opening it doesn't wait for a reader; what is written fails if nobody else reads it by
+/// then. A pipe that this run may not read is refused: there is no other way to open it.
+pub(crate) fn open_pipe(rt: &HostRuntime, name: &str, found: Node) -> io::Result<File> {
+    let reader = if_found(Some(calls::open_there(rt, name, true)?), found)?;
+    let opened = open_to_write(rt, name, POSITION_MODE);
+    drop(reader);
+    above_streams(if_found(opened?, found)?)
 }

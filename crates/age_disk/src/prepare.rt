@@ -2,13 +2,14 @@
 
 use crate::beside::Kept;
 use crate::names::{FileId, Resolved, StandardStream, is_on_disk, resolve};
-use crate::paths::{make_file, open_at_once, remove_at};
+use crate::paths::{check_makes, open_at_once, open_pipe};
 use age_io::Durability;
 use age_machine::{Folder, Node, above_streams, check_same, folder_of, found_at, lock};
 use age_messages::RunFailures;
 use std::alloc::Global;
 use std::fs::{self, File, Metadata};
-use std::io::{self, Read};
+use std::io;
+use std::os::unix::fs::FileTypeExt;
 use std::path::PathBuf;
 use std::rt::HostRuntime;
 
@@ -19,7 +20,9 @@ enum Found {
     Nothing,
     /// A file that can be written, kept open.
     File(File),
-    /// A pipe or a character device.
+    /// A pipe, kept open to be written.
+    Pipe(File),
+    /// A character device or a socket.
     Device(Node),
 }
 
@@ -35,13 +38,15 @@ pub struct Prepared<'n> {
     kept: Option<Kept>,
     // A file that it may be although that is open.
     spared: Option<FileId>,
+    // Which file was there, if that is known, unless it may be open.
+    pub(crate) seen: Option<FileId>,
 }
 
 impl<'n> Prepared<'n> {
     /// Judges where a name leads, and prepares what is to replace the file there: a file beside it
     /// with room for a position, which is on the disk by then if it is to be. Fails if there is
-    /// neither room for that nor a file that can be written itself. A pipe isn't opened, since that
-    /// would wait for its reader.
+    /// neither room for that nor a file that can be written itself, or if the system can't look at
+    /// what is there. A pipe is opened without waiting for its reader.
     pub fn new(
         alloc: Global,
         rt: &HostRuntime,
@@ -56,15 +61,17 @@ impl<'n> Prepared<'n> {
         };
         let folder = folder_in(rt, &resolved, &found)?;
         let kept = kept_in(alloc, rt, &resolved, &found, durability)?;
-        let prepared = Prepared {
+        let mut prepared = Prepared {
             name,
             resolved,
             folder,
             found,
             kept,
             spared,
+            seen: None,
         };
         prepared.check_folder(rt)?;
+        prepared.seen = prepared.id(rt)?;
         Ok(prepared)
     }
 
@@ -116,8 +123,16 @@ impl<'n> Prepared<'n> {
         self.name == name
     }
 
-    /// The pipe or the device to which the name led, if it was one, with that name: no path may
-    /// lead to it, as when the name is a descriptor's.
+    /// The pipe to which the name led, if it was one, with that name: no path may lead to it, as when
+    /// the name is a descriptor's.
+    pub(crate) fn pipe(&self) -> Option<(&'n str, &File)> {
+        match &self.found {
+            Found::Pipe(file) => Some((self.name, file)),
+            _ => None,
+        }
+    }
+
+    /// The same of a device.
     pub fn device(&self) -> Option<(&'n str, Node)> {
         match self.found {
             Found::Device(node) => Some((self.name, node)),
@@ -130,19 +145,19 @@ impl<'n> Prepared<'n> {
         &self.resolved
     }
 
-    /// Which file is there now, if that is known, unless it may be open.
-    pub fn id(&self, rt: &HostRuntime) -> Option<FileId> {
-        let found = match self.found {
-            Found::Device(_) => FileId::at(rt, self.name),
-            _ => id_in(rt, &self.resolved),
+    /// Which file is there now, unless it may be open. Fails if the system can't look at it.
+    pub fn id(&self, rt: &HostRuntime) -> io::Result<Option<FileId>> {
+        let found = match &self.found {
+            Found::Pipe(_) | Found::Device(_) => FileId::seen_at(rt, self.name)?,
+            _ => id_in(rt, &self.resolved)?,
         };
-        if found == self.spared { None } else { found }
+        Ok(if found == self.spared { None } else { found })
     }
 
     /// Whether this is the file that is there now, or the one that is to take its place.
-    pub fn is_of(&self, rt: &HostRuntime, id: Option<FileId>) -> bool {
+    pub fn is_of(&self, rt: &HostRuntime, id: Option<FileId>) -> io::Result<bool> {
         let kept = self.kept.as_ref().map(Kept::id);
-        id.is_some() && (self.id(rt) == id || kept == id)
+        Ok(id.is_some() && (kept == id || self.id(rt)? == id))
     }
 }
 
@@ -161,8 +176,7 @@ fn kept_in(
         Found::Nothing => {
             let kept = Kept::make(alloc, rt, path, durability)?;
             if kept.is_none() {
-                // Fails if no file can be made there. One that can is removed at once.
-                remove_at(rt, &make_file(rt, path.as_str())?, path.as_str());
+                check_makes(rt, path.as_str())?;
             }
             Ok(kept)
         }
@@ -174,16 +188,19 @@ fn kept_in(
 /// The folder that a path leads into; `None` for what no path need lead to.
 fn folder_in(rt: &HostRuntime, resolved: &Resolved, found: &Found) -> io::Result<Option<Folder>> {
     match (resolved, found) {
-        (Resolved::Stream(_), _) | (_, Found::Device(_)) => Ok(None),
+        (Resolved::Stream(_), _) | (_, Found::Pipe(_) | Found::Device(_)) => Ok(None),
         (Resolved::Path(path), _) => Ok(Some(Folder::of(rt, path.as_str())?)),
     }
 }
 
-/// Which file is there, if that is known.
-fn id_in(rt: &HostRuntime, resolved: &Resolved) -> Option<FileId> {
+/// Which file is there. Fails if the system can't look at it.
+fn id_in(rt: &HostRuntime, resolved: &Resolved) -> io::Result<Option<FileId>> {
     match resolved {
-        Resolved::Stream(stream) => FileId::of_stream(rt, *stream),
-        Resolved::Path(path) => FileId::of(&found_at(rt, path.as_str()).ok()??),
+        Resolved::Stream(stream) => FileId::seen_at(rt, stream.path()),
+        Resolved::Path(path) => match found_at(rt, path.as_str())? {
+            Some(found) => Ok(FileId::of(&found)),
+            None => Ok(None),
+        },
     }
 }
 
@@ -218,6 +235,9 @@ fn check_found(
     if found.is_dir() {
         return Err(io::Error::from(io::ErrorKind::IsADirectory));
     }
+    if found.file_type().is_fifo() {
+        return Ok(Found::Pipe(open_pipe(rt, name, Node::of(found))?));
+    }
     if !is_on_disk(found) {
         return Ok(Found::Device(Node::of(found)));
     }
@@ -244,7 +264,7 @@ fn check_folder(rt: &HostRuntime, path: &PathBuf) -> io::Result<()> {
 }
 
 /// Judges where the name of a position leads. With `--no-clobber` a file there that holds something
-/// else is refused.
+/// is refused, except the one that is spared: the position of this command.
 pub(crate) fn prepared_at<'w>(
     alloc: Global,
     rt: &HostRuntime,
@@ -253,28 +273,17 @@ pub(crate) fn prepared_at<'w>(
     durability: Durability,
     failures: &RunFailures<'w>,
 ) -> io::Result<Prepared<'w>> {
-    if failures.keeps_outputs() && is_of_other_use(rt, name) {
-        return Err(io::Error::other("it holds no position, and --no-clobber was given"));
+    if failures.keeps_outputs() && is_of_use(rt, name, spared)? {
+        return Err(io::Error::other("it exists, and --no-clobber was given"));
     }
     Prepared::new(alloc, rt, name, spared, durability)
 }
 
-/// What the file of a position begins with.
-const POSITION: &[u8] = b"age-position/v";
-
-/// Whether a regular file has this name that is neither empty nor known to hold a position.
-fn is_of_other_use(rt: &HostRuntime, name: &str) -> bool {
+/// Whether a regular file has this name that isn't empty, other than the one that is spared.
+fn is_of_use(rt: &HostRuntime, name: &str, spared: Option<FileId>) -> io::Result<bool> {
     match fs::metadata(rt, name) {
-        Ok(found) => found.is_file() && found.len() > 0 && !holds_position(rt, name),
-        Err(_) => false,
-    }
-}
-
-/// Whether a file begins as that of a position.
-fn holds_position(rt: &HostRuntime, name: &str) -> bool {
-    let mut first = [0; POSITION.len()];
-    match File::open(rt, name) {
-        Ok(mut file) => matches!(file.read(&mut first), Ok(n) if &first[..n] == POSITION),
-        Err(_) => false,
+        Ok(found) => Ok(found.is_file() && found.len() > 0 && FileId::of(&found) != spared),
+        Err(error) if error.kind() == io::ErrorKind::NotFound => Ok(false),
+        Err(error) => Err(error),
     }
 }

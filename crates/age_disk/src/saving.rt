@@ -1,17 +1,16 @@
 //! Replaces a file of the machine as a whole.
 
-ghost use Rattle.std.specs.Prelude.{◌≡◌, None, Some, IsSomeAnd, OnOk, is_some, true};
+ghost use Rattle.std.specs.Prelude.{◌≡◌, None, Some, IsSomeAnd, IfOk, OnOk, is_some, true};
 ghost use Rattle.age_machine.specs.Saved.{Saves};
 ghost use Rattle.age_disk.specs.Outputs.{IsNew, WritesDirectly};
 ghost use Rattle.age_disk.specs.inner.Saving.{SavesBytes};
 
 use crate::names::{Resolved, is_on_disk, tape_of};
 use crate::output::{HostEnded, HostOut};
-use crate::paths::{make_file, open_at_once, remove_own};
+use crate::paths::{if_found, make_file, open_at_once, remove_new, remove_own};
 use crate::prepare::Prepared;
 use age_fault::write_all;
 use age_io::{Durability, Tape};
-use age_machine::calls::open_there;
 use age_machine::{
     HostMachine, Node, POSITION_MODE, Spot, Unplaced, found_at, lock, made_meanwhile,
     open_to_write, replace_by_kept, replace_by_new, sync_folder,
@@ -78,26 +77,13 @@ impl Saved {
     }
 }
 
-/// What was opened, if it is the file that was found at a name: so no new link is followed.
-fn if_found(opened: Option<File>, found: Node) -> io::Result<File> {
-    match opened {
-        Some(file) if Node::of(&file.metadata()?) == found => Ok(file),
-        _ => Err(io::Error::from(io::ErrorKind::NotFound)),
-    }
-}
-
-/// The pipe or the device that was found at a name, open to be written. A pipe is opened to be read
-/// too for a moment, so that opening it doesn't wait for a reader; what is written then fails if
-/// nobody else reads it. If this run may not read the pipe, it waits for a reader: there is no
-/// other way to open it.
+/// The device that was found at a name, open to be written. A pipe that has come there is refused:
+/// opening it might wait for a reader.
 fn open_device(rt: &HostRuntime, name: &str, found: Node) -> io::Result<File> {
-    if !fs::metadata(rt, name)?.file_type().is_fifo() {
-        return if_found(open_to_write(rt, name, POSITION_MODE)?, found);
+    if fs::metadata(rt, name)?.file_type().is_fifo() {
+        return Err(io::Error::from(io::ErrorKind::NotFound));
     }
-    let reader = open_there(rt, name, true);
-    let opened = open_to_write(rt, name, POSITION_MODE);
-    drop(reader);
-    if_found(opened?, found)
+    if_found(open_to_write(rt, name, POSITION_MODE)?, found)
 }
 
 /// Which bytes are put where a name led, and whether they are to reach the disk.
@@ -161,6 +147,14 @@ impl<'a> Order<'a> {
         put.or(Err(error))
     }
 
+    /// Takes a file that was made at a path for this run alone, to be written.
+    fn take_new(&self, file: &File, path: &str) -> io::Result<HostOut>
+        ensures { IfOk result IsNew }
+    {
+        lock(file)?;
+        HostOut::over(self.alloc, self.rt, file.try_clone()?, path)
+    }
+
     /// Makes a file at a path where there is none.
     fn make_directly(&self, path: &PathBuf, saved: &mut Saved) -> io::Result<()>
         ensures same { saved.new.file ≡ saved.old.file }
@@ -168,8 +162,13 @@ impl<'a> Order<'a> {
     {
         let (rt, name) = (self.rt, path.as_str());
         let file = make_file(rt, name)?;
-        lock(&file)?;
-        let out = HostOut::over(self.alloc, rt, file.try_clone()?, name)?;
+        let out = match self.take_new(&file, name) {
+            Ok(out) => out,
+            Err(error) => {
+                remove_new(rt, &file, name);
+                return Err(error);
+            }
+        };
         if let Err(error) = self.fill_directly(out, saved) {
             remove_own(rt, &file, name);
             return Err(error);
@@ -253,6 +252,10 @@ impl<'a> Order<'a> {
         requires { saved.old.file.path ≡ None }
         ensures { SavesBytes self.now.bytes.now self.now.durability result saved.new }
     {
+        if let Some((name, pipe)) = self.prepared.pipe() {
+            let out = HostOut::over(self.alloc, self.rt, pipe.try_clone()?, name)?;
+            return self.fill_directly(out, saved);
+        }
         if let Some((name, device)) = self.prepared.device() {
             let file = open_device(self.rt, name, device)?;
             let out = HostOut::over(self.alloc, self.rt, file, name)?;

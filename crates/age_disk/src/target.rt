@@ -1,6 +1,6 @@
 //! What the bytes of a written file go to.
 
-ghost use Rattle.std.specs.Prelude.{◌≡◌, ◌++◌, [], None, true, OnErr, is_ok};
+ghost use Rattle.std.specs.Prelude.{◌≡◌, ◌≤◌, ◌++◌, [], None, true, OnErr, is_ok};
 ghost use Rattle.std.specs.Io.{WritesAtMost};
 ghost use Rattle.age_disk.specs.Targets.{regular_of};
 ghost use Rattle.age_disk.specs.inner.{part_of, TargetPuts};
@@ -126,17 +126,21 @@ impl Target {
         }
     }
 
-    /// How many of the last bytes may be on their way to whoever reads it.
-    pub(crate) fn on_the_way(&self, rt: &HostRuntime) -> u64 {
+    /// How many of so many bytes are certain: a file has no more than its length, and of a pipe the
+    /// last ones may be on their way to whoever reads it.
+    pub(crate) fn certain_of(&self, rt: &HostRuntime, held: u64) -> u64
+        ensures { result ≤ held }
+    {
         let found = match self {
-            Target::File(_) => return 0,
+            Target::File(out) => return held.min(out.room()),
             Target::Device(device) => device.file.file().metadata(),
             Target::Output(..) => fs::metadata(rt, StandardStream::Output.path()),
             Target::Faults(..) => fs::metadata(rt, StandardStream::Faults.path()),
         };
         match found {
-            Ok(metadata) if is_handed_on(&metadata) => ON_THE_WAY,
-            _ => 0,
+            Ok(metadata) if is_handed_on(&metadata) => held.saturating_sub(ON_THE_WAY),
+            Ok(metadata) if metadata.is_file() => held.min(metadata.len()),
+            _ => held,
         }
     }
 

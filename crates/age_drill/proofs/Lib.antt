@@ -1,5 +1,2 @@
-mod RowLemmas
 pub mod DrillLemmas
-pub mod LineLemmas
 pub use DrillLemmas.*
-pub use LineLemmas.*

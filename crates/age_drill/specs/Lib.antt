@@ -1,4 +1,3 @@
 pub mod Drills
-pub mod Lines
 pub mod inner
 pub use Drills.{DrillEnds, RefusesDrill}

@@ -1,19 +1,16 @@
 //! The command that delivers a payload by a script.
 
-ghost use Rattle.std.specs.Prelude.{◌≡◌, ◌<◌, ◌≤◌, ◌∷◌, [], List, IfOk, IfErr, IsOk, OnOk, length, is_some};
-ghost use Rattle.std.specs.Prelude.{None, Some, take, true};
+ghost use Rattle.std.specs.Prelude.{◌≡◌, ◌<◌, ◌≤◌, ◌∷◌, [], List, IfOk, IfErr, OnOk, length, is_some, true};
 ghost use Rattle.age_io.specs.{Origin};
-ghost use Rattle.age_chunk.specs.{block_length, tag_length, text_length};
-ghost use Rattle.age_fileset.specs.{CameSince, Does, Event, Gave, HasGivenAll, Open, Reading};
+ghost use Rattle.age_chunk.specs.{block_length, tag_length};
+ghost use Rattle.age_fileset.specs.{CameSince, Does, Event, Gave, Open, Reading};
 ghost use Rattle.age_command.specs.{Follows, IsUnreadable, RefusesAtOnce, opening_event, order_asked};
 ghost use Rattle.age_cli_args.specs.{option_text};
 ghost use Rattle.age_cli_args.specs.declared.request.Drilling.{Drilling as DrillingView};
 ghost use Rattle.age_cli_args.specs.declared.request.Request.TheVariants.{Drill};
 ghost use Rattle.age_drill.specs.{DrillEnds, RefusesDrill};
-ghost use Rattle.age_drill.specs.Lines.{HasWords, PrintsAnswers, PrintsDrill, RefusesGiven};
-ghost use Rattle.age_drill.specs.inner.{EndsUnopened, FailsBy, FollowsHeader, HoldsPayloadAt, PrintsGiven};
-ghost use Rattle.age_drill.specs.inner.{RefusesScript, RefusesSource};
-ghost use Rattle.age_stanza.specs.{HeadText, reading};
+ghost use Rattle.age_drill.specs.inner.{EndsUnopened, FailsBy, RefusesDelivery};
+ghost use Rattle.age_stanza.specs.{HasText, reading};
 
 use crate::answers::answer_lines;
 use crate::script::{SCRIPT_MAX, has_too_many_lines, read_lines};
@@ -50,8 +47,6 @@ fn read_passphrase<'w, F: FileSet<'w>>(
     ensures does { Does (opening_event (option_text name.entry)) (F.view files.old) (F.view files.new) }
     ensures fails { (asked : DrillingView) → option_text asked.pass ≡ option_text name.entry
         → IfErr result (EndsUnopened (CameSince (F.view files.old) (F.view files.new)) asked) }
-    ensures words { IfOk result (HasWords (CameSince (F.view files.old) (F.view files.new))
-        (option_text name.entry)) }
 {
     match name {
         None => Ok(None),
@@ -74,8 +69,6 @@ fn read_script<'w, F: FileSet<'w>>(
     ensures does { Does (Open name.now ∷ []) (F.view files.old) (F.view files.new) }
     ensures fails { (asked : DrillingView) → IfErr result
         (EndsUnopened (CameSince (F.view files.old) (F.view files.new)) asked) }
-    ensures given { IfOk result (λ v. HasGivenAll (CameSince (F.view files.old) (F.view files.new))
-        name.now v.items) }
 {
     match read_file(alloc, files, name, SCRIPT_MAX)? {
         Some(script) if !has_too_many_lines(script.as_slice()) => Ok(script),
@@ -91,7 +84,7 @@ fn find_header(
     read: Result<(), FileFault>,
 ) -> Result<(Header, usize), FileFault>
     requires { parser.old ≡ reading [] }
-    ensures text { IfOk result (λ p. HeadText p.0 (take p.1 bytes.now)) }
+    ensures text { IfOk result (λ p. HasText p.0) }
     ensures within { IfOk result (λ p. p.1 ≤ length bytes.now) }
     ensures fails { IfErr result (FailsBy read) }
 {
@@ -110,7 +103,7 @@ fn read_header(
     bytes: &[u8],
     read: Result<(), FileFault>,
 ) -> Result<(Header, usize), FileFault>
-    ensures text { IfOk result (λ p. HeadText p.0 (take p.1 bytes.now)) }
+    ensures text { IfOk result (λ p. HasText p.0) }
     ensures within { IfOk result (λ p. p.1 ≤ length bytes.now) }
     ensures fails { IfErr result (FailsBy read) }
 {
@@ -127,8 +120,6 @@ fn payload_after(
 ) -> Result<(PayloadKey, usize), FileFault>
     requires { len ≤ length bytes.now }
     ensures within { IfOk result (λ p. p.1 ≤ length bytes.now) }
-    ensures follows { IfOk result (λ p. FollowsHeader key len bytes.now p.0 p.1) }
-    ensures whole { IfOk result (λ _. IsOk read) }
     ensures fails { IfErr result (FailsBy read) }
 {
     let key = key?;
@@ -148,8 +139,6 @@ fn open_payload(
     read: Result<(), FileFault>,
 ) -> Result<(PayloadKey, usize), FileFault>
     ensures within { IfOk result (λ p. p.1 ≤ length bytes.now) }
-    ensures begins { IfOk result (λ p. HoldsPayloadAt unlock.now bytes.now p.0 p.1) }
-    ensures whole { IfOk result (λ _. IsOk read) }
     ensures fails { IfErr result (FailsBy read) }
 {
     let (header, len) = read_header(alloc, bytes, read)?;
@@ -167,10 +156,8 @@ fn deliver<B: ChunkBox, O: Sink, const SEALED: usize>(
 ) -> Result<(), Ending>
     requires least { tag_length < SEALED }
     requires most { SEALED ≤ block_length }
-    ensures ends { DrillEnds ⊥ (RefusesScript (length payload.old) script.now) (output.new ≡ output.old)
-        (O.view output.old) (O.view output.new) result }
-    ensures printed { OnOk result (PrintsAnswers (B.opening key.now) (text_length SEALED) payload.old
-        script.now (O.view output.old) (O.view output.new)) }
+    ensures { DrillEnds ⊥ RefusesDelivery (output.new ≡ output.old) (O.view output.old)
+        (O.view output.new) result }
 {
     let lines = read_lines(alloc, script, payload.len())?;
     let mut replay = Replay::<B, SEALED>::new(alloc, key);
@@ -184,11 +171,8 @@ fn deliver_clear<S: Source, O: Sink>(
     script: &[u8],
     output: &mut O,
 ) -> Result<(), Ending>
-    ensures ends { DrillEnds ((S.view source.new).failing ≡ true)
-        (RefusesSource None script.now (S.view source.old).supply (S.view source.new).supply)
+    ensures ends { DrillEnds ((S.view source.new).failing ≡ true) RefusesDelivery
         (output.new ≡ output.old) (O.view output.old) (O.view output.new) result }
-    ensures printed { OnOk result (PrintsGiven None script.now (S.view source.old).supply
-        (S.view source.new).supply (O.view output.old) (O.view output.new)) }
     ensures began { (from : Origin) → S.began source.old from → S.began source.new from }
 {
     match read_up_to(alloc, source, PAYLOAD_MAX)? {
@@ -212,11 +196,8 @@ fn deliver_sealed<S: Source, O: Sink>(
     script: &[u8],
     output: &mut O,
 ) -> Result<(), Ending>
-    ensures ends { DrillEnds ((S.view source.new).failing ≡ true)
-        (RefusesSource (Some unlock.now) script.now (S.view source.old).supply (S.view source.new).supply)
+    ensures ends { DrillEnds ((S.view source.new).failing ≡ true) RefusesDelivery
         (output.new ≡ output.old) (O.view output.old) (O.view output.new) result }
-    ensures printed { OnOk result (PrintsGiven (Some unlock.now) script.now (S.view source.old).supply
-        (S.view source.new).supply (O.view output.old) (O.view output.new)) }
     ensures began { (from : Origin) → S.began source.old from → S.began source.new from }
 {
     let mut bytes = Vec::new(alloc);
@@ -238,11 +219,8 @@ fn deliver_source<S: Source, O: Sink>(
     script: &[u8],
     output: &mut O,
 ) -> Result<(), Ending>
-    ensures ends { DrillEnds ((S.view source.new).failing ≡ true)
-        (RefusesSource pass script.now (S.view source.old).supply (S.view source.new).supply)
+    ensures ends { DrillEnds ((S.view source.new).failing ≡ true) RefusesDelivery
         (output.new ≡ output.old) (O.view output.old) (O.view output.new) result }
-    ensures printed { OnOk result (PrintsGiven pass script.now (S.view source.old).supply
-        (S.view source.new).supply (O.view output.old) (O.view output.new)) }
     ensures began { (from : Origin) → S.began source.old from → S.began source.new from }
 {
     match &pass {
@@ -268,13 +246,7 @@ pub fn drill_file<'w, F: FileSet<'w>, O: Sink>(
     ensures ends { DrillEnds (IsUnreadable (CameSince (F.view files.old) (F.view files.new)))
         (RefusesDrill (CameSince (F.view files.old) (F.view files.new)) asked.now)
         (output.new ≡ output.old) (O.view output.old) (O.view output.new) result }
-    // So it is if a line of SCRIPT is refused, or a payload is too long.
-    ensures refused { IfErr result
-        (RefusesGiven (CameSince (F.view files.old) (F.view files.new)) asked.now) }
-    // If all was done, the answers to SCRIPT were printed, of all that IN gave.
-    ensures printed { OnOk result (PrintsDrill (CameSince (F.view files.old) (F.view files.new)) asked.now
-        (O.view output.old) (O.view output.new)) }
-    // Then IN was opened, and its reading is over.
+    // If all was done, IN was opened, and its reading is over.
     ensures over { OnOk result ((reading : Reading)
         × CameSince (F.view files.old) (F.view files.new) (Gave reading)
         × (reading.name ≡ asked.now.from.now)) }

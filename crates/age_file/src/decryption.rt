@@ -124,8 +124,16 @@ pub(crate) fn open_payload<S: Source, O: Sink>(
     ended(run, unlocked, &writer.tally)
 }
 
-/// Decrypts a file, and hands out the position of a stop: [`decrypt_with`], with positions kept.
+/// Decrypts a file: opens its header, and writes each chunk of the text once the tag of its block
+/// was checked (<https://c2sp.org/age>). It reads to the end of the source, and flushes before it
+/// returns `Ok`. The position of a stop is handed out; [`decrypt_marked`] can do without.
 /// docs/LIBRARY.md has an example, `text_of`.
+///
+/// It stops with the header's fault (1 to 8), the unlocker's or a wrong header MAC (9 to 15),
+/// `NonceCut` (16), a fault of the payload (17 to 22), `Read` (26), `Write` (27), `Memory` (28) and
+/// `ReadNeverEnds` (29). If the bytes that it read have a fault of 1 to 22, it stops with that, not
+/// with 26 or 29. All memory is taken before the payload nonce is read, so if it is refused,
+/// nothing was written.
 pub fn decrypt<U: Unlock, S: Source, O: Sink>(
     alloc: Global,
     unlock: &U,
@@ -138,36 +146,11 @@ pub fn decrypt<U: Unlock, S: Source, O: Sink>(
         (ports (S.view reader.new) (O.view writer.new)) result }
     ensures began { (from : Origin) → S.began reader.old from → S.began reader.new from }
 {
-    decrypt_with(alloc, PositionPolicy::Kept, unlock, reader, writer)
+    decrypt_marked(alloc, PositionPolicy::Kept, Lent { unlock }, reader, writer).0
 }
 
-/// Decrypts a file: opens its header, and writes each chunk of the text once the tag of its block
-/// was checked (<https://c2sp.org/age>). It reads to the end of the source, and flushes before it
-/// returns `Ok`.
-///
-/// It stops with the header's fault (1 to 8), the unlocker's or a wrong header MAC (9 to 15),
-/// `NonceCut` (16), a fault of the payload (17 to 22), `Read` (26), `Write` (27), `Memory` (28) and
-/// `ReadNeverEnds` (29). If the bytes that it read have a fault of 1 to 22, it stops with that, not
-/// with 26 or 29. All memory is taken before the payload nonce is read, so if it is refused,
-/// nothing was written.
-pub fn decrypt_with<U: Unlock, S: Source, O: Sink>(
-    alloc: Global,
-    positions: PositionPolicy,
-    unlock: &U,
-    reader: &mut S,
-    writer: &mut O,
-) -> Result<Done, Stopped>
-    ensures decrypts { Decrypts positions (U.allows unlock.now)
-        (from_start (U.allows unlock.now) (U.refuses unlock.now))
-        (ports (S.view reader.old) (O.view writer.old))
-        (ports (S.view reader.new) (O.view writer.new)) result }
-    ensures began { (from : Origin) → S.began reader.old from → S.began reader.new from }
-{
-    decrypt_marked(alloc, positions, Lent { unlock }, reader, writer).0
-}
-
-/// Decrypts as [`decrypt_with`] does, and also returns the marks of the run, if it came to its
-/// payload and positions are kept. What opens the file is dropped before its payload is read.
+/// Decrypts as [`decrypt`] does, and also returns the marks of the run, if it came to its payload and
+/// positions are kept. What opens the file is dropped before its payload is read.
 pub fn decrypt_marked<U: Unlock + Drop, S: Source, O: Sink>(
     alloc: Global,
     positions: PositionPolicy,

@@ -35,7 +35,7 @@ mod tally;
 
 pub use age_fault::{FileFault, flush_all, write_all};
 pub use age_io::{Failed, MemSink, MemSource, Memory, Reading, Sink, Source, Tape, Writing};
-pub use decryption::{Done, Stopped, decrypt, decrypt_marked, decrypt_with};
+pub use decryption::{Done, Stopped, decrypt, decrypt_marked};
 pub use encryption::{Front, Written, encrypt, encrypt_after};
 pub use inspection::{inspect, inspect_sized};
 pub use laws::{
@@ -45,5 +45,5 @@ pub use laws::{
 pub use marks::Marks;
 pub use position::{Position, PositionPolicy};
 pub use report::{Report, StanzaReport, StanzaReports};
-pub use resumption::{resume, resume_marked, resume_with};
+pub use resumption::{resume, resume_marked};
 pub use secret::Secret;

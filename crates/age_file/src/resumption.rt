@@ -109,8 +109,18 @@ fn resume_rest<S: Source, O: Sink>(
     Ok(open_payload(unlocked, index, reader, writer))
 }
 
-/// Continues a decryption that stopped, and hands out the position of a stop: [`resume_with`], with
-/// positions kept.
+/// Continues a decryption that stopped: opens the file's header, copies the earlier output up to
+/// the position, skips the blocks of that text, and writes each later chunk once the tag of its
+/// block was checked. What was written in the end is the whole text, not only its rest.
+///
+/// Up to the payload nonce it stops as [`decrypt`](crate::decrypt) does. Then it stops with
+/// `OtherFile` (24) if the position belongs to another file, and with `PositionForged` (30) if its
+/// tag wasn't made under the file's key; nothing was written. `ShortText` (25) means that the
+/// earlier output ended before the position, and `OldTextDiffers` (31) that its chunks aren't those
+/// that the position was made for; what was copied stays. `Truncated` (20), with its chunk, means
+/// that the source ends in the blocks that are skipped. Otherwise it stops as `decrypt` does. A
+/// position is handed out once the earlier output was found to be the position's; of a stop in the
+/// blocks that are skipped it is `position`. All memory is taken before the payload nonce is read.
 pub fn resume<U: Unlock, S: Source, L: Source, O: Sink>(
     alloc: Global,
     unlock: &U,
@@ -128,57 +138,12 @@ pub fn resume<U: Unlock, S: Source, L: Source, O: Sink>(
     ensures old_began { (from : Origin) → L.began old_reader.old from
         → L.began old_reader.new from }
 {
-    resume_with(
-        alloc,
-        PositionPolicy::Kept,
-        unlock,
-        position,
-        reader,
-        old_reader,
-        writer,
-    )
+    let (keep, unlock) = (PositionPolicy::Kept, Lent { unlock });
+    resume_marked(alloc, keep, unlock, position, reader, old_reader, writer).0
 }
 
-/// Continues a decryption that stopped: opens the file's header, copies the earlier output up to
-/// the position, skips the blocks of that text, and writes each later chunk once the tag of its
-/// block was checked. What was written in the end is the whole text, not only its rest.
-///
-/// Up to the payload nonce it stops as [`decrypt_with`](crate::decrypt_with) does. Then it stops
-/// with `OtherFile` (24) if the position belongs to another file, and with `PositionForged` (30) if
-/// its tag wasn't made under the file's key; nothing was written. `ShortText` (25) means that the
-/// earlier output ended before the position, and `OldTextDiffers` (31) that its chunks aren't those
-/// that the position was made for; what was copied stays. `Truncated` (20), with its chunk, means
-/// that the source ends in the blocks that are skipped. Otherwise it stops as `decrypt_with` does.
-/// A position is handed out once the earlier output was found to be the position's, if positions
-/// are kept; of a stop in the blocks that are skipped it is `position`, kept or not. All memory is
-/// taken before the payload nonce is read.
-pub fn resume_with<U: Unlock, S: Source, L: Source, O: Sink>(
-    alloc: Global,
-    positions: PositionPolicy,
-    unlock: &U,
-    position: &Position,
-    reader: &mut S,
-    old_reader: &mut L,
-    writer: &mut O,
-) -> Result<Done, Stopped>
-    ensures resumes { Decrypts positions (U.allows unlock.now)
-        (from_position (U.allows unlock.now) (U.refuses unlock.now) (resumption position.now
-        (L.view old_reader.old) (L.view old_reader.new)))
-        (ports (S.view reader.old) (O.view writer.old))
-        (ports (S.view reader.new) (O.view writer.new)) result }
-    ensures began { (from : Origin) → S.began reader.old from → S.began reader.new from }
-    ensures old_began { (from : Origin) → L.began old_reader.old from
-        → L.began old_reader.new from }
-{
-    let unlock = Lent { unlock };
-    resume_marked(
-        alloc, positions, unlock, position, reader, old_reader, writer,
-    )
-    .0
-}
-
-/// Resumes as [`resume_with`] does, and also returns the marks of the run, if it came to its payload
-/// and positions are kept. What opens the file is dropped before the earlier output is copied.
+/// Resumes as [`resume`] does, and also returns the marks of the run, if it came to its payload and
+/// positions are kept. What opens the file is dropped before the earlier output is copied.
 pub fn resume_marked<U: Unlock + Drop, S: Source, L: Source, O: Sink>(
     alloc: Global,
     positions: PositionPolicy,

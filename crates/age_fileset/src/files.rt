@@ -150,6 +150,11 @@ pub trait FileSet<'w> {
         ensures noted { view self.new ≡ with_outcomes (made_as [] name.now result) (view self.old) }
         ensures faults { IfErr result (OpenFails FileFault.Write) };
 
+    /// Whether nothing has the name, not even a link.
+    fn is_absent(&mut self, name: &'w str) -> bool
+        ensures { view self.new
+            ≡ with_outcomes (noted_if result (Absent name.now)) (view self.old) };
+
     /// Makes a file to be written, as `create` does, and refuses one that is there too, with `Write`
     /// (27): it is as it was then, and no link is followed.
     fn create_new(

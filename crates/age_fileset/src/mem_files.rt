@@ -7,7 +7,7 @@ ghost use Rattle.age_io.specs.Taken.{WriteAppends, Keeps};
 ghost use Rattle.age_io.specs.{Puts, Pulls, Flushes, holds, memory_supply, IsNamed, ReadConsumes};
 ghost use Rattle.age_fileset.specs.{entry_of, empty_with, PutsEntry, IsMemoryOr, or_empty, Open, Prepare};
 ghost use Rattle.age_fileset.specs.{Create, Make, Replace, Close, Found, FoundOrEmpty, Absent, Gave};
-ghost use Rattle.age_fileset.specs.{Settled, ended_with, opened_as, made_as, put_as, written_as};
+ghost use Rattle.age_fileset.specs.{Settled, ended_with, opened_as, made_as, noted_if, put_as, written_as};
 ghost use Rattle.age_fileset.specs.{size_in, shown_in, shown_out, seen_in, reading_of, MemFails, AreTrue};
 ghost use Rattle.age_fileset.specs.declared.files.OpenFault.TheVariants.{Fault};
 
@@ -480,6 +480,20 @@ impl<'w> FileSet<'w> for MemFiles {
         self.log
             .note(Doing::Refused(name, OpenFault::Fault(FileFault::Write)));
         Err(OpenFault::Fault(FileFault::Write))
+    }
+
+    /// Exactly if no file has the name.
+    fn is_absent(&mut self, name: &'w str) -> bool
+        ensures absent { result ≡ true ↔ (entry_of self.old.entries name.now ≡ None) }
+        ensures kept { self.new ≡ record self.old {
+          outcomes = self.old.outcomes ++ noted_if result (Absent name.now);
+        } }
+    {
+        if bytes_of(self.entries.as_slice(), name).is_some() {
+            return false;
+        }
+        self.log.note(Doing::Absent(name));
+        true
     }
 
     /// As `create`, but refuses with `Write` (27) exactly if the name is one that can't be written, or

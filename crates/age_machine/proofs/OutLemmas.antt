@@ -5,7 +5,7 @@ use Rattle.std.proofs.Common.{refl, sym, ◌∙◌, ap, subst, arith, length-app
 use Rattle.std.specs.Prelude.{Contains, Result, Ok, Err, OnOk, OnErr, is_ok}
 use Rattle.std.proofs.lemmas.Bool.{cases_Bool}
 use Rattle.std.proofs.lemmas.List.{append-nil, take_at, drop_all}
-use Rattle.age_machine.specs.{FileCall, Made, Opened, Wrote, Broke, Synced, Unwaited, Closed, Locked, Unlockable, Removed, SyncedNames, UnwaitedNames, CountsFailure, Waited}
+use Rattle.age_machine.specs.{FileCall, Made, Opened, Wrote, Broke, Synced, Unwaited, ClosesLast, Locked, Unlockable, Removed, SyncedNames, UnwaitedNames, CountsFailure, Waited}
 use Rattle.age_machine.specs.declared.in_place.Opening.{Opening}
 use Rattle.age_machine.specs.declared.in_place.Opening.TheVariants as way
 use Rattle.age_machine.specs.declared.machine.Kind.{Kind}
@@ -68,11 +68,10 @@ held_settled path n opening old new either held =
     (held_more path n opening (Unwaited n) old refl held) either
 
 -- It was closed, and then its name was waited for, or not.
-pub closed_named : (path : List ℕ) (n : ℕ) (mid new : List FileCall) → Contains mid (Closed n)
-    → (new ≡ mid) ⊎ Waited (SyncedNames path) (UnwaitedNames path) mid new → Contains new (Closed n)
+pub closed_named : (path : List ℕ) (n : ℕ) (mid new : List FileCall) → ClosesLast n mid
+    → (new ≡ mid) ⊎ Waited (SyncedNames path) (UnwaitedNames path) mid new → ClosesLast n new
 closed_named path n mid new closed =
-    if_either (λ (calls : List FileCall). Contains calls (Closed n)) (SyncedNames path) (UnwaitedNames path) mid new closed
-    (contains_later (SyncedNames path) (Closed n) mid closed) (contains_later (UnwaitedNames path) (Closed n) mid closed)
+    if_either (ClosesLast n) (SyncedNames path) (UnwaitedNames path) mid new closed closed closed
 
 -- ---- What is known by the call that opened it.
 

@@ -8,7 +8,7 @@ use Rattle.std.proofs.lemmas.Bool.{false_from_ne_true, eq-eqb, ne_eqb}
 use Rattle.std.proofs.lemmas.Slice.Eq.{bytes_eq-Decides}
 use Rattle.age_machine.specs.{FileCall, Made, Wrote, Closed, IsOf, Linked, Renamed, Removed, Reclaimed, SyncedNames, at_path, for_file, changed, after_call, IsAmong, MayLead}
 use Rattle.age_machine.specs.{MayLeaveFile, MayLeave, Synced, Unwaited, Missing, UnwaitedNames, MayHave, Waited, after_calls, sized, written, AllAnswered, AllWaited, IsBeside, IsKept}
-use Rattle.age_machine.specs.{AtEachMoment, Throughout, SavesWhole, SparesFile, HasMade, IsLonger, IsWithin, AllWithin, Touches, IsSafe, IsThereAs, Replaces, HasBeside, Reclaims}
+use Rattle.age_machine.specs.{AtEachMoment, Throughout, SavesWhole, SparesFile, HasMade, IsNumbered, IsWithin, AllWithin, Touches, IsSafe, IsThereAs, Replaces, HasBeside, Reclaims}
 use Rattle.age_machine.specs.Beside.{AllReclaimed}
 use Rattle.age_machine.specs.Disk.{Disk}
 use Rattle.age_machine.specs.inner.{Has, AllOf, IsAbout, HasTried, HasPlaced, Gets, Fills, IsAtPath, IsReady, StaysSound, WritesOver, CutsOff}
@@ -288,7 +288,7 @@ record SeesNothing (path : List ℕ) (old new : List FileCall) : Type 0 where
   pub spares : SparesFile path old new
 
 module _ (path : List ℕ) (old : List FileCall) where
-  pub reclaims_more : (p : List ℕ) (calls new : List FileCall) → IsLonger path p → Reclaims path old calls
+  pub reclaims_more : (p : List ℕ) (calls new : List FileCall) → IsNumbered path p → Reclaims path old calls
       → MayHave (Reclaimed p) calls new → Reclaims path old new
   reclaims_more p calls new longer reclaims = if_made (Reclaims path old) (Reclaimed p) calls new reclaims (record {
     since = Reclaimed p ∷ reclaims.since;
@@ -296,7 +296,7 @@ module _ (path : List ℕ) (old : List FileCall) where
     all = ((p, refl, longer), reclaims.all);
   })
 
-  sees_one : (p : List ℕ) (calls : List FileCall) → IsLonger path p → SeesNothing path old calls → SeesNothing path old (Reclaimed p ∷ calls)
+  sees_one : (p : List ℕ) (calls : List FileCall) → IsNumbered path p → SeesNothing path old calls → SeesNothing path old (Reclaimed p ∷ calls)
   sees_one p calls longer sees = record {
     touches = record {
       since = Reclaimed p ∷ sees.touches.since;
@@ -362,7 +362,7 @@ module _ (path from : List ℕ) (n : ℕ) (old : List FileCall) where
   beside_about calls new beside about = rw about.are (beside_all about.since calls about.all beside)
 
   -- right after it was made, where rooms may have been reclaimed before
-  pub kept_made : (mid new : List FileCall) → IsLonger path from → Reclaims path old mid → new ≡ Made from n ∷ mid → IsKept path from n old new
+  pub kept_made : (mid new : List FileCall) → IsNumbered path from → Reclaims path old mid → new ≡ Made from n ∷ mid → IsKept path from n old new
   kept_made mid new longer reclaims made = let seen = sees path old mid reclaims in rw made (record {
     beside = record {
       has = record {
@@ -513,7 +513,7 @@ gets_all n bytes old wrote cut settled new writes cuts either closed = rw closed
       )
 
       close : Holding n bytes old settled → Gets n bytes old (Closed n ∷ settled)
-      close held = record { sound = held.0; closed = contains_first (Closed n) settled; holds = λ path disk answers. held.1 path disk answers.1 }
+      close held = record { sound = held.0; closed = refl; holds = λ path disk answers. held.1 path disk answers.1 }
 
 pub fills_waited : (n : ℕ) (bytes : List ℕ) (old wrote cut waited : List FileCall)
     → WritesOver n (length bytes) bytes old wrote → CutsOff n (length bytes) wrote cut
@@ -592,7 +592,7 @@ module _ (path from : List ℕ) (n : ℕ) (bytes : List ℕ) (old : List FileCal
   ready_missing calls ready = record {
     tried = tried_more spot.Free (Missing path) calls (λ since made. refl) (λ free disk answers m is. is) (λ synced disk answers waited left leaves. inl leaves) ready.tried;
     apart = ready.apart;
-    closed = contains_later (Missing path) (Closed n) calls ready.closed;
+    closed = ready.closed;
     file = λ disk answers. ready.file disk answers.1;
     holds = λ disk answers. ready.holds disk answers.1;
     has = λ synced disk answers waited. ready.has synced disk answers.1 waited.1;
@@ -604,7 +604,7 @@ module _ (path from : List ℕ) (n : ℕ) (bytes : List ℕ) (old : List FileCal
         (λ synced disk answers waited. leaves_linked n from path (after_calls calls disk) ready.apart (ready.file disk answers.1) bytes
         (ready.has synced disk answers.1 waited.1)) ready.tried;
     apart = ready.apart;
-    closed = contains_later (Linked from path) (Closed n) calls ready.closed;
+    closed = ready.closed;
     file = λ disk answers. path_other path from _ (after_calls calls disk).file (λ same. ready.apart (sym same)) ∙ ready.file disk answers.1;
     holds = λ disk answers. ready.holds disk answers.1;
     has = λ synced disk answers waited. ready.has synced disk answers.1 waited.1;
@@ -641,7 +641,7 @@ module _ (path from : List ℕ) (n : ℕ) (bytes : List ℕ) (old : List FileCal
     λ disk answers.
         let holds = ready.holds disk answers.1 in
         (file_renamed n from path (after_calls calls disk) ready.apart (ready.file disk answers.1), holds.0, holds.1),
-    contains_later (Renamed from path) (Closed n) calls ready.closed,
+    ready.closed,
   )
 
   there_linked : (calls linked new : List FileCall) → Ready calls → linked ≡ Linked from path ∷ calls
@@ -650,14 +650,14 @@ module _ (path from : List ℕ) (n : ℕ) (bytes : List ℕ) (old : List FileCal
       if_made (IsThereAs path n bytes) (Removed from) linked new there (
         λ disk answers.
             let led = there.0 disk answers.1 in (path_other from path None (after_calls linked disk).file ready.apart ∙ led.0, led.1, led.2),
-        contains_later (Removed from) (Closed n) linked there.1,
+        there.1,
       ) where
         there : IsThereAs path n bytes linked
         there = rw is (
           λ disk answers.
               let holds = ready.holds disk answers.1 in
               (file_linked n from path (after_calls calls disk) ready.apart (ready.file disk answers.1), holds.0, holds.1),
-          contains_later (Linked from path) (Closed n) calls ready.closed,
+          ready.closed,
         )
 
   module _ {E : Type 0} where
@@ -712,6 +712,6 @@ module _ (path from : List ℕ) (n : ℕ) (bytes : List ℕ) (old : List FileCal
       tried = tried_named to calls new placed.tried either;
       done = λ synced. on_ok_weaker r (λ waits. safe_named path n bytes calls new (placed.done synced) (waits synced)) waited;
       there = on_ok r (if_either (IsThereAs path n bytes) (SyncedNames path) (UnwaitedNames path) calls new placed.there
-          (λ disk answers. placed.there.0 disk answers.1, contains_later (SyncedNames path) (Closed n) calls placed.there.1)
-          (λ disk answers. placed.there.0 disk answers.1, contains_later (UnwaitedNames path) (Closed n) calls placed.there.1) either);
+          (λ disk answers. placed.there.0 disk answers.1, placed.there.1)
+          (λ disk answers. placed.there.0 disk answers.1, placed.there.1) either);
     }

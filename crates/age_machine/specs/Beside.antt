@@ -2,7 +2,7 @@
 use Rattle.std.specs.Prelude.{◌≡◌, ◌≢◌, ℕ, List, [], ◌∷◌, ◌++◌, false, Some, Contains}
 use Rattle.age_machine.specs.Calls.{FileCall, Made, Reclaimed}
 use Rattle.age_machine.specs.Disk.{Disk, after_calls, MayLead}
-use Rattle.age_machine.specs.Saves.{AllAnswered, SavesWhole, SparesFile, IsLonger, Touches}
+use Rattle.age_machine.specs.Saves.{AllAnswered, SavesWhole, SparesFile, IsNumbered, Touches}
 
 -- at this path was made this file, and no other path is touched but the one that it is to have
 pub record HasBeside (path from : List ℕ) (n : ℕ) (old calls : List FileCall) : Type 0 where
@@ -28,7 +28,7 @@ pub record IsKept (path from : List ℕ) (n : ℕ) (old calls : List FileCall) :
 abbrev pub AllReclaimed : List ℕ → List FileCall → Type 0
 AllReclaimed path [] = Unit {0}
 AllReclaimed path (call ∷ calls) =
-    ((p : List ℕ) × (call ≡ Reclaimed p) × IsLonger path p) × AllReclaimed path calls
+    ((p : List ℕ) × (call ≡ Reclaimed p) × IsNumbered path p) × AllReclaimed path calls
 
 -- and no others were made since the old ones
 pub record Reclaims (path : List ℕ) (old new : List FileCall) : Type 0 where

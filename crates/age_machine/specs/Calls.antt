@@ -1,5 +1,5 @@
 -- The calls of the system by which a file is written, or put in another's place.
-use Rattle.std.specs.Prelude.{◌≡◌, ◌⊎◌, ◌<◌, ℕ, List, ◌∷◌, Result, Ok, Err}
+use Rattle.std.specs.Prelude.{◌≡◌, ◌⊎◌, ◌<◌, ℕ, List, [], ◌∷◌, Result, Ok, Err}
 use Rattle.age_machine.specs.declared.machine.Kind.{Kind}
 
 -- a call that succeeded, or that may have done something although it failed, or what a call showed;
@@ -51,6 +51,15 @@ IsOf n (Closed m) = m ≡ n
 IsOf n (Locked m) = m ≡ n
 IsOf n (Unlockable m) = m ≡ n
 IsOf n call = ⊥
+
+-- a file was closed, and no call came later that may change one
+abbrev pub ClosesLast : ℕ → List FileCall → Type 0
+ClosesLast n [] = ⊥
+ClosesLast n (Closed m ∷ calls) = m ≡ n
+ClosesLast n (Wrote m at part ∷ calls) = ⊥
+ClosesLast n (Cut m len ∷ calls) = ⊥
+ClosesLast n (Broke m ∷ calls) = ⊥
+ClosesLast n (call ∷ calls) = ClosesLast n calls
 
 -- this call was made, or none
 abbrev pub MayHave : FileCall → List FileCall → List FileCall → Type 0

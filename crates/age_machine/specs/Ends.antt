@@ -1,10 +1,10 @@
 -- What was done to an output that was ended.
 use Rattle.std.specs.Prelude.{◌≡◌, ◌≢◌, ◌⊎◌, ◌<◌, ℕ, List, [], ◌∷◌, Bool, true, false, Option, IfSome}
-use Rattle.std.specs.Prelude.{Contains, MatchOption, Result, OnOk, OnErr}
+use Rattle.std.specs.Prelude.{MatchOption, Result, OnOk, OnErr}
 use Rattle.age_io.specs.{SinkView}
 use Rattle.age_io.specs.declared.durability.Durability.{Durability}
 use Rattle.age_io.specs.declared.durability.Durability.TheVariants.{Synced}
-use Rattle.age_machine.specs.Calls.{FileCall, Closed, Opened}
+use Rattle.age_machine.specs.Calls.{FileCall, ClosesLast, Opened}
 use Rattle.age_machine.specs.declared.machine.Kind.TheVariants.{Device}
 use Rattle.age_machine.specs.Outs.{OutFile, TouchesFile, has_changed}
 use Rattle.age_machine.specs.Saves.{IsSafe, IsThereAs, SavesWhole}
@@ -53,8 +53,8 @@ pub record Closes {E : Type 0} (durability : Durability) (file : Option OutFile)
   pub closed : e.is_closed ≡ true
   pub same : e.file ≡ file
   pub within : TouchesItself e
-  -- What took bytes wasn't discarded, if the end hasn't failed.
-  pub kept : sink.taken.bytes ≢ [] → OnOk result (IfSome file (λ f. Contains e.calls (Closed f.number)))
+  -- What took bytes wasn't discarded, and was closed once it had them, if the end hasn't failed.
+  pub kept : sink.taken.bytes ≢ [] → OnOk result (IfSome file (λ f. ClosesLast f.number e.calls))
   -- It is there, if neither a put nor the end has failed.
   pub there : sink.failed ≡ 0 → OnOk result (IsThere e)
   -- It is on the disk, if that was waited for, and neither a put nor the end has failed.

@@ -10,7 +10,7 @@ pub mod Saved
 pub mod Saves
 pub mod inner
 pub use Beside.{HasBeside, IsBeside, IsKept, Reclaims}
-pub use Calls.{Broke, Closed, CountsFailure, Cut, FileCall, IsOf, Linked, Locked, Made, MayHave}
+pub use Calls.{Broke, Closed, ClosesLast, CountsFailure, Cut, FileCall, IsOf, Linked, Locked, Made, MayHave}
 pub use Calls.{Missing, Opened, Reclaimed, Removed, Renamed, Synced, SyncedNames, Unlockable}
 pub use Calls.{Unwaited, UnwaitedNames, Waited, Wrote}
 pub use Disk.{IsAmong, MayLead, MayLeave, MayLeaveFile, after_call, after_calls, at_path, changed}
@@ -26,7 +26,7 @@ pub use Numbers.{number_of}
 pub use Outs.{AllOn, IsClaimed, IsOn, LocksFirst, MayChange, OutFile, OutView, TouchesFile}
 pub use Outs.{is_making, is_waited, opening_of, text_of}
 pub use Saved.{PutsAtOnce, Replaces, SavedFile}
-pub use Saves.{AllAnswered, AllWaited, AllWithin, AtEachMoment, HasMade, IsAnswered, IsLonger}
+pub use Saves.{AllAnswered, AllWaited, AllWithin, AtEachMoment, HasMade, IsAnswered, IsNumbered}
 pub use Saves.{IsSafe, IsThereAs, IsWithin, LeadsTo, SavesWhole, SparesFile, Throughout, Touches}
 pub use Rattle.age_machine.specs.declared.machine.Kind.TheVariants.{Regular}
 pub use Rattle.age_machine.specs.declared.node.Node.{Node}

@@ -1,8 +1,8 @@
 -- What it means that a file is put to a path at once, whatever fails and whenever the power is cut.
 use Rattle.std.specs.Prelude.{◌≡◌, ◌≢◌, ◌⊎◌, ℕ, List, [], ◌∷◌, ◌++◌, length, Option, Some, None}
-use Rattle.std.specs.Prelude.{true, false, Contains}
+use Rattle.std.specs.Prelude.{true, false, codes, decimal, Contains}
 use Rattle.age_machine.specs.Calls.{FileCall, Made, Opened, Wrote, Cut, Broke, Measured, Synced}
-use Rattle.age_machine.specs.Calls.{Unwaited, Closed, Locked, Unlockable, Missing, Linked, Renamed}
+use Rattle.age_machine.specs.Calls.{Unwaited, Closed, ClosesLast, Locked, Unlockable, Missing, Linked, Renamed}
 use Rattle.age_machine.specs.Calls.{Removed, Reclaimed, SyncedNames, UnwaitedNames}
 use Rattle.age_machine.specs.declared.machine.Kind.TheVariants.{Regular}
 use Rattle.age_machine.specs.Disk.{Disk, after_calls, MayLead, MayLeave}
@@ -65,9 +65,9 @@ LeadsTo path n bytes calls = (disk : Disk) → AllAnswered path calls disk
     → ((after_calls calls disk).file path ≡ Some n) × ((after_calls calls disk).bytes n ≡ bytes)
     × ((after_calls calls disk).is_lost n ≡ false)
 
--- It does, and the file was closed.
+-- It does, and the file was closed after it got them.
 abbrev pub IsThereAs : List ℕ → ℕ → List ℕ → List FileCall → Type 0
-IsThereAs path n bytes calls = LeadsTo path n bytes calls × Contains calls (Closed n)
+IsThereAs path n bytes calls = LeadsTo path n bytes calls × ClosesLast n calls
 
 -- A file that was at a path after the old calls stays there.
 abbrev pub SparesFile : List ℕ → List FileCall → List FileCall → Type 0
@@ -83,14 +83,14 @@ HasMade n calls = (p : List ℕ) × Contains calls (Made p n)
 abbrev pub HasMadeAt : List ℕ → List FileCall → Type 0
 HasMadeAt p calls = (n : ℕ) × Contains calls (Made p n)
 
--- a path begins with another one
-abbrev pub IsLonger : List ℕ → List ℕ → Type 0
-IsLonger path p = (more : List ℕ) × (p ≡ path ++ more) × (p ≢ path)
+-- a path is another one with `.new-` and a number
+abbrev pub IsNumbered : List ℕ → List ℕ → Type 0
+IsNumbered path p = (n : ℕ) × (p ≡ path ++ (codes ".new-" ++ decimal n)) × (p ≢ path)
 
 -- After these calls, this one is about the path, a file that they made beside it, or an empty room that
 -- a stopped run left there.
 abbrev pub IsWithin : List ℕ → List FileCall → FileCall → Type 0
-IsWithin path calls (Made p n) = IsLonger path p
+IsWithin path calls (Made p n) = IsNumbered path p
 IsWithin path calls (Opened p n kind) = ⊥
 IsWithin path calls (Wrote n at part) = HasMade n calls
 IsWithin path calls (Cut n len) = HasMade n calls
@@ -105,7 +105,7 @@ IsWithin path calls (Missing p) = p ≡ path
 IsWithin path calls (Linked from to) = HasMadeAt from calls × (to ≡ path)
 IsWithin path calls (Renamed from to) = HasMadeAt from calls × (to ≡ path)
 IsWithin path calls (Removed p) = HasMadeAt p calls
-IsWithin path calls (Reclaimed p) = IsLonger path p
+IsWithin path calls (Reclaimed p) = IsNumbered path p
 IsWithin path calls (SyncedNames p) = p ≡ path
 IsWithin path calls (UnwaitedNames p) = p ≡ path
 

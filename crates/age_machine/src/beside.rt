@@ -4,7 +4,7 @@ ghost use Rattle.std.specs.Prelude.{◌≡◌, ◌≢◌, ◌⊎◌, ◌≤◌, 
 ghost use Rattle.std.specs.Prelude.{OnErr, MatchOption, length};
 ghost use Rattle.age_io.specs.declared.durability.Durability.TheVariants as wait;
 ghost use Rattle.age_machine.specs.Calls.{Broke, Synced, Unwaited, Waited};
-ghost use Rattle.age_machine.specs.Saves.{IsLonger};
+ghost use Rattle.age_machine.specs.Saves.{IsNumbered};
 ghost use Rattle.age_machine.specs.Beside.{IsKept, Reclaims};
 ghost use Rattle.age_machine.specs.declared.beside.Unplaced.TheVariants.{Memory};
 ghost use Rattle.age_machine.specs.inner.Steps.{IsAbout, StaysSound, WritesOver};
@@ -44,7 +44,7 @@ pub struct Beside<F> {
 
 /// The name of a path with a number.
 fn numbered(alloc: Global, path: &str, n: u32) -> Result<String, AllocError>
-    ensures { IfOk result (λ p. IsLonger path.now (string_bytes p)) }
+    ensures { IfOk result (λ p. IsNumbered path.now (string_bytes p)) }
 {
     let beside = format!(in alloc; "{path}.new-{n}")?;
     Ok(beside)

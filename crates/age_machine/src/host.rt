@@ -6,6 +6,7 @@ ghost use Rattle.std.specs.Io.{WritesAtMost};
 ghost use Rattle.std_io.specs.IoError.{error_kind};
 ghost use Rattle.std_io.specs.declared.io.kind.ErrorKind.TheVariants.{InvalidInput, Unsupported};
 ghost use Rattle.age_machine.specs.{Made, Opened, Broke, Waited, CountsFailure, number_of};
+ghost use Rattle.age_machine.specs.inner.Locks.{SaysNoLocks, HasNoLocks};
 
 use crate::calls;
 use crate::folder::{Folder, check_same, folder_of};
@@ -14,7 +15,7 @@ use crate::node::{Node, found_at, is_at};
 use crate::notes::{Calls, FailedCalls, Word};
 use crate::retry::{TRIES, is_to_retry, too_many_tries};
 use crate::room::reclaim;
-use std::fs::{self, File, TryLockError};
+use std::fs::{self, File, Metadata, TryLockError};
 use std::io;
 use std::os::fd::AsRawFd;
 use std::os::unix::fs::MetadataExt;
@@ -92,6 +93,23 @@ pub fn open_to_write(rt: &HostRuntime, name: &str, mode: u32) -> io::Result<Opti
     }
 }
 
+/// Whether a file was made at another time than one that was found before, as far as the system shows
+/// that: the number of one that is gone may be given to the next.
+fn was_made_later(before: &Metadata, now: &Metadata) -> bool {
+    matches!((before.created(), now.created()), (Ok(before), Ok(now)) if before != now)
+}
+
+/// Whether opening a file has made it, since the one that was found before, and held something, is
+/// gone: it is empty, no other run has it, and its path leads to it.
+fn is_made_anew(rt: &HostRuntime, before: io::Result<Metadata>, file: &File, path: &str) -> bool {
+    let (Ok(before), Ok(now)) = (before, file.metadata()) else {
+        return false;
+    };
+    let is_another = Node::of(&before) != Node::of(&now) || was_made_later(&before, &now);
+    let was_emptied = before.is_file() && before.len() > 0 && now.len() == 0;
+    is_another && was_emptied && file.try_lock().is_ok() && is_at(rt, file, path)
+}
+
 /// Whether a folder can't be read, as far as the error says.
 fn is_out_of_reach(error: &io::Error) -> bool {
     matches!(
@@ -133,20 +151,44 @@ fn check(file: &File, shape: &Shape) -> io::Result<()> {
     }
 }
 
+/// The number of the error that says that no locks are to be had (`ENOLCK`): it has no kind.
+const NO_LOCKS: i32 = 37;
+
+/// Whether an error says that a file system has no locks. One whose locks fail, as a network's whose
+/// server is away, says something else: another run may have the file there.
+fn has_no_locks(error: &io::Error) -> bool
+    ensures { result ≡ true → SaysNoLocks error.now }
+{
+    match error.kind() {
+        io::ErrorKind::InvalidInput | io::ErrorKind::Unsupported => true,
+        _ => error.raw_os_error() == Some(NO_LOCKS),
+    }
+}
+
+/// Whether the system gave a lock, by what it answered; `false` if it has none for the file. One that
+/// another run has is no missing one.
+fn is_locked(answer: Result<(), TryLockError>) -> io::Result<bool>
+    ensures given { IfOk result (λ it. it ≡ true → IsOk answer) }
+    ensures cant { IfOk result (λ it. it ≡ false → IfErr answer HasNoLocks) }
+{
+    match answer {
+        Ok(()) => Ok(true),
+        Err(TryLockError::WouldBlock) => Err(io::Error::new(
+            io::ErrorKind::ResourceBusy,
+            "another run writes to it",
+        )),
+        Err(TryLockError::Error(error)) if has_no_locks(&error) => Ok(false),
+        Err(TryLockError::Error(error)) => Err(error),
+    }
+}
+
 /// Takes a regular file for this run alone, as long as it is open; `false` if the file system has no
 /// locks, so that every run may have it. Fails if another run has it.
 pub fn lock(file: &File) -> io::Result<bool> {
     if !file.metadata()?.is_file() {
         return Ok(false);
     }
-    match file.try_lock() {
-        Ok(()) => Ok(true),
-        Err(TryLockError::WouldBlock) => Err(io::Error::new(
-            io::ErrorKind::ResourceBusy,
-            "another run writes to it",
-        )),
-        Err(_) => Ok(false),
-    }
+    is_locked(file.try_lock())
 }
 
 /// Closes a second descriptor of a file.
@@ -182,10 +224,17 @@ impl HostFile {
         Ok((file, kind))
     }
 
-    /// Opens a file to be written without emptying it; `None` if there is none.
-    fn open(rt: &HostRuntime, name: &str) -> io::Result<Option<(HostFile, Kind)>> {
+    /// Opens a file to be written without emptying it; `None` if there is none, or none any more.
+    fn open(rt: &HostRuntime, name: &str, path: &str) -> io::Result<Option<(HostFile, Kind)>> {
+        let before = fs::metadata(rt, name);
         match open_to_write(rt, name, OUTPUT_MODE)? {
-            Some(file) => Ok(Some(HostFile::of(above_streams(file)?)?)),
+            Some(file) => {
+                let file = above_streams(file)?;
+                if is_made_anew(rt, before, &file, path) && calls::remove(rt, path).is_ok() {
+                    return Ok(None);
+                }
+                Ok(Some(HostFile::of(file)?))
+            }
             None => Ok(None),
         }
     }
@@ -383,7 +432,7 @@ impl Machine for HostMachine {
     }
 
     fn open(&mut self, name: &str, path: &str) -> io::Result<Option<(HostFile, Kind)>> {
-        match HostFile::open(&self.rt, name) {
+        match HostFile::open(&self.rt, name, path) {
             Ok(Some((file, kind))) => {
                 self.calls.note(&Word::Opened(path, file.node, kind));
                 Ok(Some((file, kind)))
@@ -532,8 +581,8 @@ impl Machine for HostMachine {
 
     fn reclaim(&mut self, path: &str) {
         match reclaim(&self.rt, path) {
-            Ok(true) => self.calls.note(&Word::Reclaimed(path)),
-            Ok(false) => {}
+            Ok(Some(room)) => self.calls.note(&Word::Reclaimed(&room)),
+            Ok(None) => {}
             Err(_) => self.failed.note(),
         }
     }

@@ -1,11 +1,11 @@
 //! A regular file that is written in place.
 
 ghost use Rattle.std.specs.Prelude.{◌≡◌, ◌≢◌, ◌⊎◌, ◌≤◌, ◌<◌, ◌+◌, ◌^◌, ◌∷◌, ◌++◌, [], ℕ, List, length};
-ghost use Rattle.std.specs.Prelude.{take, string_bytes, true, false, is_some, Contains, IfOk, OnOk};
+ghost use Rattle.std.specs.Prelude.{take, string_bytes, true, false, is_some, IfOk, OnOk};
 ghost use Rattle.std.specs.Prelude.{OnErr};
 ghost use Rattle.std.specs.Io.{WritesAtMost};
 ghost use Rattle.age_io.specs.declared.durability.Durability.TheVariants as wait;
-ghost use Rattle.age_machine.specs.Calls.{FileCall, Synced, Unwaited, Closed, Locked, Unlockable};
+ghost use Rattle.age_machine.specs.Calls.{FileCall, Synced, Unwaited, Closed, ClosesLast, Locked, Unlockable};
 ghost use Rattle.age_machine.specs.Calls.{SyncedNames, UnwaitedNames, Waited};
 ghost use Rattle.age_machine.specs.Saves.{SavesWhole, IsSafe, IsThereAs};
 ghost use Rattle.age_machine.specs.Outs.{opening_of, is_making, is_waited, text_of, has_changed};
@@ -204,7 +204,7 @@ fn close_named<M: Machine>(
     ensures named { OnOk result (durability ≡ wait.Synced → is_waited opening ≡ true
         → Waited (SyncedNames path.now) (UnwaitedNames path.now)
         (Closed (M.number file.now) ∷ M.calls machine.old) (M.calls machine.new)) }
-    ensures closed { OnOk result (Contains (M.calls machine.new) (Closed (M.number file.now))) }
+    ensures closed { OnOk result (ClosesLast (M.number file.now) (M.calls machine.new)) }
     ensures begun { OnOk result ((text : List ℕ)
         → AlwaysHasWritten path.now (M.number file.now) false text (M.calls machine.old)
         → AlwaysHasWritten path.now (M.number file.now) false text (M.calls machine.new)) }
@@ -487,7 +487,7 @@ impl<M: Machine + Drop> Out<M> {
         ensures there { self.failed ≡ 0 → OnOk result.end (IsThereAs self.file.path self.file.number
             (text_of self.calls) (M.calls result.machine)) }
         ensures sure { OnOk result.end (self.is_lost ≡ false) }
-        ensures closed { OnOk result.end (Contains (M.calls result.machine) (Closed self.file.number)) }
+        ensures closed { OnOk result.end (ClosesLast self.file.number (M.calls result.machine)) }
         ensures within { TouchesFile self.file (M.calls result.machine) }
         ensures caused { OnErr result.end ((self.is_lost ≡ true)
             ⊎ (self.failed < M.failed result.machine)) }

@@ -8,6 +8,7 @@ ghost use Rattle.age_machine.specs.inner.Calls.{coded_call};
 
 use crate::machine::Kind;
 use crate::node::Node;
+use crate::room::EmptyRoom;
 use age_io::Tape;
 use std::marker::Model;
 
@@ -29,7 +30,7 @@ pub(crate) enum Word<'a> {
     Linked(&'a str, &'a str),
     Renamed(&'a str, &'a str),
     Removed(&'a str),
-    Reclaimed(&'a str),
+    Reclaimed(&'a EmptyRoom<'a>),
     SyncedNames(&'a str),
     UnwaitedNames(&'a str),
 }

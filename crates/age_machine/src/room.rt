@@ -1,5 +1,7 @@
 //! Empty rooms: what a file that is to take another's place holds until its bytes are written.
 
+ghost use Rattle.std.specs.Prelude.{◌≡◌, IfOk, IfSome, replicate};
+
 use crate::calls;
 use crate::node::{found_at, is_at};
 use std::fs::{File, Metadata};
@@ -16,27 +18,44 @@ fn may_be_room(found: &Metadata) -> bool {
     found.is_file() && found.nlink() == 1 && found.len() == ROOM.len() as u64
 }
 
-/// Whether a file begins with an empty room's bytes.
-fn holds_room(file: &File) -> io::Result<bool> {
-    let mut held = [0; 256];
-    let n = file.read_at(&mut held, 0)?;
-    Ok(n == held.len() && held == ROOM)
+/// What was read of a file that was removed as an empty room.
+#[derive(Drop)]
+pub(crate) struct EmptyRoom<'a> {
+    pub(crate) path: &'a str,
+    held: [u8; 256],
+    ghost blank: { held ≡ replicate 256 32 },
 }
 
-/// Removes an empty room that a stopped run left at a path. `false` if what is there isn't known to
+/// The room that a file at a path is, if it begins with the bytes of an empty one.
+fn room_in<'a>(file: &File, path: &'a str) -> io::Result<Option<EmptyRoom<'a>>>
+    ensures { IfOk result (λ room. IfSome room (λ r. r.path.now ≡ path.now)) }
+{
+    let mut held = [0; 256];
+    let n = file.read_at(&mut held, 0)?;
+    if n == held.len() && held == ROOM {
+        Ok(Some(EmptyRoom { path, held }))
+    } else {
+        Ok(None)
+    }
+}
+
+/// Removes an empty room that a stopped run left at a path. `None` if what is there isn't known to
 /// be one: it stays. A run has the lock of its room before that is full.
-pub(crate) fn reclaim(rt: &HostRuntime, path: &str) -> io::Result<bool> {
+pub(crate) fn reclaim<'a>(rt: &HostRuntime, path: &'a str) -> io::Result<Option<EmptyRoom<'a>>>
+    ensures { IfOk result (λ room. IfSome room (λ r. r.path.now ≡ path.now)) }
+{
     match found_at(rt, path)? {
         Some(found) if may_be_room(&found) => {}
-        _ => return Ok(false),
+        _ => return Ok(None),
     }
     let file = calls::open_there(rt, path, true)?;
     if !may_be_room(&file.metadata()?) || file.try_lock().is_err() {
-        return Ok(false);
+        return Ok(None);
     }
-    if !holds_room(&file)? || !is_at(rt, &file, path) {
-        return Ok(false);
+    let room = room_in(&file, path)?;
+    if room.is_none() || !is_at(rt, &file, path) {
+        return Ok(None);
     }
     calls::remove(rt, path)?;
-    Ok(true)
+    Ok(room)
 }

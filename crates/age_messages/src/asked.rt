@@ -56,15 +56,15 @@ fn given_to_decrypt<'w>(role: &str, asked: &Decrypting<'w>) -> Option<&'w str> {
 }
 
 /// Whether an option or an operand has this name.
-pub(crate) fn has_name(name: &str, asked: Option<Request<'_>>) -> bool {
+pub fn has_name(name: &str, asked: Option<Request<'_>>) -> bool {
     ROLES.iter().any(|role| given_to(role, asked) == Some(name))
 }
 
 /// The options and operands of a command line that have this name.
 #[derive(Clone, Copy)]
-pub(crate) struct Roles<'w> {
-    pub(crate) asked: Option<Request<'w>>,
-    pub(crate) name: &'w str,
+pub struct Roles<'w> {
+    pub asked: Option<Request<'w>>,
+    pub name: &'w str,
 }
 
 impl<'w> fmt::Display for Roles<'w> {

@@ -8,7 +8,7 @@ const SHOWN_MAX: usize = 1000;
 /// A word, in which whatever isn't text, and whatever would begin a line or command a terminal, is
 /// shown by its code. A long word is cut.
 #[derive(Clone, Copy)]
-pub(crate) struct Escaped<'a>(pub(crate) &'a [u8]);
+pub struct Escaped<'a>(pub &'a [u8]);
 
 impl<'a> fmt::Display for Escaped<'a> {
     fn fmt<W: fmt::Write>(&self, f: &mut Formatter<W>) -> fmt::Result {
@@ -42,7 +42,7 @@ fn is_cut(word: &[u8]) -> bool {
 /// A word at the beginning of a line, as `Escaped` shows it. A name that begins with a digit gets
 /// `./`, so that no line of a name looks like one of a fault.
 #[derive(Clone, Copy)]
-pub(crate) struct Leading<'a>(pub(crate) &'a [u8]);
+pub struct Leading<'a>(pub &'a [u8]);
 
 impl<'a> fmt::Display for Leading<'a> {
     fn fmt<W: fmt::Write>(&self, f: &mut Formatter<W>) -> fmt::Result {
@@ -90,18 +90,19 @@ fn show_bytes<W: fmt::Write>(
 }
 
 /// A name as a shell takes it: a command that is shown can be given again, and a name that was made
-/// to mislead does nothing there. No character of it is left out.
+/// to mislead does nothing there. No character of it is left out. Any shell takes a name without a
+/// character that has to be shown by its code, and bash, zsh and ksh take that one too.
 #[derive(Clone, Copy)]
-pub(crate) struct Quoted<'a>(pub(crate) &'a str);
+pub struct Quoted<'a>(pub &'a str);
 
 /// Whether a shell takes a character as it is.
 fn is_plain(c: char) -> bool {
     c.is_ascii_alphanumeric() || matches!(c, '_' | '-' | '.' | '/' | ':' | ',' | '+' | '@' | '%')
 }
 
-/// Whether a character can stand between quotes, and be shown.
-fn is_quotable(c: char) -> bool {
-    c != '\'' && (c == ' ' || c.is_ascii_graphic() || c.is_alphanumeric())
+/// Whether a character can be shown between quotes.
+fn is_shown(c: char) -> bool {
+    c == ' ' || c.is_ascii_graphic() || c.is_alphanumeric()
 }
 
 impl<'a> fmt::Display for Quoted<'a> {
@@ -111,12 +112,25 @@ impl<'a> fmt::Display for Quoted<'a> {
         }
         if !self.0.is_empty() && self.0.chars().all(is_plain) {
             f.write_str(self.0)
-        } else if self.0.chars().all(is_quotable) {
-            write!(f, "'{}'", self.0)
+        } else if self.0.chars().all(is_shown) {
+            quote(self.0, f)
         } else {
             quote_codes(self.0, f)
         }
     }
+}
+
+/// Shows a name between quotes, outside of which a quote of its own stands.
+fn quote<W: fmt::Write>(name: &str, f: &mut Formatter<W>) -> fmt::Result {
+    f.write_str("'")?;
+    for c in name.chars() {
+        if c == '\'' {
+            f.write_str("'\\''")?;
+        } else {
+            write!(f, "{c}")?;
+        }
+    }
+    f.write_str("'")
 }
 
 /// Shows a name between `$'` and `'`.
@@ -134,7 +148,7 @@ fn quote_char<W: fmt::Write>(c: char, f: &mut Formatter<W>) -> fmt::Result {
     match c {
         '\'' => f.write_str("\\'"),
         '\\' => f.write_str("\\\\"),
-        _ if is_quotable(c) => write!(f, "{c}"),
+        _ if is_shown(c) => write!(f, "{c}"),
         _ => quote_bytes(c, f),
     }
 }

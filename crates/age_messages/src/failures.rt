@@ -43,7 +43,7 @@ impl Action {
     }
 
     /// The number of the fault that it leads to.
-    pub(crate) fn fault_number(self) -> u8 {
+    pub fn fault_number(self) -> u8 {
         match self {
             Action::Open | Action::Read => 26,
             _ => 27,
@@ -55,13 +55,13 @@ impl Action {
 #[derive(Clone, Copy)]
 pub struct Failure<'w> {
     pub action: Action,
-    pub(crate) name: &'w str,
+    pub name: &'w str,
     error: io::Error,
 }
 
 impl<'w> Failure<'w> {
     /// Whether a file couldn't be opened, to be read, for this reason.
-    pub(crate) fn is_unopened(&self, kind: io::ErrorKind) -> bool {
+    pub fn is_unopened(&self, kind: io::ErrorKind) -> bool {
         self.action == Action::Open && self.error.kind() == kind
     }
 }
@@ -114,7 +114,7 @@ fn show_error<W: fmt::Write>(error: io::Error, f: &mut Formatter<W>) -> fmt::Res
 pub struct Amount<'w> {
     pub name: &'w str,
     pub bytes: u64,
-    pub(crate) head: FirstBytes,
+    pub head: FirstBytes,
 }
 
 impl<'w> Amount<'w> {
@@ -128,6 +128,34 @@ impl<'w> Amount<'w> {
     }
 }
 
+/// How many bytes a position has, at most.
+const POSITION_MAX: usize = 256;
+
+/// A position that couldn't be saved, as its file would have held it.
+#[derive(Clone, Copy)]
+pub struct PositionText {
+    bytes: [u8; POSITION_MAX],
+    len: usize,
+}
+
+impl PositionText {
+    /// Nothing, if it is too long.
+    fn of(text: &[u8]) -> Option<PositionText> {
+        let mut bytes = [0; POSITION_MAX];
+        bytes.get_mut(..text.len())?.copy_from_slice(text);
+        Some(PositionText {
+            bytes,
+            len: text.len(),
+        })
+    }
+
+    /// Its one line.
+    pub fn line(&self) -> &str {
+        let text = self.bytes.get(..self.len).unwrap_or(&[]);
+        str::from_utf8(text).unwrap_or("").trim_ascii_end()
+    }
+}
+
 /// What failed in a run, for a line that says so: what failed first, what kept a position from
 /// being saved, or where it was saved, which names were found to be one file, which file was read
 /// last, and which one is written. The files of a run share it. No memory is needed for a failure,
@@ -135,13 +163,15 @@ impl<'w> Amount<'w> {
 #[derive(Drop)]
 pub struct RunFailures<'w> {
     // What the command line asks for, if its words are taken.
-    pub(crate) asked: Option<Request<'w>>,
-    pub(crate) first: Cell<Option<Failure<'w>>>,
-    pub(crate) unsaved: Cell<Option<Failure<'w>>>,
+    pub asked: Option<Request<'w>>,
+    pub first: Cell<Option<Failure<'w>>>,
+    pub unsaved: Cell<Option<Failure<'w>>>,
+    /// The position that couldn't be saved.
+    pub unsaved_text: Cell<Option<PositionText>>,
     // Two names of one file; only one, if the other isn't known.
-    pub(crate) twice: Cell<Option<(&'w str, Option<&'w str>)>>,
-    pub(crate) last_read: Cell<Amount<'w>>,
-    pub(crate) typing: Cell<Typing>,
+    pub twice: Cell<Option<(&'w str, Option<&'w str>)>>,
+    pub last_read: Cell<Amount<'w>>,
+    pub typing: Cell<Typing>,
     /// Where a position was saved.
     pub saved: Cell<Option<&'w str>>,
     /// Which file is written.
@@ -163,6 +193,7 @@ impl<'w> RunFailures<'w> {
             asked,
             first: Cell::new(None),
             unsaved: Cell::new(None),
+            unsaved_text: Cell::new(None),
             twice: Cell::new(None),
             last_read: Cell::new(Amount::none("")),
             typing: Cell::new(Typing::new()),
@@ -187,7 +218,7 @@ impl<'w> RunFailures<'w> {
     }
 
     /// Whether the command line gives a limit of work, and a key that takes none.
-    pub(crate) fn has_idle_limit(&self) -> bool {
+    pub fn has_idle_limit(&self) -> bool {
         let identity = match self.asked {
             Some(Request::Decrypt(it)) => it.identity,
             Some(Request::Resume(it)) => it.decrypting.identity,
@@ -207,8 +238,9 @@ impl<'w> RunFailures<'w> {
         }
     }
 
-    /// Keeps why a position wasn't saved.
-    pub fn note_unsaved(&self, name: &'w str, error: io::Error) {
+    /// Keeps why a position wasn't saved, and the position.
+    pub fn note_unsaved(&self, name: &'w str, error: io::Error, text: &[u8]) {
+        self.unsaved_text.set(PositionText::of(text));
         let action = Action::Save;
         self.unsaved.set(Some(Failure {
             action,
@@ -245,12 +277,12 @@ impl<'w> RunFailures<'w> {
     }
 
     /// What the command line gives to an option or an operand.
-    pub(crate) fn named_by(&self, role: &str) -> Option<&'w str> {
+    pub fn named_by(&self, role: &str) -> Option<&'w str> {
         given_to(role, self.asked)
     }
 
     /// Whether the command line says what opens a file.
-    pub(crate) fn has_key(&self) -> bool {
+    pub fn has_key(&self) -> bool {
         self.named_by("--pass").is_some()
             || self.named_by("--file-key").is_some()
             || self.named_by("--shared").is_some()

@@ -3,19 +3,25 @@
 use crate::line::size_line;
 use std::fmt::{self, Formatter};
 
-/// How many bytes are kept: the first line, and a stanza of a passphrase with its work factor.
-const KEPT_MAX: usize = 80;
+/// How many bytes are kept: the first line, the stanza of a passphrase with a work factor of up to
+/// three digits, and the beginning of the last line.
+const KEPT_MAX: usize = 108;
+
+/// How many characters the salt of that stanza has, and how many its body.
+const SALT_LEN: usize = 22;
+
+const BODY_LEN: usize = 43;
 
 /// The first bytes of a file.
 #[derive(Clone, Copy)]
-pub(crate) struct FirstBytes {
+pub struct FirstBytes {
     kept: [u8; KEPT_MAX],
     len: usize,
 }
 
 /// A work factor.
 #[derive(Clone, Copy)]
-pub(crate) enum Work {
+pub enum Work {
     /// One that some limit allows.
     Allowed(u8),
     /// One above all limits.
@@ -37,7 +43,7 @@ impl fmt::Display for Work {
 
 impl FirstBytes {
     /// None yet.
-    pub(crate) fn new() -> FirstBytes {
+    pub fn new() -> FirstBytes {
         FirstBytes {
             kept: [0; KEPT_MAX],
             len: 0,
@@ -45,7 +51,7 @@ impl FirstBytes {
     }
 
     /// Keeps what was read after the others, as far as there is room.
-    pub(crate) fn extend(&mut self, read: &[u8]) {
+    pub fn extend(&mut self, read: &[u8]) {
         let left = KEPT_MAX.saturating_sub(self.len);
         for byte in &read[..read.len().min(left)] {
             if self.len < KEPT_MAX {
@@ -56,11 +62,28 @@ impl FirstBytes {
     }
 
     /// The work factor of a stanza of a passphrase that comes first, as one has to.
-    pub(crate) fn work(&self) -> Option<Work> {
+    pub fn work(&self) -> Option<Work> {
+        let (_, rest) = self.scrypt()?;
+        work_of(rest)
+    }
+
+    /// The same, of a header that a passphrase can open: that stanza is the only one.
+    pub fn work_alone(&self) -> Option<Work> {
+        let (salt, rest) = self.scrypt()?;
+        let (_, body) = rest.split_once('\n')?;
+        let (body, end) = body.split_once('\n')?;
+        if salt.len() == SALT_LEN && body.len() == BODY_LEN && end.starts_with("---") {
+            work_of(rest)
+        } else {
+            None
+        }
+    }
+
+    /// The salt of a stanza of a passphrase that comes first, and what follows it.
+    fn scrypt(&self) -> Option<(&str, &str)> {
         let kept = str::from_utf8(&self.kept[..self.len.min(KEPT_MAX)]).ok()?;
         let stanza = kept.strip_prefix("age-encryption.org/v1\n-> scrypt ")?;
-        let (_, rest) = stanza.split_once(' ')?;
-        work_of(rest)
+        stanza.split_once(' ')
     }
 }
 

@@ -1,19 +1,16 @@
-//! What people read: the line on a terminal that shows how far a run is, and what the machine
-//! answered if something failed, which is said after the fault that it became.
+//! What people read while a run lasts: the line on a terminal that shows how far it is, and what takes
+//! long; and what is kept of it for the lines that come after.
 //!
 //! A `ProgressLine` is a meter that shows how many bytes were read, on one line that it writes over
 //! and over into a sink, or in the lines of a log. `RunFailures` keeps what the machine answered when
-//! something failed, and `explain` says it after the fault that it became.
+//! something failed, and `explain` of `age_hints` says it after the fault that it became.
 #![tactic(auto)]
 
 mod announcing;
 mod asked;
 mod escaped;
-mod explaining;
 mod failures;
 mod head;
-mod heard;
-mod hints;
 mod line;
 mod line_style;
 mod progress_line;
@@ -23,8 +20,10 @@ mod typing;
 pub use announcing::{
     announce_copying, announce_passphrase, announce_reading, announce_sync, explain_words,
 };
-pub use explaining::explain;
-pub use failures::{Action, RunFailures};
-pub use heard::Heard;
+pub use asked::{Roles, has_name};
+pub use escaped::{Escaped, Leading, Quoted};
+pub use failures::{Action, Amount, Failure, PositionText, RunFailures};
+pub use head::{FirstBytes, Work};
 pub use line_style::LineStyle;
 pub use progress_line::ProgressLine;
+pub use typing::Typing;

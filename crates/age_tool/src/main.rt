@@ -1,6 +1,6 @@
 //! Reads and writes age files: passes its arguments, the machine's files and its standard streams
 //! to `age_cli::run`, says what the machine answered if that is why it failed, and exits with the
-//! status that it returns. `help N` it answers itself.
+//! status that it returns. `help N` and `help NAME`, about a fault, it answers itself.
 #![tactic(auto)]
 
 mod faults;
@@ -10,9 +10,8 @@ use age_cli::run;
 use age_cli_args::read_request;
 use age_disk::{HostFiles, HostOut, Watched};
 use age_file::{Reading, Writing};
-use age_messages::{
-    Heard, LineStyle, ProgressLine, RunFailures, announce_reading, explain, explain_words,
-};
+use age_hints::{Heard, Refusals, explain};
+use age_messages::{LineStyle, ProgressLine, RunFailures, announce_reading, explain_words};
 use clap::error::ErrorKind;
 use std::alloc::Global;
 use std::io::{self, IsTerminal};
@@ -52,13 +51,29 @@ fn progress_style(rt: &HostRuntime) -> LineStyle {
     }
 }
 
-/// What the words ask for if they are `help N`: what the fault of this number means.
+/// What the words ask for if they are `help N` or `help NAME`: what this fault means.
 fn row_asked(words: &[&str]) -> Option<&'static str> {
-    if words.len() == 2 && words[0] == "help" {
-        row_of(words[1].parse().ok()?)
-    } else {
-        None
+    if words.len() != 2 || words[0] != "help" {
+        return None;
     }
+    let word = words[1];
+    if let Ok(number) = word.parse() {
+        return row_of(number);
+    }
+    for number in 1..=u8::MAX {
+        let row = row_of(number)?;
+        if name_in(row) == Some(word) {
+            return Some(row);
+        }
+    }
+    None
+}
+
+/// The name of the fault that a row is about: it follows the number in the first line.
+fn name_in(row: &str) -> Option<&str> {
+    let (first, _) = row.split_once('\n')?;
+    let (_, name) = first.split_once(' ')?;
+    Some(name)
 }
 
 /// Prints what a fault means.
@@ -92,6 +107,7 @@ fn run_over<'r, 'w>(
         &mut output,
         faults,
         &mut progress,
+        &Refusals,
     )
 }
 

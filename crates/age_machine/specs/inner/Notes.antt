@@ -26,7 +26,7 @@ file_call_of (word.Missing path) = Missing path.now
 file_call_of (word.Linked from to) = Linked from.now to.now
 file_call_of (word.Renamed from to) = Renamed from.now to.now
 file_call_of (word.Removed path) = Removed path.now
-file_call_of (word.Reclaimed path) = Reclaimed path.now
+file_call_of (word.Reclaimed room) = Reclaimed room.now.path.now
 file_call_of (word.SyncedNames path) = SyncedNames path.now
 file_call_of (word.UnwaitedNames path) = UnwaitedNames path.now
 

@@ -3,7 +3,7 @@ use Rattle.std.specs.Prelude.{◌≡◌, ◌≢◌, ◌⊎◌, ℕ, List, [], �
 use Rattle.std.specs.Prelude.{Some, Contains, Result, OnOk}
 use Rattle.age_io.specs.declared.durability.Durability.{Durability}
 use Rattle.age_io.specs.declared.durability.Durability.TheVariants as wait
-use Rattle.age_machine.specs.Calls.{FileCall, Closed, Removed, SyncedNames, UnwaitedNames, IsOf, MayHave}
+use Rattle.age_machine.specs.Calls.{FileCall, ClosesLast, Removed, SyncedNames, UnwaitedNames, IsOf, MayHave}
 use Rattle.age_machine.specs.Calls.{Waited}
 use Rattle.age_machine.specs.Disk.{Disk, after_calls}
 use Rattle.age_machine.specs.Saves.{AllAnswered, AllWaited, IsThereAs, SavesWhole, SparesFile}
@@ -43,7 +43,7 @@ pub record CutsOff (n len : ℕ) (old new : List FileCall) : Type 0 where
 -- it comes to hold these bytes, and is closed
 pub record Gets (n : ℕ) (bytes : List ℕ) (old new : List FileCall) : Type 0 where
   pub sound : StaysSound n old new
-  pub closed : Contains new (Closed n)
+  pub closed : ClosesLast n new
   pub holds : (path : List ℕ) (disk : Disk) → AllAnswered path new disk
       → (after_calls new disk).bytes n ≡ bytes
 
@@ -103,7 +103,7 @@ pub record IsReady (durability : Durability) (path from : List ℕ) (n : ℕ) (b
     (old calls : List FileCall) : Type 0 where
   pub tried : HasTried spot.Free durability path from n bytes old calls
   pub apart : from ≢ path
-  pub closed : Contains calls (Closed n)
+  pub closed : ClosesLast n calls
   pub file : (disk : Disk) → AllAnswered path calls disk → (after_calls calls disk).file from ≡ Some n
   pub holds : (disk : Disk) → AllAnswered path calls disk
       → ((after_calls calls disk).bytes n ≡ bytes) × ((after_calls calls disk).is_lost n ≡ false)

@@ -46,6 +46,6 @@ returns-clause-runs g c = λ begin later fresh.
     (In ready.source) (In once.result.source)) old new later
     (last gave (came_did settle.ensures.does gave (did_came c.finish_old.ensures.does gave (came_one told first gave (ap (λ v. v.outcomes) is))))) (now ≡ was)
     (λ coming left. ShowsRun (size ready.source) coming left (shown was) (shown now)) once.ensures.silent once.ensures.shown once.result.end once.result.marks
-    settle.result engine c.end_output.result once.ensures.decrypts c.placed_end-engine.ensures
+    settle.result engine c.end_output.result once.ensures.decrypts (rw c.start_of-start.ensures at c.placed_end-engine.ensures)
     (λ failed there. since _ (settle.ensures.certain (c.is_err.ensures.value ∙ failed) there))
     (concludes_from (option_text w.save) w.paths.durability sink old mid new (does_then [] [] old first mid read settle.ensures.does) engine c.end_output.result ended)

@@ -1,6 +1,6 @@
 use Rattle.std.proofs.Common.{List, subst, sym, ap}
 use Rattle.age_fileset.specs.{FilesView, AreTrue, Outcome}
-use Rattle.age_cli.proofs.{encrypted_of, spares_done, headline_of, resumed_headline_of, spares_asked, spares_refused, failed_by, usage_by}
+use Rattle.age_cli.proofs.{encrypted_of, opened_of, resumed_of, spares_done, headline_of, resumed_headline_of, spares_asked, spares_refused, failed_by, usage_by}
 use Rattle.age_cli.proofs.laws.runs_keep_out.Goals as goal
 
 pub returns : goal.returns
@@ -22,4 +22,6 @@ returns g c = λ words before after faults_old faults_new input output faults pr
         spares_done words _ before after _ _ _ _ status was is kept_was kept_is ran.ended failed ran.obeys,
       ),
       encrypted_of words _ before after _ _ _ _ status was is kept_was kept_is ran.ended failed ran.obeys,
+      opened_of words _ before after _ _ _ _ status was is kept_was kept_is ran.ended failed ran.obeys,
+      resumed_of words _ before after _ _ _ _ status was is kept_was kept_is ran.ended failed ran.obeys,
     )

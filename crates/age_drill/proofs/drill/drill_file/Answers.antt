@@ -1,14 +1,13 @@
-use Rattle.std.proofs.Common.{◌≡◌, ◌++◌, true, ◌∷◌, [], ℕ, List, ap, inl, inr, refl, subst, sym, Result, Ok, Err, IfErr, OnOk}
+use Rattle.std.proofs.Common.{◌≡◌, ◌++◌, true, ◌∷◌, [], ap, inl, inr, refl, Result, Ok, Err, OnOk}
 use Rattle.age_io.specs.{Named}
 use Rattle.age_cli_args.specs.{option_text}
-use Rattle.age_fileset.specs.{CameSince, Open, Found, Gave, HasGivenAll, reading_of}
-use Rattle.age_fileset.proofs.{all_as, given_as, opened_came, came_one, checked_does, checked_stream, did_events, does_none, does_only, does_then, found_plain, gave_puts, opened_does, opened_in_use, opened_unread}
+use Rattle.age_fileset.specs.{CameSince, Open, Found, Gave, reading_of}
+use Rattle.age_fileset.proofs.{came_one, checked_does, checked_stream, did_events, does_none, does_only, does_then, found_plain, gave_puts, opened_does, opened_in_use, opened_unread}
 use Rattle.age_command.specs.{IsUnreadable, opening_event}
-use Rattle.age_command.proofs.{all_so, did_came, followed, given_so, longer, then_follows}
-use Rattle.age_command.proofs.FileLemmas.{came_did}
+use Rattle.age_command.proofs.{did_came, followed, longer, then_follows}
 use Rattle.age_drill.specs.Drills.{RefusesDrill}
-use Rattle.age_drill.specs.Lines.{RefusesGiven}
-use Rattle.age_drill.proofs.{ends_as, given_printed, given_refused, none_given, open_ends, source_refused, streams_end, this_result, unopened, unopened_later, words_later}
+use Rattle.age_drill.specs.inner.{RefusesDelivery}
+use Rattle.age_drill.proofs.{delivery_refused, ends_as, open_ends, streams_end, unopened, unopened_later}
 use Rattle.age_drill.proofs.drill.drill_file.Goals as goal
 
 always : {T E : Type 0} (r : Result T E) (P : Type 0) → P → OnOk r P
@@ -132,8 +131,8 @@ returns-clause-ends g c =
     let came = did_came before (Gave reading) (came_one _ _ _ (ap (λ v. v.outcomes) over)) in
     let Came = CameSince (g.F.FileSet.view c.args.files.now) (g.F.FileSet.view c.finish.new.self) in
     let new = c.deliver_source-drilled.new.output in
-    ends_as ((In c.deliver_source-drilled.new.source).failing ≡ true) (IsUnreadable Came) (new ≡ c.args.output.now) (new ≡ c.args.output.now) _ (RefusesDrill Came asked)
-    (g.O.Sink.view c.args.output.now) (g.O.Sink.view new) (λ failing. inr (reading, came, failing)) (λ same. same) (source_refused Came asked _ _ _ _) c.deliver_source-drilled.result c.deliver_source-drilled.ensures.ends
+    ends_as ((In c.deliver_source-drilled.new.source).failing ≡ true) (IsUnreadable Came) (new ≡ c.args.output.now) (new ≡ c.args.output.now) RefusesDelivery (RefusesDrill Came asked)
+    (g.O.Sink.view c.args.output.now) (g.O.Sink.view new) (λ failing. inr (reading, came, failing)) (λ same. same) (delivery_refused Came asked) c.deliver_source-drilled.result c.deliver_source-drilled.ensures.ends
 
 pub returns-clause-over : goal.returns-clause-over
 returns-clause-over g c =
@@ -144,84 +143,3 @@ returns-clause-over g c =
     let opened = opened_does In g.F.FileSet.size from (Found from) (found_plain from) _ _ c.open.result c.open.ensures.noted c.open.ensures.faults in
     let before = does_then [] _ _ _ _ (checked_does c.check_streams.ensures.checks) (does_then _ _ _ _ _ c.read_passphrase.ensures.does (does_then _ _ _ _ _ c.read_script.ensures.does opened)) in
     always c.deliver_source-drilled.result _ (reading, did_came before (Gave reading) (came_one _ _ _ (ap (λ v. v.outcomes) over)), refl)
-
-pub returns-in_err-check_streams-clause-refused : goal.returns-in_err-check_streams-clause-refused
-returns-in_err-check_streams-clause-refused g c =
-    let Came = CameSince (g.F.FileSet.view c.args.files.now) (g.F.FileSet.view c.check_streams.new.self) in
-    this_result c.from_residual.result _ c.from_residual.ensures (λ r. IfErr r (RefusesGiven Came c.args.asked.now)) (none_given Came c.args.asked.now _
-    (streams_end Came c.args.asked.now c.in_err-check_streams.field-0.0 c.in_err-check_streams.ensures.faults (checked_stream c.in_err-check_streams.ensures.checks)))
-
-pub returns-in_err-pass-clause-refused : goal.returns-in_err-pass-clause-refused
-returns-in_err-pass-clause-refused g c =
-    let Came = CameSince (g.F.FileSet.view c.args.files.now) (g.F.FileSet.view c.read_passphrase.new.files) in
-    this_result c.from_residual-in_err-pass.result _ c.from_residual-in_err-pass.ensures (λ r. IfErr r (RefusesGiven Came c.args.asked.now)) (none_given Came c.args.asked.now _
-    (unopened_later (did_came (checked_does c.check_streams.ensures.checks)) c.args.asked.now _ (c.in_err-pass.ensures.fails c.args.asked.now refl)))
-
-pub returns-in_err-script-clause-refused : goal.returns-in_err-script-clause-refused
-returns-in_err-script-clause-refused g c =
-    let Came = CameSince (g.F.FileSet.view c.args.files.now) (g.F.FileSet.view c.read_script.new.files) in
-    let before = does_then [] _ _ _ _ (checked_does c.check_streams.ensures.checks) c.read_passphrase.ensures.does in
-    this_result c.from_residual-in_err-script.result _ c.from_residual-in_err-script.ensures (λ r. IfErr r (RefusesGiven Came c.args.asked.now)) (none_given Came c.args.asked.now _
-    (unopened_later (did_came before) c.args.asked.now _ (c.in_err-script.ensures.fails c.args.asked.now)))
-
-pub returns-in_err-source-clause-refused : goal.returns-in_err-source-clause-refused
-returns-in_err-source-clause-refused g c =
-    let asked = c.args.asked.now in
-    let from = asked.from.now in
-    let In = g.F.In.Source.view in
-    let f = c.in_err-source.field-0.0 in
-    let Came = CameSince (g.F.FileSet.view c.args.files.now) (g.F.FileSet.view c.open.new.self) in
-    let before = does_then [] _ _ _ _ (checked_does c.check_streams.ensures.checks) (does_then _ _ _ _ _ c.read_passphrase.ensures.does c.read_script.ensures.does) in
-    this_result c.from_residual-in_err-source.result _ c.from_residual-in_err-source.ensures (λ r. IfErr r (RefusesGiven Came asked)) (none_given Came asked _
-    (unopened_later (did_came before) asked _ (open_ends (CameSince (g.F.FileSet.view c.read_script.new.files) (g.F.FileSet.view c.open.new.self)) asked f c.in_err-source.ensures.faults
-    (λ same. inl (from, opened_unread In g.F.FileSet.size from (Found from) (found_plain from) _ _ (Err f) c.in_err-source.ensures.noted same))
-    (λ same. (from, opened_in_use In g.F.FileSet.size from (Found from) (found_plain from) _ _ (Err f) c.in_err-source.ensures.noted same)))))
-
-pub returns-clause-refused : goal.returns-clause-refused
-returns-clause-refused g c =
-    let asked = c.args.asked.now in
-    let from = asked.from.now in
-    let In = g.F.In.Source.view in
-    let files = g.F.FileSet.view in
-    let first = c.in_ok-source.source in
-    let last = c.deliver_source-drilled.new.source in
-    let Came = CameSince (files c.args.files.now) (files c.finish.new.self) in
-    let over = c.finish.ensures.over from (c.deliver_source-drilled.ensures.began (Named from) c.in_ok-source.ensures.named) in
-    let opened = opened_does In g.F.FileSet.size from (Found from) (found_plain from) _ _ c.open.result c.open.ensures.noted c.open.ensures.faults in
-    let found = opened_came In g.F.FileSet.size from (Found from) (found_plain from) _ _ (Ok first) c.in_ok-source.ensures.noted in
-    let read = does_then (Open from ∷ []) [] _ _ _ opened (does_only _ _ (Gave (reading_of from (In last)) ∷ []) over (gave_puts _)) in
-    let checked = checked_does c.check_streams.ensures.checks in
-    let passed = does_then [] _ _ _ _ checked c.read_passphrase.ensures.does in
-    let scripted = does_then _ _ _ _ _ passed c.read_script.ensures.does in
-    let words = words_later (λ o came. came_did (does_then _ _ _ _ _ c.read_script.ensures.does read) o (did_came checked o came)) (option_text asked.pass) _ c.in_ok-pass.ensures.words in
-    let script = subst (λ (xs : List ℕ). HasGivenAll Came asked.script.now xs) (sym c.as_slice.ensures.value)
-    (all_as _ Came (λ o came. came_did read o (did_came passed o came)) asked.script.now _ c.in_ok-script.ensures.given) in
-    given_refused Came asked _ words c.as_slice.result.now script _ _
-    (λ bytes taken. given_as _ Came (did_came scripted) from bytes (given_so from _ _ _ (In first) (In last) _ c.in_ok-source.ensures.begun found over bytes taken))
-    (λ bytes taken end. all_as _ Came (did_came scripted) from bytes (all_so from _ _ _ (In first) (In last) _ c.in_ok-source.ensures.begun found over bytes taken end))
-    ((In last).failing ≡ true) (c.deliver_source-drilled.new.output ≡ c.args.output.now) (g.O.Sink.view c.args.output.now) (g.O.Sink.view c.deliver_source-drilled.new.output)
-    c.deliver_source-drilled.result c.deliver_source-drilled.ensures.ends
-
-pub returns-clause-printed : goal.returns-clause-printed
-returns-clause-printed g c =
-    let asked = c.args.asked.now in
-    let from = asked.from.now in
-    let In = g.F.In.Source.view in
-    let files = g.F.FileSet.view in
-    let first = c.in_ok-source.source in
-    let last = c.deliver_source-drilled.new.source in
-    let Came = CameSince (files c.args.files.now) (files c.finish.new.self) in
-    let over = c.finish.ensures.over from (c.deliver_source-drilled.ensures.began (Named from) c.in_ok-source.ensures.named) in
-    let opened = opened_does In g.F.FileSet.size from (Found from) (found_plain from) _ _ c.open.result c.open.ensures.noted c.open.ensures.faults in
-    let found = opened_came In g.F.FileSet.size from (Found from) (found_plain from) _ _ (Ok first) c.in_ok-source.ensures.noted in
-    let read = does_then (Open from ∷ []) [] _ _ _ opened (does_only _ _ (Gave (reading_of from (In last)) ∷ []) over (gave_puts _)) in
-    let checked = checked_does c.check_streams.ensures.checks in
-    let passed = does_then [] _ _ _ _ checked c.read_passphrase.ensures.does in
-    let scripted = does_then _ _ _ _ _ passed c.read_script.ensures.does in
-    let words = words_later (λ o came. came_did (does_then _ _ _ _ _ c.read_script.ensures.does read) o (did_came checked o came)) (option_text asked.pass) _ c.in_ok-pass.ensures.words in
-    let script = subst (λ (xs : List ℕ). HasGivenAll Came asked.script.now xs) (sym c.as_slice.ensures.value)
-    (all_as _ Came (λ o came. came_did read o (did_came passed o came)) asked.script.now _ c.in_ok-script.ensures.given) in
-    given_printed Came asked _ words c.as_slice.result.now script _ _
-    (λ bytes taken. given_as _ Came (did_came scripted) from bytes (given_so from _ _ _ (In first) (In last) _ c.in_ok-source.ensures.begun found over bytes taken))
-    (λ bytes taken end. all_as _ Came (did_came scripted) from bytes (all_so from _ _ _ (In first) (In last) _ c.in_ok-source.ensures.begun found over bytes taken end))
-    (g.O.Sink.view c.args.output.now) (g.O.Sink.view c.deliver_source-drilled.new.output) c.deliver_source-drilled.result c.deliver_source-drilled.ensures.printed

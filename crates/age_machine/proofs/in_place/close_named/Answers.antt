@@ -1,5 +1,5 @@
 use Rattle.std.proofs.Common.{refl}
-use Rattle.age_machine.proofs.{held_one, held_named, closed_named, contains_first, on_ok}
+use Rattle.age_machine.proofs.{held_one, held_named, closed_named, on_ok}
 use Rattle.age_machine.proofs.in_place.close_named.Goals as goal
 
 pub returns-in_err-close-clause-held : goal.returns-in_err-close-clause-held
@@ -11,4 +11,4 @@ returns-clause-held g c =
 
 pub returns-clause-closed : goal.returns-clause-closed
 returns-clause-closed g c = on_ok c.settle_name.result
-    (closed_named _ _ _ _ (rw c.in_ok-close.ensures.ok (contains_first _ _)) c.settle_name.ensures.either)
+    (closed_named _ _ _ _ (rw c.in_ok-close.ensures.ok refl) c.settle_name.ensures.either)

@@ -1,13 +1,8 @@
-use Rattle.std.proofs.Common.{length, ◌-◌, ◌≡◌, ◌≤◌, take}
-use Rattle.age_io.specs.Taken.{Appends}
+use Rattle.std.proofs.Common.{length, ◌-◌, ◌≤◌}
 use Rattle.age_messages.proofs.text.put_all.Given as goal
 
 abbrev pub invariant-loop-at : goal.invariant-loop-at
-invariant-loop-at g l = record {
-  within : l.at ≤ length l.text;
-  wrote : Appends (g.O.Sink.view l.fn.sink).taken (g.O.Sink.view l.sink).taken (take l.at l.text);
-  failed : (g.O.Sink.view l.sink).failed ≡ (g.O.Sink.view l.fn.sink).failed;
-}
+invariant-loop-at g l = record { within : l.at ≤ length l.text }
 
 abbrev pub decreases-loop-at : goal.decreases-loop-at
 decreases-loop-at g l = length l.text - l.at

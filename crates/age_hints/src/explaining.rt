@@ -1,15 +1,16 @@
 //! What people read after a run, besides the line of its fault.
 
-use crate::asked::{Roles, has_name};
-use crate::escaped::{Escaped, Leading, Quoted};
-use crate::failures::{Amount, Failure, RunFailures};
-use crate::head::Work;
 use crate::heard::Heard;
 use crate::hints::Reported;
 use age_cli_args::Request;
 use age_io::Sink;
+use age_messages::{
+    Action, Amount, Escaped, Failure, Leading, Quoted, Roles, RunFailures, Work, has_name,
+};
 use std::fmt::{self, Formatter};
-use std::io::{self, Eprint};
+use std::fs;
+use std::io::{self, Eprint, IsTerminal};
+use std::os::unix::fs::FileTypeExt;
 use std::rt::HostRuntime;
 
 /// Says on standard error why a run stopped, and what to do, in one line; whether a position was
@@ -17,7 +18,8 @@ use std::rt::HostRuntime;
 /// surprise.
 pub fn explain<O: Sink>(rt: &HostRuntime, heard: &Heard<O>, failures: &RunFailures<'_>) {
     let mut lines = heard.text().lines();
-    match lines.next() {
+    let first = lines.next();
+    match first {
         Some(line) => explain_end(rt, line, lines.next(), failures),
         None if matches!(failures.asked, None | Some(Request::Inspect(_))) => {
             tell_work(rt, failures);
@@ -26,6 +28,9 @@ pub fn explain<O: Sink>(rt: &HostRuntime, heard: &Heard<O>, failures: &RunFailur
     }
     explain_words_taken(rt, failures);
     explain_files(rt, failures);
+    if first != Some("age_tool: bad passphrase file") {
+        explain_typing(rt, failures);
+    }
 }
 
 /// Says more of a fault, and of a second one; or of words that were refused.
@@ -37,6 +42,7 @@ fn explain_end(rt: &HostRuntime, line: &str, second: Option<&str>, failures: &Ru
     explain_fault(rt, fault, failures);
     if let Some(second) = second.and_then(|line| Reported::of(line, by_pass)) {
         tell_failure(rt, second.number, failures.unsaved.get(), "");
+        tell_unsaved(rt, failures);
     }
     tell_position(rt, failures);
 }
@@ -72,6 +78,10 @@ fn explain_files(rt: &HostRuntime, failures: &RunFailures<'_>) {
             "age_tool: {name}: its file system can't sync; it may not be on the disk yet"
         );
     }
+}
+
+/// Says of a passphrase that a file is encrypted with what can't be typed in it.
+fn explain_typing(rt: &HostRuntime, failures: &RunFailures<'_>) {
     if let Some(Request::Encrypt(asked)) = failures.asked
         && let Some(what) = failures.typing.get().untypable()
     {
@@ -82,9 +92,12 @@ fn explain_files(rt: &HostRuntime, failures: &RunFailures<'_>) {
     }
 }
 
-/// Says how much memory the file that was read last asks for, if a passphrase opens it.
+/// Says at a terminal how much memory the file that was read last asks for, if a passphrase can open
+/// it.
 fn tell_work(rt: &HostRuntime, failures: &RunFailures<'_>) {
-    if let Some(work) = failures.last_read.get().head.work() {
+    if rt.stderr().is_terminal()
+        && let Some(work) = failures.last_read.get().head.work_alone()
+    {
         let _ = eprintln!(rt; "age_tool: {work}");
     }
 }
@@ -116,6 +129,9 @@ impl<'w> fmt::Display for About<'w> {
 fn file_of<'w>(number: u8, failures: &RunFailures<'w>) -> About<'w> {
     About(match number {
         1..=22 | 24 | 29 => Some(failures.last_read.get().name),
+        28 if failures.last_read.get().head.work().is_some() => {
+            Some(failures.last_read.get().name)
+        }
         23 | 30 => failures.named_by("--position"),
         25 | 31 => failures.named_by("--old"),
         _ => None,
@@ -137,11 +153,25 @@ fn explain_fault(rt: &HostRuntime, fault: Reported<'_>, failures: &RunFailures<'
         && number == 11
     {
         explain_work(rt, name, work);
+    } else if let Some(work) = work_asked(failures)
+        && number == 28
+    {
+        let _ = eprintln!(rt; "age_tool: {name}out of memory: {work} (age_tool help 28)");
     } else if let Some((what, to_do)) = said.split_once('@') {
         let place = fault.place;
         let _ = eprintln!(rt; "age_tool: {name}{what}{place}{to_do} (age_tool help {number})");
     } else if !said.is_empty() {
         let _ = eprintln!(rt; "age_tool: {name}{said} (age_tool help {number})");
+    }
+}
+
+/// The work factor for which a run with a passphrase takes memory: the one that it writes, or that of
+/// the file that was read last.
+fn work_asked(failures: &RunFailures<'_>) -> Option<Work> {
+    match failures.asked {
+        Some(Request::Encrypt(asked)) => Some(Work::Allowed(asked.log.min(22) as u8)),
+        _ if failures.named_by("--pass").is_some() => failures.last_read.get().head.work(),
+        _ => None,
     }
 }
 
@@ -155,20 +185,56 @@ fn explain_work(rt: &HostRuntime, name: About<'_>, work: Work) {
     };
 }
 
+/// What a command that goes on takes over from this one: what opens the file, and IN. A file key isn't
+/// shown, and what standard input was can't be.
+#[derive(Clone, Copy)]
+struct Again<'r, 'w>(&'r RunFailures<'w>);
+
+impl<'r, 'w> fmt::Display for Again<'r, 'w> {
+    fn fmt<W: fmt::Write>(&self, f: &mut Formatter<W>) -> fmt::Result {
+        for option in ["--pass", "--shared"] {
+            if let Some(name) = self.0.named_by(option) {
+                write!(f, "{option} {} ", Quoted(name))?;
+            }
+        }
+        if self.0.named_by("--file-key").is_some() {
+            f.write_str("--file-key HEX ")?;
+        }
+        match self.0.named_by("IN") {
+            Some(name) if name != "/dev/stdin" => fmt::Display::fmt(&Quoted(name), f),
+            _ => f.write_str("IN"),
+        }
+    }
+}
+
 /// Says how to go on from a position that was saved, by a command for a shell.
-fn tell_command(rt: &HostRuntime, saved: &str, old: &str) {
+fn tell_command(rt: &HostRuntime, saved: &str, old: &str, again: Again<'_, '_>) {
     let name = Escaped(saved.as_bytes());
-    let _ = if old == "/dev/null" {
-        eprintln!(rt;
-            "age_tool: position saved in {name}; resume would need the text that /dev/null took"
-        )
-    } else {
-        let (saved, old) = (Quoted(saved), Quoted(old));
-        eprintln!(rt;
-            "age_tool: position saved in {name}; to go on from there: \
-             age_tool resume --position {saved} --old {old} .. IN NEW"
-        )
-    };
+    let (saved, old) = (Quoted(saved), Quoted(old));
+    let _ = eprintln!(rt;
+        "age_tool: position saved in {name}; to go on from there: \
+         age_tool resume --position {saved} --old {old} {again} NEW"
+    );
+    let _ = eprintln!(rt;
+        "age_tool: resume reads only the rest of IN; from a fast disk, age_tool decrypt is quicker"
+    );
+}
+
+/// Says of a position that couldn't be saved how to put it into another file.
+fn tell_unsaved(rt: &HostRuntime, failures: &RunFailures<'_>) {
+    if let Some(text) = failures.unsaved_text.get() {
+        let line = text.line();
+        let _ = eprintln!(rt; "age_tool: to save the position elsewhere: echo '{line}' > FILE");
+    }
+}
+
+/// Whether what was written there can be read again: not from a device that keeps nothing, nor from a
+/// pipe. (A position may belong to a file that wasn't made.)
+fn is_kept(rt: &HostRuntime, name: &str) -> bool {
+    match fs::metadata(rt, name) {
+        Ok(found) => found.is_file() || found.file_type().is_block_device(),
+        Err(_) => true,
+    }
 }
 
 /// Says where the position was saved and how to go on from there, or that none was saved though
@@ -176,16 +242,15 @@ fn tell_command(rt: &HostRuntime, saved: &str, old: &str) {
 fn tell_position(rt: &HostRuntime, failures: &RunFailures<'_>) {
     if let Some(saved) = failures.saved.get() {
         let output = failures.output.get();
-        // (Where standard output went, the program can't say.)
-        let old = if output == "/dev/stdout" {
-            "OLD"
+        if output == "/dev/stdout" {
+            // (Where that went, the program can't say.)
+            tell_command(rt, saved, "OLD", Again(failures));
+        } else if is_kept(rt, output) {
+            tell_command(rt, saved, output, Again(failures));
         } else {
-            output
-        };
-        tell_command(rt, saved, old);
-        if output != "/dev/null" {
+            let (name, output) = (Escaped(saved.as_bytes()), Escaped(output.as_bytes()));
             let _ = eprintln!(rt;
-                "age_tool: resume reads only the rest of IN; from a fast disk, age_tool decrypt is quicker"
+                "age_tool: position saved in {name}; resume would need the text that {output} took"
             );
         }
     } else if failures.named_by("--save").is_some() && failures.unsaved.get().is_none() {
@@ -198,6 +263,9 @@ fn more_of_failure(number: u8, failures: &RunFailures<'_>) -> &'static str {
     match failures.first.get() {
         _ if number == 27 && failures.is_left_empty.get() => {
             "; it is empty: a run that was killed may have left it"
+        }
+        Some(first) if is_damage(first, failures) => {
+            "; without another copy, python3 -m agefile salvage saves what still opens"
         }
         Some(first) if first.is_unopened(io::ErrorKind::NotFound) => {
             if failures.named_by("--pass") == Some(first.name) {
@@ -215,6 +283,16 @@ fn more_of_failure(number: u8, failures: &RunFailures<'_>) -> &'static str {
         }
         _ => "",
     }
+}
+
+/// Whether IN, which was to be decrypted, couldn't be read.
+fn is_damage(first: Failure<'_>, failures: &RunFailures<'_>) -> bool {
+    first.action == Action::Read
+        && failures.named_by("IN") == Some(first.name)
+        && matches!(
+            failures.asked,
+            Some(Request::Decrypt(_) | Request::Resume(_))
+        )
 }
 
 /// Says which files were one, or what is wrong with one that was refused.

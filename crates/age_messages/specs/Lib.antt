@@ -1,2 +1,0 @@
-pub mod Lines
-unfoldable pub use Lines.*
