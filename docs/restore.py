@@ -69,7 +69,9 @@ def key_of(file, passphrase):
     lengths = [len(it) for it in lines]
     if begins != (b"age-encryption.org/v1", b"->", b"scrypt", b"---") or lengths != [1, 4, 1, 2]:
         sys.exit("restore: not an age file for a passphrase")
-    salt, log = unarmored(lines[1][2]), int(lines[1][3])
+    salt, log = unarmored(lines[1][2]), int(lines[1][3]) if lines[1][3].isdigit() else 0
+    if not 0 < log < 21:
+        sys.exit("restore: the work factor isn't from 1 to 20")
     more = {"n": 1 << log, "r": 8, "p": 1, "maxmem": 2**31 - 1, "dklen": 32}
     wrap = hashlib.scrypt(passphrase, salt=LABEL + salt, **more)
     key = opened(wrap, bytes(12), unarmored(lines[2][0]))

@@ -1,9 +1,10 @@
-"""Tries docs/restore.py, which decrypts with Python alone, on what the program and age wrote: complete, truncated, changed, and with another
-passphrase."""
+"""Tries docs/restore.py, which decrypts with Python alone, on what the program wrote, complete, truncated, changed and with another passphrase,
+and on C2SP's test vectors for passphrases."""
 import subprocess
 import sys
 
 from tests.case import Case
+from tests.test_cctv import vectors
 from tools.workspace import TOP
 
 CHUNK = 65_536
@@ -47,3 +48,12 @@ class RestoreTest(Case):
             ended = self.restore("bad")
             self.see(f"{name}: refused", ended.returncode == 1 and b"not an age file for a passphrase" in ended.stderr, ended.stderr)
         self.see("another passphrase", self.restore("age", b"another\n").returncode == 1 and not self.is_there("out"))
+
+    def test_vectors(self):
+        """What others wrote is restored, and what isn't is told in a sentence. (It takes some headers that age refuses: their MAC is right.)"""
+        for vector in (it for it in vectors() if it.passphrase is not None):
+            self.write("age", vector.file)
+            ended, has_to = self.restore("age", vector.passphrase.encode() + b"\n"), vector.expected == "success" and not vector.is_armored
+            said = ended.stderr.splitlines()[-1]
+            self.see(f"{vector.name}: a sentence, or the text", said.startswith(b"restore: ") if ended.returncode else vector.text_is(self.read("out")), ended)
+            self.see(f"{vector.name}: restored", ended.returncode == 0 if has_to else vector.expected != "no match" or ended.returncode == 1, ended)
