@@ -395,6 +395,8 @@ class CTest(ProgramsCase):
         for what, old, new in (
             ("as it is", "", ""), ("a number", "#define AGE_C_TRAILING 21u", "#define AGE_C_TRAILING 22u"), ("a type", "size_t front_len, size_t seen", "size_t front_len, int seen"),
             ("a size", "} age_c_stanza;", "    uint8_t more;\n} age_c_stanza;"), ("a name", "age_c_may_open(", "age_c_can_open("),
+            # (the rest of its room is padding: each place and size stays)
+            ("a field", "size_t args_len;", "uint32_t args_len;"),
         ):
             self.assertIn(old, header)
             self.write("age_c.h", header.replace(old, new, 1).encode())

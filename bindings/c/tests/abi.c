@@ -1,39 +1,40 @@
-/* What a program that was compiled with age_c.h of 1.2.0 has inside: sizes, places of fields, numbers and the types of the calls. While the
- * soname is libage_c.so.0 none of these lines changes; a later version adds lines. It is compiled, and not run. */
+/* What a program that was compiled with age_c.h of 1.2.0 has inside: sizes, places and types of fields, numbers and the types of the calls.
+ * While the soname is libage_c.so.0 none of these lines changes; a later version adds lines. It is compiled, and not run. */
 #include "age_c.h"
 
 #include <stddef.h>
 
 #define SIZE(type, size) _Static_assert(sizeof(type) == (size), #type)
-#define PLACE(type, field, place) _Static_assert(offsetof(type, field) == (place), #type "." #field)
+#define PLACE(type, field, pointer, place) \
+    _Static_assert(offsetof(type, field) == (place) && _Generic(&((type *)0)->field, pointer: 1, default: 0), #type "." #field)
 #define NUMBER(name, value) _Static_assert((name) == (value), #name)
 #define CALL(name, answer, ...) static answer (*const was_##name)(__VA_ARGS__) = name
 
 SIZE(age_c_reader, 64);
-PLACE(age_c_reader, file_key, 0);
-PLACE(age_c_reader, nonce, 16);
-PLACE(age_c_reader, payload_at, 32);
-PLACE(age_c_reader, chunk, 40);
-PLACE(age_c_reader, fault_chunk, 48);
-PLACE(age_c_reader, state, 56);
+PLACE(age_c_reader, file_key, uint8_t (*)[16], 0);
+PLACE(age_c_reader, nonce, uint8_t (*)[16], 16);
+PLACE(age_c_reader, payload_at, uint64_t *, 32);
+PLACE(age_c_reader, chunk, uint64_t *, 40);
+PLACE(age_c_reader, fault_chunk, uint64_t *, 48);
+PLACE(age_c_reader, state, uint32_t *, 56);
 SIZE(age_c_writer, 64);
-PLACE(age_c_writer, file_key, 0);
-PLACE(age_c_writer, nonce, 16);
-PLACE(age_c_writer, chunk, 32);
-PLACE(age_c_writer, state, 40);
+PLACE(age_c_writer, file_key, uint8_t (*)[16], 0);
+PLACE(age_c_writer, nonce, uint8_t (*)[16], 16);
+PLACE(age_c_writer, chunk, uint64_t *, 32);
+PLACE(age_c_writer, state, uint32_t *, 40);
 SIZE(age_c_stream, 65624);
-PLACE(age_c_stream, reader, 0);
-PLACE(age_c_stream, held, 64);
-PLACE(age_c_stream, block, 72);
+PLACE(age_c_stream, reader, age_c_reader *, 0);
+PLACE(age_c_stream, held, uint32_t *, 64);
+PLACE(age_c_stream, block, uint8_t (*)[AGE_C_BLOCK], 72);
 SIZE(age_c_write_stream, 65608);
-PLACE(age_c_write_stream, writer, 0);
-PLACE(age_c_write_stream, held, 64);
-PLACE(age_c_write_stream, chunk, 72);
+PLACE(age_c_write_stream, writer, age_c_writer *, 0);
+PLACE(age_c_write_stream, held, uint32_t *, 64);
+PLACE(age_c_write_stream, chunk, uint8_t (*)[AGE_C_CHUNK], 72);
 SIZE(age_c_stanza, 32);
-PLACE(age_c_stanza, args_at, 0);
-PLACE(age_c_stanza, args_len, 8);
-PLACE(age_c_stanza, body_at, 16);
-PLACE(age_c_stanza, body_len, 24);
+PLACE(age_c_stanza, args_at, size_t *, 0);
+PLACE(age_c_stanza, args_len, size_t *, 8);
+PLACE(age_c_stanza, body_at, size_t *, 16);
+PLACE(age_c_stanza, body_len, size_t *, 24);
 
 NUMBER(AGE_C_MORE, 254u);
 NUMBER(AGE_C_MISUSED, 255u);
