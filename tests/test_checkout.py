@@ -4,9 +4,10 @@ import shutil
 import subprocess
 import sys
 import time
+import unittest.mock
 
 from tests.case import Case, needs
-from tools import workspace
+from tools import libraries, workspace
 from tools.libraries import MADE
 from tools.workspace import CRATES, TOP, library
 
@@ -25,6 +26,15 @@ every = rt.crates_of(top, *more)
 for name in sorted(os.listdir(top)):
     if name != ".git" and os.path.isdir(f"{top}/{name}"):
         rt.rtlib.stop_on_unread(f"{top}/{name}", every)
+"""
+
+# Makes what is named, and proves nothing for it.
+TAKES = """
+import sys
+from tools import libraries
+libraries.Libraries.is_proved = lambda libraries, crate: print("proves", crate.name)
+made = libraries.make(sys.argv[1])
+print("takes", made and made.name)
 """
 
 
@@ -66,7 +76,8 @@ class CheckoutTest(Case):
         """The library that was proved here is taken in a folder with a space; a C program links it by what pkg-config says."""
         library()
         top = self.copy_of_sources("a b/shal low")
-        shutil.copytree(MADE, top / "bindings/out/made")
+        if MADE.exists():
+            shutil.copytree(MADE, top / "bindings/out/made")
         for turn in ("once", "twice"):
             run = subprocess.run([top / "bindings/build"], capture_output=True, text=True)
             self.see(f"bindings/build, {turn}", run.returncode == 0, run.stderr[-2000:])
@@ -77,6 +88,66 @@ class CheckoutTest(Case):
         words = "eval cc -o user \\'bindings/c/decrypt.c\\' $(pkg-config --cflags --libs age_c)"
         run = subprocess.run(["sh", "-c", words], cwd=top, env={**os.environ, "PKG_CONFIG_PATH": str(top / "bindings/out/pkgconfig")}, capture_output=True, text=True)
         self.see("a program by pkg-config", run.returncode == 0, run.stderr)
+
+    def test_another_clone(self):
+        """Another checkout of the same sources takes the library that was proved here, also at another time; what differs in a byte doesn't,
+        nor does another processor, and a damaged file isn't taken."""
+        library()
+        top = self.copy_of_sources("clone")
+
+        def takes(word="age_c", **more):
+            env = {**os.environ, "PYTHONPATH": str(top), "TARGET": "", **more}
+            return subprocess.run([sys.executable, "-B", "-c", TAKES, word], cwd=top, env=env, capture_output=True, text=True).stdout
+
+        if MADE.exists():
+            shutil.copytree(MADE, top / "bindings/out/made")
+        first = takes()
+        self.see("another checkout takes it", first.startswith("takes age_c-"), first)
+        for name, byte in (("crates/age_c/src/lib.rt", "\n"), ("crates/age_kdf/proofs/Lib.antt", "\n"), ("crates/age_io/specs/Lib.antt", " ")):
+            held = (top / name).read_bytes()
+            (top / name).write_bytes(held + byte.encode())
+            said = takes()
+            self.see(f"{name}: one byte more", "takes None" in said, said)
+            (top / name).write_bytes(held)
+        (top / "crates/age_cli/src/lib.rt").write_text("")
+        said = takes()
+        self.see("what isn't below it doesn't count", said == first, said)
+        said = takes(TARGET="wasm64-unknown-unknown")
+        self.see("another processor", "takes None" in said, said)
+
+    def test_what_is_kept(self):
+        """A file is taken if its bytes are those of its name; those that weren't used for longest go; without a place for it on the machine
+        it is kept in the checkout."""
+        class Crate:
+            name = "age_x"
+
+        class Kit:
+            stamp_of = staticmethod(lambda crate, seen: crate.sum)
+
+        def made(number, at=self.room):
+            Crate.sum, Store.at = number, at
+            self.write("it", b"%d" % number)
+            return libraries.Made(Kit, Store, Crate)
+
+        class Store:
+            pass
+
+        for number in range(libraries.MOST + 2):
+            it = made(number)
+            self.see(f"{number} isn't kept yet", it.found() is None)
+            kept = it.keep(self.path("it"))
+            self.see(f"{number} is kept", it.found() == kept and kept.read_bytes() == b"%d" % number, kept)
+            os.utime(kept, (number, number))
+        held = {it.read_bytes() for it in self.path("made").iterdir()}
+        self.see("those used last stay", held == {b"%d" % it for it in range(2, libraries.MOST + 2)}, held)
+        kept.write_bytes(b"other")
+        self.see("a damaged one isn't taken", it.found() is None)
+        self.see("and is replaced", it.keep(self.path("it")) == kept and it.found() == kept and kept.read_bytes() == self.read("it"))
+        with unittest.mock.patch.object(libraries, "MADE", self.path("here")):
+            for name, at in (("no place", None), ("a place that is none", self.path("it"))):
+                it = made(1, at)
+                self.see(f"{name}: in the checkout", it.keep(self.path("it")).parent == self.path("here") and it.found(), it.places)
+                shutil.rmtree(self.path("here"))
 
     def test_variables(self):
         """`check` tests what it proved, and not what a variable names."""

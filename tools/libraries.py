@@ -1,12 +1,14 @@
 """The libraries of the workspace as `rt ci` proves and keeps them; and a static library, or a program's object, over them.
 
-usage: python3 -m tools.libraries CRATE     makes bindings/out/made/libCRATE.a of a static library, or CRATE.o of a program, unless it is
-                                            there and nothing changed; for another processor, as TARGET says, libCRATE.PROCESSOR.a
+usage: python3 -m tools.libraries CRATE     prints the path of a static library, or of a program's object, for the processor that TARGET
+                                            says: as a run left it that proved the same sources, or proved and compiled now
        python3 -m tools.libraries --all     proves the workspace in which it is called, as `rt ci` does, in less time
-       python3 -m tools.libraries --build   the same for a program that is to be used: only LLVM compiles it, and nothing of it is kept
+       python3 -m tools.libraries --build   the same for a program that is to be used, which only LLVM compiles
 """
 import concurrent.futures
+import contextlib
 import functools
+import hashlib
 import os
 import pathlib
 import shutil
@@ -20,8 +22,8 @@ from tools.workspace import TOP, loaded, with_used
 # What a static library or an object is made for.
 OWN_TARGET = "x86_64-unknown-linux-gnu"
 TARGET = os.environ.get("TARGET") or OWN_TARGET
-# Where it is put: apart from the crates' folders, which `rt ci` empties.
-MADE = TOP / "bindings" / "out" / "made"
+# Where it is kept if that can't be beside what the kit keeps; and how many files are, those used last.
+MADE, MOST = TOP / "bindings" / "out" / "made", 32
 
 
 def command():
@@ -76,64 +78,83 @@ class Libraries:
         return True
 
 
-def places_of(crate):
-    """Where what is made of a crate, and the key of what it was made of, are put."""
-    MADE.mkdir(parents=True, exist_ok=True)
-    name = f"lib{crate.name}" if crate.is_static else crate.name
-    name += "" if TARGET == OWN_TARGET else f".{TARGET.partition('-')[0]}"
-    return MADE / f"{name}{'.a' if crate.is_static else '.o'}", MADE / f"{name}.key"
+class Made:
+    """What was made of a crate by runs that proved it, on this machine, beside what the kit keeps, or else in this checkout. Each file's name
+    has the checksum of all that it was made of, and that of its bytes; it is written apart and then renamed."""
+
+    def __init__(self, rt, kept, crate):
+        # (the sources of the crate and of those below it, the kit, and what HANDLES and crates.txt say of them)
+        of = hashlib.sha256(repr((rt.stamp_of(crate, {}), TARGET, "llvm")).encode()).hexdigest()
+        self.name, at = f"{crate.name}-{of}-", getattr(kept, "at", None)
+        self.places = [pathlib.Path(at, "made"), MADE] if at else [MADE]
+
+    def found(self):
+        """The file, if an earlier run left it."""
+        for it in (it for place in self.places for it in place.glob(f"{self.name}*")):
+            with contextlib.suppress(OSError):
+                if sum_of(it) == it.name.removeprefix(self.name):
+                    os.utime(it)
+                    return it
+        return None
+
+    def keep(self, made):
+        """Keeps a file, and removes those that weren't used for longest: its path."""
+        name = self.name + sum_of(made)
+        for place in self.places:
+            with contextlib.suppress(OSError):
+                place.mkdir(parents=True, exist_ok=True)
+                os.replace(shutil.copy(made, place / f"new-{os.getpid()}"), place / name)
+                for it in sorted(place.iterdir(), key=lambda it: -it.stat().st_mtime)[MOST:]:
+                    it.unlink()
+                return place / name
+        return None
 
 
-def is_made(crate, key):
-    """Whether it is there, and was made of what this key is a checksum of."""
-    made, stamp = places_of(crate)
-    return made.is_file() and stamp.is_file() and stamp.read_text() == key
+def sum_of(file):
+    return hashlib.sha256(pathlib.Path(file).read_bytes()).hexdigest()
 
 
-def prove_and_compile(rt, crate, flags, to):
+def made_by(crate):
+    """What a run that proves a program or a static library leaves of it."""
+    return f"{crate.folder}/out/{crate.name}{'.a' if crate.is_static else '.o'}"
+
+
+def prove_and_compile(rt, crate, flags):
     """Proves a program or a static library, over libraries that are proved, and compiles it in the same run: the status."""
     words = ["build", *crate.words(flags, keeps=False), "--toolchain", f"{rt.KIT}/toolchain", "--target", TARGET, "--backend", "llvm"]
-    return crate.prove([*words, "-o", to])
-
-
-def make_by(rt, crate, flags, kept):
-    """Makes a static library or an object, and puts it into its place: the status."""
-    # (a workspace that is proved in place has its libraries there)
-    status = prove_and_compile(rt, crate, flags, "out/made.a")
-    if not status:
-        made, stamp = places_of(crate)
-        stamp.unlink(missing_ok=True)
-        shutil.move(f"{crate.folder}/out/made.a", made)
-        stamp.write_text(kept.key(crate))
-    return status
+    return crate.prove([*words, "-o", made_by(crate)])
 
 
 def make(name):
-    """Proves what a crate uses, or takes what `rt ci` kept of it, and then proves and compiles it: whether that went well."""
-    start = time.monotonic()
+    """Takes what was made of a crate; or proves what it uses, or takes what `rt ci` kept of it, and then proves and compiles it: the path, if
+    that went well."""
+    start, of = time.monotonic(), len(with_used(name))
     # Its first call sets the handler of a signal, which only the main thread may.
     kit().rtlib.guarded()
+
+    def tell(count, crate, how):
+        print(f"[{count}/{of}] {crate} {how}, {int((time.monotonic() - start) / 60)} min", file=sys.stderr, flush=True)
+
     with tempfile.TemporaryDirectory(prefix="age-library-") as room:
         libraries = Libraries(room)
         crate = next(it for it in libraries.crates if it.name == name)
+        known = Made(kit(), libraries.kept, crate)
+        if made := known.found():
+            tell(of, name, "was proved before")
+            return made
         os.makedirs(f"{crate.folder}/out", exist_ok=True)
-        of = len(with_used(name))
-        if isinstance(libraries.kept, older_kit.Kept) and is_made(crate, libraries.kept.key(crate)):
-            return True
         for count, it in enumerate(crate.below(), 1):
             if not libraries.is_proved(it):
-                return False
-            how = "was proved before" if it.name in libraries.given else "proved"
-            print(f"[{count}/{of}] {it.name} {how}, {int((time.monotonic() - start) / 60)} min", file=sys.stderr, flush=True)
-        if not is_made(crate, libraries.kept.key(crate)):
-            jobs = os.environ.get("JOBS") or str(len(os.sched_getaffinity(0)))
-            with tempfile.TemporaryFile("w+", errors="replace") as crate.out:
-                if make_by(kit(), crate, ["--jobs", jobs], libraries.kept):
-                    crate.out.seek(0)
-                    print(crate.out.read(), file=sys.stderr)
-                    return False
-        print(f"[{of}/{of}] {name} proved, {int((time.monotonic() - start) / 60)} min", file=sys.stderr, flush=True)
-    return True
+                return None
+            tell(count, it.name, "was proved before" if it.name in libraries.given else "proved")
+        jobs = os.environ.get("JOBS") or str(len(os.sched_getaffinity(0)))
+        with tempfile.TemporaryFile("w+", errors="replace") as crate.out:
+            if prove_and_compile(kit(), crate, ["--jobs", jobs]):
+                crate.out.seek(0)
+                print(crate.out.read(), file=sys.stderr)
+                return None
+        tell(of, name, "proved")
+        return known.keep(made_by(crate))
 
 
 def at_once(compile_by, backends):
@@ -150,20 +171,37 @@ def at_once(compile_by, backends):
 
 def made_as_proved(rt, prove, makes_program):
     """What proves a crate, or its tests, and makes a static library in the run that proves it, so that it isn't proved once more for that;
-    and a program, which doesn't read all libraries again then. The program's object stays in the folder of the workspace."""
+    and a program, which doesn't read all libraries again then."""
 
     def proved(crate, flags, tests):
         if tests or not (crate.is_static or crate.is_program and makes_program):
             return prove(crate, flags, tests)
-        if crate.is_program:
-            program, made = f"out/{crate.name}", f"{os.getcwd()}/{crate.name}.o"
-            return prove_and_compile(rt, crate, flags, made) or crate.link(made, program)
-        kept = rt.Kept([])
-        for it in crate.below():
-            kept.is_built(it)
-        return make_by(rt, crate, flags, kept)
+        return prove_and_compile(rt, crate, flags) or (crate.is_program and crate.link(made_by(crate), f"out/{crate.name}"))
 
     return proved
+
+
+def given_as_made(rt, give):
+    """What gives a crate that an earlier run proved: a program also if only LLVM compiled it, which is linked again."""
+
+    def given(kept, crate, tests, key):
+        if give(kept, crate, tests, key):
+            return True
+        made = Made(rt, kept, crate).found() if crate.is_program and not tests else None
+        return made is not None and not crate.link(str(made), f"out/{crate.name}")
+
+    return given
+
+
+def kept_as_made(rt, keep):
+    """What keeps a crate that was proved just now, and what was made of it, unless a file that the proof read was touched meanwhile."""
+
+    def kept_too(kept, crate, tests, key):
+        keep(kept, crate, tests, key)
+        if not tests and os.path.isfile(made_by(crate)) and all(map(kept.is_untouched, [crate, *crate.below()])):
+            Made(rt, kept, crate).keep(made_by(crate))
+
+    return kept_too
 
 
 def prove_all(makes_program):
@@ -176,9 +214,13 @@ def prove_all(makes_program):
         rt.need = lambda crate: need(crate) * 2 // 3
         rt.Crate.compile_by = at_once(rt.Crate.compile_by, rt.BACKENDS)
         rt.Crate.ci = made_as_proved(rt, rt.Crate.ci, makes_program)
+        rt.Kept.keep = kept_as_made(rt, rt.Kept.keep)
+        if makes_program:
+            rt.Kept.give = given_as_made(rt, rt.Kept.give)
     return rt.main(["ci"])
 
 
 if __name__ == "__main__":
-    of_all = sys.argv[1] in ("--all", "--build")
-    sys.exit(prove_all(sys.argv[1] == "--build") if of_all else not make(sys.argv[1]))
+    if sys.argv[1] in ("--all", "--build"):
+        sys.exit(prove_all(sys.argv[1] == "--build"))
+    sys.exit(print(path) if (path := make(sys.argv[1])) else 1)
