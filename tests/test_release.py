@@ -3,23 +3,24 @@ module that needs no library of the system."""
 import importlib.util
 import json
 import os
+import re
 import shutil
 import subprocess
 import sys
 import tarfile
+import zipfile
 
 from tests.case import Case, needs
-from tools.workspace import LIBRARY, TOP, library
+from tools.workspace import LIBRARY, PROGRAM, TOP, library, program
 
-# In the place of what builds: a program that is none, and the library that was built.
+# In the place of what builds: the program and the library that were built.
 STUBS = {
-    "build": "#!/bin/sh\nmkdir -p crates/age_tool/out && { cat /usr/bin/true; echo '1.3.0 (not a release)'; } >crates/age_tool/out/age_tool\n",
     "bindings/build": f"#!/bin/sh\nmkdir -p bindings/out && cp '{LIBRARY}'/libage_c* bindings/out\n",
-    "release/static": "#!/bin/sh\ncp \"$1\" \"$2\" && cp \"$1\" \"$2.o\"\n",
+    "release/static": f"#!/bin/sh\nfor it in \"$1\" \"$2\" \"$2.o\"; do cp '{PROGRAM}' \"$it\"; done\n",
 }
 EARLIER, LATER, DAY = 1_800_000_000, 1_800_000_100, "2027-01-15"
-# What a signature is of, and who made it, as SECURITY says.
-NAMESPACE, SIGNER = "age_tool-release", "maintainers@users.noreply.kudebafon.example"
+# Who signs.
+SIGNER = "maintainers@users.noreply.kudebafon.example"
 
 
 def run(*words, **more):
@@ -32,6 +33,7 @@ class ReleaseTest(Case):
     def setUp(self):
         super().setUp()
         library()
+        program()
         self.top = self.path("a b")
         shutil.copytree(TOP, self.top, ignore=shutil.ignore_patterns("out", ".git", "target", "__pycache__", "libage_c.a", "tests", "edits"))
         for name, script in STUBS.items():
@@ -63,29 +65,69 @@ class ReleaseTest(Case):
             names = tar.getnames()
         self.see("no draft is in the archive", not [it for it in names if "draft" in it.lower()])
         commit = run("git", "rev-parse", "HEAD", cwd=self.top).stdout[:10]
-        program = next(it for name, it in self.held("first").items() if name.endswith("-static"))
-        self.see("the program names its commit", program.endswith(f"1.3.0 (of {commit})\n".encode()), program[-40:])
+        [alone] = self.path("first").glob("*-static")
+        said = run(alone, "--version").stdout
+        self.see("the program names its commit", said == f"age_tool 1.3.0 (of {commit})\n", said)
         self.see("the notices are", f"{names[0]}/share/doc/age_tool/NOTICES" in names, names)
-        ends = (".tar.gz", ".whl", "-static", "-static.o", "age_tool.spdx.json", "NOTICES", "SHA256SUMS", *4 * ["amd64.deb"])
+        ends = ("linux.tar.gz", "source.tar.gz", ".whl", "-static", "-static.o", "age_tool.spdx.json", "NOTICES", "SHA256SUMS", *4 * ["amd64.deb"])
         self.see("all files of a release", sorted(self.held("first")) == sorted(it for it in self.held("first") if it.endswith(ends))
                  and len(self.held("first")) == len(ends), *self.held("first"))
         self.see("its sums are right", run("sha256sum", "-c", "SHA256SUMS", cwd=self.path("first")).returncode == 0)
-        for name in ("bindings/python/agefile/_draft.py", "docs/DRAFT.md"):
-            (self.top / name).unlink()
-        shutil.move(self.top / ".git", self.path("git"))
-        # (as `git archive` writes it)
-        held = (self.top / "release/commit").read_text()
-        (self.top / "release/commit").write_text(f"{run('git', '--git-dir', self.path('git'), 'rev-parse', 'HEAD').stdout}")
-        made = self.pack("second", SOURCE_DATE_EPOCH=1_700_000_000)
-        (self.top / "release/commit").write_text(held)
-        self.see("without git", made.returncode == 0 and self.held("first") == self.held("second"), made.stdout)
-        shutil.move(self.path("git"), self.top / ".git")
+        with tarfile.open(self.path("first/age_tool-1.3.0-source.tar.gz")) as tar:
+            tar.extractall(self.room)
+        listed = run("git", "ls-files", cwd=self.top).stdout.split("\n")[:-1]
+        held = [str(it.relative_to(self.path("age_tool-1.3.0"))) for it in self.path("age_tool-1.3.0").rglob("*") if it.is_file()]
+        self.see("the sources are what is committed", sorted(held) == sorted(listed), set(held) ^ set(listed))
+        made = run("release/build", self.path("second"), cwd=self.path("age_tool-1.3.0"))
+        self.see("of the sources' archive", made.returncode == 0 and self.held("first") == self.held("second"), made.stdout)
         with open(self.top / "README.md", "a") as readme:
             readme.write("changed\n")
         made = self.pack("third")
         self.see("a changed file is refused", made.returncode == 1 and "README.md" in made.stdout and not self.held("third"), made.stdout)
         made = self.pack("third", SOURCE_DATE_EPOCH=EARLIER)
         self.see("unless a time is given, and then it is named", made.returncode == 0 and "README.md" in made.stdout, made.stdout)
+
+    @needs("dpkg-deb")
+    def test_license(self):
+        """A license at the top is in each artifact that has room for it, and what says that none is chosen isn't."""
+        (self.top / "LICENSE").write_text("These are the owner's terms.\n")
+        self.git("add", "-A")
+        self.assertEqual(self.pack("out", SOURCE_DATE_EPOCH=EARLIER).returncode, 0)
+        held = {"NOTICES": self.read("out/NOTICES")}
+        for package in self.path("out").glob("*.deb"):
+            subprocess.run(["dpkg-deb", "-x", package, self.path("root")], check=True)
+        held |= {str(it): it.read_bytes() for it in self.path("root").glob("usr/share/doc/*/copyright")}
+        for archive in self.path("out").glob("*.tar.gz"):
+            with tarfile.open(archive) as tar:
+                held |= {it: tar.extractfile(it).read() for it in tar.getnames() if it.endswith(("/NOTICES", "1.3.0/LICENSE"))}
+        with zipfile.ZipFile(next(self.path("out").glob("*.whl"))) as wheel:
+            held |= {it: wheel.read(it) for it in wheel.namelist() if it.endswith("/NOTICES")}
+        self.see("the archives, the wheel and four packages", len(held) == 8, *held)
+        for name, text in held.items():
+            self.see(name, text.startswith(b"These are the owner's terms.\n") and b"no license yet" not in text, text[:200])
+
+    @needs("dpkg-deb")
+    def test_installed(self):
+        """What `release/without-the-kit` does with an archive in a new system, and with the wheel, works below another folder, too."""
+        self.assertEqual(self.pack("out").returncode, 0)
+        [archive] = self.path("out").glob("*-linux.tar.gz")
+        with tarfile.open(archive) as tar:
+            tar.extractall(self.room)
+        [top], [wheel], [alone] = self.room.glob("age_tool-*-linux"), self.path("out").glob("*.whl"), self.path("out").glob("*-static")
+        env = {**os.environ, "PATH": f"{top}/bin:{os.environ['PATH']}", "PKG_CONFIG_PATH": f"{top}/lib/pkgconfig", "CMAKE_PREFIX_PATH": str(top),
+               "LD_LIBRARY_PATH": f"{top}/lib", "MANPATH": f"{top}/share/man", "WHEEL": str(wheel), "STATIC": str(alone), "AGE_C_LIBRARY": ""}
+        for what, tool in (("program", "age_tool"), ("alone", "age_tool"), ("manual", "man"), ("completion", "bash"), ("shared", "pkg-config"),
+                           ("static", "cc"), ("by_cmake", "cmake"), ("python", "python3"), ("wheel", "python3")):
+            if not shutil.which(tool, path=env["PATH"]):
+                self.leave_out(what, f"needs {tool}")
+            elif what == "wheel" and not importlib.util.find_spec("ensurepip"):
+                self.leave_out(what, "needs ensurepip")
+            else:
+                ended = run(self.top / "release/installed", "1.3.0", top, what, env=env)
+                self.see(what, ended.returncode == 0, ended.stdout[-2000:])
+        for words in (["1.2.0", top, "program"], ["1.3.0", top, "nothing"]):
+            ended = run(self.top / "release/installed", *words, env=env)
+            self.see(f"{words[::2]} fails", ended.returncode != 0, ended.stdout)
 
     @needs("dpkg-deb")
     def test_failed_pipe(self):
@@ -124,6 +166,10 @@ class ReleaseTest(Case):
             told = run("dpkg-deb", "--field", package, "Depends", "Multi-Arch").stdout
             self.see(f"{name}: which library it takes", (needs_library is None) == ("libage-c0" not in told)
                      and (needs_library is None or f"libage-c0 ({needs_library} 1.3.0-" in told) and ("" if is_for == "no" else f"Multi-Arch: {is_for}\n") in told, told)
+        [library_] = self.path("out").glob("libage-c0_*.deb")
+        asked = {it for name in ("shlibs", "symbols") for it in re.findall(r" \(?(?:>= )?(\d[\w.~]*)\)?$", run("dpkg-deb", "-I", library_, name).stdout, re.M)}
+        self.see("what needs the library takes this one", len(asked) > 1
+                 and all(run("dpkg", "--compare-versions", packages[1], "ge", it).returncode == 0 for it in asked), asked)
         self.see("the module was compiled", any((place / "agefile" / "__pycache__").iterdir()))
         documents = self.path("root/usr/share/doc/python3-agefile")
         self.see("what the module names is there", all((documents / it).exists() for it in ("copyright", "bindings/README.md", "docs/FAULTS.md")))
@@ -220,11 +266,11 @@ class ReleaseTest(Case):
         self.see("unsigned", "SHA256SUMS.sig" not in self.held("unsigned"))
         self.assertEqual(self.pack("out", SIGN_BY=self.path("key")).returncode, 0)
         sums, sign = self.path("out/SHA256SUMS"), self.path("out/SHA256SUMS.sig")
-        self.write("allowed", f"{SIGNER} {self.read('key.pub').decode()}".encode())
+        self.write("out/signers", f"{SIGNER} {self.read('key.pub').decode()}".encode())
+        [words] = re.findall(r"`(ssh-keygen -Y verify [^`]*)`", " ".join((TOP / "SECURITY.md").read_text().split()))
 
         def is_signed():
-            words = ["ssh-keygen", "-Y", "verify", "-f", self.path("allowed"), "-I", SIGNER, "-n", NAMESPACE, "-s", sign]
-            return subprocess.run(words, input=sums.read_bytes(), capture_output=True).returncode == 0
+            return run("sh", "-c", words.replace("NAME", SIGNER), cwd=self.path("out")).returncode == 0
 
         self.see("signed", is_signed())
         listed = json.loads(self.read("out/age_tool.spdx.json"))
@@ -236,6 +282,8 @@ class ReleaseTest(Case):
         self.see("what it is made of", {"age_tool", kit, "glibc", "std", "std_io", "clap", "sha2", "rand_chacha"} <= packages, packages)
         sums.write_text(sums.read_text().replace("a", "b", 1))
         self.see("altered", not is_signed())
+        sign.unlink()
+        self.see("unsigned is refused", not is_signed())
         self.assertEqual(self.pack("out", SIGN_BY=self.path("other")).returncode, 0)
         self.see("by another key", not is_signed())
 
@@ -248,7 +296,7 @@ class ReleaseTest(Case):
 
     def test_help(self):
         """Each script says what it does, and does nothing else."""
-        scripts = ["bindings/build", "bench/run", *(f"release/{it.name}" for it in (TOP / "release").iterdir() if os.access(it, os.X_OK) and it.is_file())]
+        scripts = [it for folder in (".", "bench", "bindings", "checks", "release") for it in (TOP / folder).iterdir() if it.is_file() and os.access(it, os.X_OK)]
         for script in sorted(scripts):
-            ended = run(TOP / script, "--help", cwd=self.room)
-            self.see(script, ended.returncode == 0 and "usage: " in ended.stdout and script.rpartition("/")[2] in ended.stdout and "set -" not in ended.stdout, ended.stdout)
+            ended = run(script, "--help", cwd=self.room)
+            self.see(script.relative_to(TOP), ended.returncode == 0 and "usage: " in ended.stdout.lower() and script.name in ended.stdout and "set -" not in ended.stdout, ended.stdout)
