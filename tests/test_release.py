@@ -15,7 +15,7 @@ from tools.workspace import LIBRARY, PROGRAM, TOP, library, program
 
 # In the place of what builds: the program and the library that were built.
 STUBS = {
-    "bindings/build": f"#!/bin/sh\nmkdir -p bindings/out && cp '{LIBRARY}'/libage_c* bindings/out\n",
+    "bindings/build": f"#!/bin/sh\nmkdir -p bindings/out && cp '{LIBRARY}'/libage_c* bindings/out && cp include/age_c.h '{LIBRARY}/libage_c.a' bindings/go\n",
     "release/static": f"#!/bin/sh\nfor it in \"$1\" \"$2\" \"$2.o\"; do cp '{PROGRAM}' \"$it\"; done\n",
 }
 EARLIER, LATER, DAY = 1_800_000_000, 1_800_000_100, "2027-01-15"
