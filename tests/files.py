@@ -33,6 +33,10 @@ def unwritten(name, error):
     return WRITE + reason(f"write {name}", error)
 
 
+def unsynced(name, error):
+    return WRITE + reason(f"write {name} to disk", error)
+
+
 def refused(name, more=""):
     """What is said of an output that is there, and isn't to be replaced."""
     return WRITE + f"age_tool: {name} exists, and --no-clobber was given{more}\n".encode()

@@ -18,16 +18,12 @@ import time
 
 from tests.case import SECONDS, needs, twice, without_advice
 from tests.files import LOCKED, NOBODY, PLAIN, WRITE, Feeding, FilesCase
-from tests.files import as_nobody, chunk_fault, reason, refused, unsaved, unwritten, waits_for
+from tests.files import as_nobody, chunk_fault, reason, refused, unsaved, unsynced, unwritten, waits_for
 from tools import shim
 
 LENGTH = "another program changed its length"
 REMOVED = "it was removed meanwhile"
 FUSED = pathlib.Path(__file__).parent.parent / "tools" / "fused.c"
-
-
-def unsynced(name, error):
-    return WRITE + reason(f"write {name} to disk", error)
 
 
 def within_memory():
@@ -44,7 +40,7 @@ def resident(process):
 
 def unwaited(name):
     """What is said of an OUT whose file system can't sync."""
-    return b"age_tool: %b: its file system can't sync; it may not be on the disk yet\n" % name.encode()
+    return b"age_tool: %b: the file system can't sync it: it may not be on the disk yet\n" % name.encode()
 
 
 class DiskTest(FilesCase):
@@ -182,7 +178,7 @@ class DiskTest(FilesCase):
             feeding.input.write(self.age[140000:])
             feeding.input.close()
             said = feeding.run.communicate(timeout=SECONDS)[1]
-            line = b"age_tool: OUT was moved: out leads to another file now, or to none\n"
+            line = b"age_tool: OUT was moved: out is another file now, or gone\n"
             self.see(f"OUT has {name}", (feeding.run.returncode, said) == (0, line) and self.read("moved") == PLAIN, said)
         self.write("old", b"")
         os.symlink("old", self.path("link"))
@@ -819,7 +815,7 @@ class DiskTest(FilesCase):
             pipe.read(1000)
             os.truncate(self.path("plain"), 10)
             pipe.read()
-        self.ends("an input that was cut off", run, 0, b"age_tool: plain: it became shorter while it was read\n")
+        self.ends("an input that was cut off", run, 0, b"age_tool: plain: it shrank while it was being read\n")
 
     def test_refused(self):
         """What the system refuses is named."""

@@ -14,20 +14,20 @@ ZEROS = "A" * 43
 VERSION, SCRYPT, END = "age-encryption.org/v1\n", f"-> scrypt {22 * 'A'} ", f"--- {ZEROS}\n"
 NEEDS = "a passphrase with work factor N takes 2^N KiB of memory"
 # Faults that no run has, each with its sentence and the reason.
-UNMADE = ((22, "more than 2^48 chunks: split the plaintext", "they have 2^64 bytes, and a file has fewer than 2^63"),
+UNMADE = ((22, "too long (more than 2^48 chunks): split the plaintext", "they have 2^64 bytes, and a file has fewer than 2^63"),
           (28, f"out of memory: {NEEDS}", "without a passphrase a run takes less memory than the limit with which the others are made"),
           (29, "read 2^63 times without ending: supply an input that ends", "at a million reads a second these take 292,000 years"))
 RETRY = "if you trust the file, retry with "
 KEYS = "age_tool inspect shows its stanzas; a key file is for age -d -i, or for python3 -m agefile decrypt --identity"
 NO_LINE = "this may not be an age file: its first line has no newline"
-LIMIT = ("work factor {0}: a passphrase takes {1} of memory: " + RETRY + "--max-log {0}").format
+LIMIT = ("work factor {0}: a passphrase takes {1} of memory; " + RETRY + "--max-log {0}").format
 MEMORY = "out of memory: work factor {}: a passphrase takes {} of memory".format
 OLD = "--old takes the output of the run that saved the position"
 FORGED = "altered or forged: no age program writes such a header: don't trust the file"
 
 # Each: the number, the file that is named and what it holds, the sentence, and the words if they aren't those of a decryption by `pass`.
 ROWS = (
-    (1, "no-age", b"not age\n", "not an age file: an age file begins with the line age-encryption.org/v1"),
+    (1, "no-age", b"not age\n", "not an age file: its first line isn't age-encryption.org/v1"),
     (2, "armored", b"-----BEGIN AGE ENCRYPTED FILE-----\n",
      "it is armored: remove the armor first: grep -v '^-----' f.asc | tr -d '\\r' | base64 -d > f.age"),
     (3, "bad-line", VERSION + "nothing\n", "its header is damaged at line 2: fetch the file again"),
@@ -37,7 +37,7 @@ ROWS = (
     (7, "long-header", f"{VERSION}-> {1_048_576 * 'a'}\n", "its header is too long: no age program writes a header this large, except for thousands of "
      "recipients: check where the file comes from"),
     (7, "one-line", 1_048_577 * "a", NO_LINE),
-    (8, "cut-header", lambda it: it.age[:100], "cut off in its header at line 3: fetch all of it"),
+    (8, "cut-header", lambda it: it.age[:100], "truncated in its header at line 3: fetch all of it"),
     (8, "no-line", "not an age file", NO_LINE),
     (8, "empty", "", "it is empty: check where it comes from"),
     (9, "two-stanzas", f"{VERSION}{SCRYPT}10\n{ZEROS}\n-> x\n\n{END}", FORGED),
@@ -46,19 +46,19 @@ ROWS = (
     (11, "too-costly", f"{VERSION}{SCRYPT}23\n{ZEROS}\n{END}", "work factor above 22: no age_tool opens it"),
     (12, "for-others", f"{VERSION}-> x\n\n{END}", f"it isn't encrypted with a passphrase: {KEYS}"),
     (12, "for-none", f"{VERSION}-> x\n\n{END}", f"it isn't encrypted to an X25519 recipient: {KEYS}", "decrypt --shared secret for-none back"),
-    (13, "plain.age", None, "the passphrase doesn't open it: check the passphrase: only one trailing newline in its file is ignored, not a second one, "
-     "a carriage return or a BOM", "decrypt plain.age back --pass=wrong"),
+    (13, "plain.age", None, "the passphrase doesn't open it: check the passphrase, whose file may end with one newline, not two, and has no "
+     "carriage return or BOM", "decrypt plain.age back --pass=wrong"),
     (13, "x25519", None, "the shared secret doesn't open it: check the shared secret", "decrypt --shared other x25519 back"),
-    (14, "plain.age", None, "the key doesn't match its header: the header was altered, or --file-key is the key of another file",
+    (14, "plain.age", None, "the key doesn't match its header: the header was altered, or --file-key belongs to another file",
      f"decrypt --file-key {32 * '0'} plain.age back"),
-    (15, "x25519", None, "malformed for the shared secret: check the file of --shared; if it is right, fetch the age file again",
+    (15, "x25519", None, "bad X25519 stanza or shared secret: check the file of --shared; if it is right, fetch the age file again",
      "decrypt --shared zero x25519 back"),
-    (16, "no-nonce", lambda it: it.age[:160], "cut off after its header: fetch all of it"),
-    (17, "damaged", lambda it: it.age[:150_000], "damaged or cut off at chunk 2: fetch it again"),
-    (18, "ten-more", lambda it: it.age[:166 + 65_552 + 10], "cut off at chunk 1: fetch the rest"),
-    (19, "tag-alone", lambda it: it.age[:166 + 65_552 + 16], "cut off or altered at chunk 1: fetch it again; if this happens again, don't trust the file"),
-    (20, "one-chunk", lambda it: it.age[:166 + 65_552], "cut off at chunk 1: fetch the rest"),
-    (21, "appended", lambda it: it.full + b"x", "something was appended: OUT has the whole text, but the file isn't as its writer left it"),
+    (16, "no-nonce", lambda it: it.age[:160], "truncated after its header: fetch all of it"),
+    (17, "damaged", lambda it: it.age[:150_000], "damaged or truncated at chunk 2: fetch it again"),
+    (18, "ten-more", lambda it: it.age[:166 + 65_552 + 10], "truncated at chunk 1: fetch the rest"),
+    (19, "tag-alone", lambda it: it.age[:166 + 65_552 + 16], "truncated or altered at chunk 1: fetch it again; if this happens again, don't trust the file"),
+    (20, "one-chunk", lambda it: it.age[:166 + 65_552], "truncated at chunk 1: fetch the rest"),
+    (21, "appended", lambda it: it.full + b"x", "something was appended: OUT has the complete plaintext, but the file isn't as its writer left it"),
     (23, "pass", None, "not a position: --position takes the file that --save wrote", "resume --position pass --old plain --pass pass plain.age back"),
     (24, "full.age", None, "not the file of the position: IN must be the file that was being decrypted when the position was saved",
      "resume --position position --old part --pass pass full.age back"),
@@ -67,8 +67,8 @@ ROWS = (
     (28, None, None, MEMORY(19, "512.0 MiB"), "encrypt --pass pass --log 19 plain back"),
     (28, "twenty", f"{VERSION}{SCRYPT}20\n{ZEROS}\n{END}", MEMORY(20, "1.0 GiB")),
     (30, "flipped", lambda it: it.read("position").replace(b"v2 2 ", b"v2 1 "),
-     "altered, or not of this file's key: use the position file exactly as --save wrote it", "resume --position=flipped --old part --pass pass plain.age back"),
-    (31, "altered", bytes(200_000), f"not the text of the position: {OLD}", "resume --position position --old altered --pass pass plain.age back"),
+     "altered, or made with another key: use the position file exactly as --save wrote it", "resume --position=flipped --old part --pass pass plain.age back"),
+    (31, "altered", bytes(200_000), f"it doesn't match the position: {OLD}", "resume --position position --old altered --pass pass plain.age back"),
 )
 
 # What the system answered. Each: the number, the words, and what is said.

@@ -20,7 +20,7 @@ def within_memory():
 
 
 # What is said after the command that goes on from a position.
-ANEW = "age_tool: resume reads only the rest of IN; from a fast disk, age_tool decrypt is quicker\n"
+ANEW = "age_tool: resume reads only the rest of IN; if IN is on a fast disk, decrypting again is quicker\n"
 NO_TEXT = "bytes that are no UTF-8"
 
 
@@ -249,8 +249,8 @@ class ProgramTest(Case):
             ("encrypt -p -o back plain", "the passphrase is read from a file: --pass FILE"), ("encrypt --pass pass -o back plain", "OUT is the last word, without an option"),
             ("encrypt -r age1 plain back", "for a recipient: python3 -m agefile encrypt --recipient KEY IN OUT"),
             ("encrypt -R all plain back", "for recipients: python3 -m agefile encrypt --recipients-file FILE IN OUT"),
-            ("encrypt --armor plain back", "age_tool writes no armor: leave it out"), ("encrypt -f plain back", "without --no-clobber an existing OUT is overwritten"),
-            ("-v", "--progress shows how far a run is, and age_tool --version the version"), ("decrypt --pass pass plain.age cut.age back", "a command takes one file at a time"),
+            ("encrypt --armor plain back", "age_tool doesn't do armor: leave it out"), ("encrypt -f plain back", "without --no-clobber an existing OUT is overwritten"),
+            ("-v", "--progress shows how far a run is, and age_tool --version the version"), ("decrypt --pass pass plain.age cut.age back", "a command takes one IN and one OUT at a time"),
             ("encrypt --log -1 plain back", "for a file of that name, write './-1'"), ("decrypt --passs pass plain.age back", "a similar argument exists: '--pass'"),
             ("decrypt -q --pass pass plain.age back", "leave it out: without --progress a run that succeeds says little"),
             ("encrypt --overwrite plain back", "without --no-clobber an existing OUT is overwritten"),
@@ -293,7 +293,7 @@ class ProgramTest(Case):
         """What the parser says of a word shows codes, as all other lines do."""
         name, shown = "c\x1b]0;a\x07\r\u202e\u200b\nage_tool: 27 Write", rb"c\u{1b}]0;a\u{7}\r\u{202e}\u{200b}\nage_tool: 27 Write"
         for words, begins in (
-            (("decrypt", "--pass", "pass", "plain.age", "back", name), b"age_tool: unexpected argument '%s'\n\n  tip: a command takes one file at a time\n\nUsage: "),
+            (("decrypt", "--pass", "pass", "plain.age", "back", name), b"age_tool: unexpected argument '%s'\n\n  tip: a command takes one IN and one OUT at a time\n\nUsage: "),
             ((name,), b"age_tool: no such command: '%s'\n\n  tip: the commands are "), (("encrypt", "--" + name), b"age_tool: unexpected argument '--%s'\n\n  tip: "),
             (("encrypt", f"--log={name}"), b"age_tool: invalid value '%s' for '--log <N>': not a number from 1 to 22\n"),
         ):
@@ -364,7 +364,7 @@ class ProgramTest(Case):
             if log != "1":
                 ended = self.decrypt("--max-log", "1", "costly", "back")
                 self.ends(f"a limit below {log[:5]}", ended, 1, b"", b"age_tool: 11 WorkTooHigh\n")
-                retry = f": if you trust the file, retry with --max-log {log}" if said else ""
+                retry = f"; if you trust the file, retry with --max-log {log}" if said else ""
                 wanted = line.replace(b"age_tool: ", b"age_tool: costly: ", 1)[:-1] + f"{retry} (age_tool help 11)\n".encode()
                 self.see(f"the advice on {log[:5]}", ended.advice == wanted, ended.advice)
         scrypt = f"-> scrypt AAAAAAAAAAAAAAAAAAAAAA 1\n{zeros}\n"
@@ -449,7 +449,7 @@ class ProgramTest(Case):
         self.see("a position was saved", ended.advice.endswith(said), ended.advice)
         for name in ("/dev/null", "/dev/zero"):
             ended = self.decrypt("--save", "position", "cut.age", name)
-            said_of_device = f"age_tool: position saved in position; resume would need the text that {name} took\n".encode()
+            said_of_device = f"age_tool: position saved in position, but resume needs the output, which went to {name}\n".encode()
             self.see(f"whose old output is nowhere: {name}", ended.advice.endswith(said_of_device), ended.advice)
         ended = self.decrypt("--save", "position", "cut.age", "/dev/full")
         self.see("what a full device took is no old text", b"--old /dev/full" not in ended.advice, ended.advice)

@@ -12,7 +12,7 @@ import time
 
 from tests.case import SECONDS, needs, twice
 from tests.files import LOCKED, NOBODY, PLAIN, WRITE, Feeding, FilesCase
-from tests.files import as_nobody, chunk_fault, reason, unsaved, unwritten
+from tests.files import as_nobody, chunk_fault, reason, unsaved, unsynced, unwritten
 from tests.test_runs import feed
 from tools import shim
 
@@ -157,6 +157,34 @@ class SavingTest(FilesCase):
         self.see("the second wait fails: what the first one saw", self.is_position("saved", 256))
         self.expect(0, b"", "resume --position saved --old out --pass pass age whole", "resumed after a wait that failed")
         self.see("resumed after a wait that failed: the text", self.read("whole") == bytes(40 << 20))
+
+    def test_failures_at_the_end(self):
+        """Where a failure is told as OUT is ended, and once only, the position is where the disk was last waited for; and the run fails."""
+        lost = {"CLOSE": errno.EIO, "ONLY": "out"}
+        words = "decrypt --pass pass --save saved age out"
+        said = unsynced("out", errno.EIO)
+        self.expect(1, said, words, "a short OUT", lost)
+        self.see("a short OUT: nothing was waited for", self.is_position("saved", 0))
+        self.expect(1, chunk_fault(2), "decrypt --pass pass --save saved cut old", "a stop")
+        held = self.read("saved")
+        ended = self.tool(*words.split(), env=shim.loaded(**lost))
+        self.see("a short OUT, and a later position", (ended.returncode, ended.stderr) == (1, said), ended.stderr)
+        self.see("a short OUT, and a later position: said", ended.advice.endswith(b"age_tool: no position was saved\n"), ended.advice)
+        again = "resume --position saved --old old --pass pass --save saved age out"
+        self.expect(1, WRITE + said, again, "a resumed run", lost)
+        self.see("a later position as it was", self.read("saved") == held)
+        text = random.Random(2).randbytes(20 << 20)
+        self.write("plain", text)
+        self.expect(0, b"", "encrypt --pass pass --log 4 plain age")
+        for name, failing in (("the last wait", {"FSYNC": errno.EIO, "FROM": 2, "ONLY": "out"}), ("the close", lost)):
+            self.remove("saved", "whole")
+            self.expect(1, said, words, f"{name} fails", failing)
+            self.see(f"{name} fails: what was waited for", self.is_position("saved", 256))
+            self.expect(0, b"", "resume --position saved --old out --pass pass age whole", f"{name} fails: resumed")
+            self.see(f"{name} fails: the text", self.read("whole") == text)
+        self.remove("saved")
+        self.expect(1, unwritten("out", errno.EIO), f"{words} --no-sync", "no wait is asked for", lost)
+        self.see("no wait is asked for: nothing is certain", self.is_position("saved", 0))
 
     def test_no_earlier_position(self):
         """A position isn't replaced by one before it: by a resumed run whose OUT isn't known to be on the disk, or is a pipe."""

@@ -4,7 +4,8 @@
  *
  * FSYNC, FTRUNCATE, FLOCK, RENAME, LINK and WRITE (from write number AT on):
  * these fail with that error. ONLY says of which kind of file FSYNC fails: d, f or b; or 1, standard output alone, or out, the file of
- * that name. FROM: it fails from that call on. Each call number EVERY of read and write is interrupted. READ: read number AT of a pipe
+ * that name. FROM: it fails from that call on. CLOSE: what is written to such a file is lost, and its next close, but no later one, fails
+ * with that error. Each call number EVERY of read and write is interrupted. READ: read number AT of a pipe
  * fails with that error, and no other. STATX: look number AT at a file fails with that error, and with ON each later one; COUNT names a
  * file that is made then.
  *
@@ -186,7 +187,9 @@ ssize_t read(int fd, void *into, size_t size) {
 }
 
 static off_t place(int fd) { return getenv("RECORD") ? NEXT(lseek)(fd, 0, SEEK_CUR) : 0; }
+static int is_lost;
 static ssize_t wrote(int fd, const void *bytes, ssize_t n, off_t at) {
+    if (n > 0 && getenv("CLOSE") && is_meant(fd)) is_lost = 1;
     ino_t file = n > 0 ? regular(fd) : 0;
     if (file) {
         note("write\t%lu\t%ld\t%zd\n", file, at, n);
@@ -246,7 +249,8 @@ int flock(int fd, int how) {
 
 int close(int fd) {
     ino_t file = (fcntl(fd, F_GETFL) & O_ACCMODE) == O_RDONLY ? 0 : regular(fd);
-    int ended = NEXT(close)(fd);
+    int tells = is_lost && is_meant(fd), ended = NEXT(close)(fd);
+    if (tells && fails("CLOSE")) return is_lost = 0, -1;
     if (file && ended == 0) note("close\t%lu\n", file);
     return ended;
 }

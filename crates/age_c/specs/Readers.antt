@@ -12,7 +12,7 @@ use Rattle.age_stream.specs.{Outcome, outcome, released, rest_bytes, fresh, with
 use Rattle.age_stream.specs.declared.step.Status.TheVariants.{Open}
 use Rattle.age_stream.specs.{IsClosed, IsAuthentic, IsPrefixOf, IsFirstWrong}
 use Rattle.age_keys.specs.{unbox, Opens, Refuses, key_fault_number, box}
-use Rattle.age_keys.specs.declared.fault.KeyFault.{KeyFault}
+use Rattle.age_keys.specs.{KeyFault}
 use Rattle.age_c.specs.Calls.{reader_status, more, Answers, answer_of, misused}
 use Rattle.age_c.specs.declared.reader.Reader.{Reader}
 use Rattle.age_c.specs.declared.start.StartFault.{StartFault}

@@ -4,7 +4,7 @@ use Rattle.std.specs.Prelude.{IsErr, IsErrAnd}
 use Rattle.clap.specs.Words.{Text}
 use Rattle.age_io.specs.declared.durability.Durability.{Durability}
 use Rattle.age_fault.specs.declared.fault.FileFault.TheVariants.{BadPosition}
-use Rattle.age_file.specs.{Ports}
+use Rattle.age_intake.specs.{Ports}
 use Rattle.age_fileset.specs.{Event, Close, FilesView, Outcome, CameSince}
 use Rattle.age_cli_args.specs.{option_text}
 use Rattle.age_cli_args.specs.declared.request.ClobberOption.{ClobberOption}

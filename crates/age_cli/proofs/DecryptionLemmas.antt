@@ -1,26 +1,28 @@
 -- What a decryption did whose engine ran, resumed or not.
-use Rattle.std.proofs.Common.{◌≡◌, ◌++◌, [], ap, inl, inr, ℕ, List, Bool, Option, Some, None, true, true≢false, Result, Ok, Err, OnOk, OnErr, IsErr, IfErr, MatchResult, sym, subst, refl}
+use Rattle.std.proofs.Common.{◌≡◌, ◌⊎◌, ◌++◌, ◌≤◌, ◌<◌, [], ap, inl, inr, ℕ, List, Bool, Option, Some, None, true, true≢false, Result, Ok, Err, OnOk, OnErr, IsErr, IfErr, MatchResult, sym, subst, refl}
+use Rattle.std.proofs.lemmas.Result.{on_ok_weaker, IfErr-weaker}
 use Rattle.std.specs.Prelude.{is_some, IfSome, IsSomeAnd, option_map}
 use Rattle.clap.specs.Words.{Text}
-use Rattle.age_io.specs.{SinkView, SourceView, IsAtEnd, Origin}
+use Rattle.age_io.specs.{SinkView, SourceView, Origin}
 use Rattle.age_io.specs.Supply.{Supply}
-use Rattle.age_file.specs.{Beginning, DecryptEnds, DecryptStops, DecryptsMarked, FindsMarks, MarksView, Ports, ports, Resumption, Run, from_either}
-use Rattle.age_file.specs.declared.decryption.Done.{Done}
-use Rattle.age_file.specs.declared.decryption.Stopped.{Stopped}
-use Rattle.age_file.specs.declared.position.Position.{Position}
-use Rattle.age_file.specs.declared.position.PositionPolicy.{PositionPolicy}
-use Rattle.age_file.specs.declared.position.PositionPolicy.TheVariants.{Kept, Dropped}
+use Rattle.age_opening.specs.{Beginning, DecryptEnds, DecryptStops, DecryptsMarked, FindsMarks, IsMarked, MarksView, Resumption, Run, from_either}
+use Rattle.age_intake.specs.{Ports, ports}
+use Rattle.age_opening.specs.declared.decryption.Done.{Done}
+use Rattle.age_opening.specs.declared.decryption.Stopped.{Stopped}
+use Rattle.age_position.specs.declared.position.Position.{Position}
+use Rattle.age_position.specs.declared.position.PositionPolicy.{PositionPolicy}
+use Rattle.age_position.specs.declared.position.PositionPolicy.TheVariants.{Kept, Dropped}
 use Rattle.age_fileset.specs.{FilesView, CameSince, Outcome, Gave, Settled, reading_of}
 use Rattle.age_cli_args.specs.{option_text}
 use Rattle.age_cli_args.specs.declared.request.ProgressOption.TheVariants.{Shown, Silent}
 use Rattle.age_command.specs.{allows_by, refuses_by}
 use Rattle.age_command.specs.declared.ending.Ending.{Ending}
 use Rattle.age_command.specs.declared.identity.Identity.{Identity}
-use Rattle.age_cli.specs.{Engine, GoesOn, Interruption, decrypt_engine, kept_for, start_of, IsPlaced, StopsText}
+use Rattle.age_cli.specs.{Engine, GoesOn, Reached, decrypt_engine, kept_for, start_of, EndsText, IsPlaced, StopsText}
 use Rattle.age_cli.specs.{PortsOf, old_found}
 use Rattle.age_cli.specs.declared.decrypt_command.OldText.{OldText}
 use Rattle.age_cli.specs.declared.output.Writing.{Writing}
-use Rattle.age_cli.specs.inner.{Concludes, IsNewOld, IsPlacedBy, IsSameOld, PlacesEnd, RunsEngine, earlier_of, goes_on}
+use Rattle.age_cli.specs.inner.{Concludes, IsNewOld, IsPlacedBy, IsSameOld, RunsEngine, earlier_of, end_of, goes_on, own_of}
 use Rattle.age_cli.proofs.EngineLemmas.{the_some}
 use Rattle.age_cli.proofs.PutLemmas.{concluded}
 use Rattle.age_cli.proofs.FinalLemmas.{ended_with}
@@ -39,25 +41,27 @@ placed_so (Some r) Dropped (Some m) start settled own position found by = none_s
 placed_so (Some r) Kept None start settled own position found by = absurd found
 placed_so (Some r) Kept (Some m) start settled own None found by = absurd by
 placed_so (Some r) Kept (Some m) start settled own (Some p) found (inl marked) = inl (found settled p marked.0, marked.1)
-placed_so (Some r) Kept (Some m) start settled own (Some p) found (inr started) = inr started
+placed_so (Some r) Kept (Some m) start settled own (Some p) found (inr started) = inr (started.0, started.1, found settled started.1 started.2, started.3)
+
+-- the later one of a marked position and of where its run started
+pub placed_by : (m : MarksView) (start : Option Position) (settled : ℕ) (q p : Position) → IsMarked m settled q
+    → ((p ≡ q × IfSome start (λ s. s.index ≤ p.index)) ⊎ ((start ≡ Some p) × (q.index < p.index))) → (own : Option Position) → IsPlacedBy (Some m) start settled own (Some p)
+placed_by m start settled q p marked (inl (same, later)) own = inl (subst (IsMarked m settled) (sym same) marked, later)
+placed_by m start settled q p marked (inr (is, less)) own = inr (is, q, marked, less)
 
 -- ---- How the engine of a decryption ended, by how that ended.
 
-module _ (marks : Option MarksView) (start : Option Position) (settled : ℕ) (engine : Result (Unit {0}) Interruption) where
-  ends_so : (Ends : Done → Run → Type 0) (Stops : Stopped → Type 0) (P : Type 0) → ((d : Done) (r : Run) → Ends d r → P) → (run : Option Run)
-      → (end : Result Done Stopped) → PlacesEnd marks start settled end engine → MatchResult end (λ done. IsSomeAnd run (Ends done)) Stops → OnOk engine P
-  ends_so Ends Stops P so run (Ok done) places ends = let of = the_some run ends in subst (λ (e : Result (Unit {0}) Interruption). OnOk e P) (sym places) (so done of.0 of.2)
-  ends_so Ends Stops P so run (Err s) places stops = subst (λ (e : Result (Unit {0}) Interruption). OnOk e P) (sym places.2) tt
+module _ (keep : PositionPolicy) (start : Option Position) (settled : ℕ) (Ends : Done → Run → Type 0) (Stops : Option Run → Stopped → Type 0) (position : Option Position)
+    (run : Option Run) where
+  ends_so : (end : Result Done Stopped) → MatchResult end (λ done. IsSomeAnd run (Ends done)) (Stops run) → IsPlaced run keep start settled (own_of end) position
+      → OnOk (end_of end) (EndsText keep start Ends settled position)
+  ends_so (Ok done) ends placed = let of = the_some run ends in (done, of.0, of.2, subst (λ (r : Option Run). IsPlaced r keep start settled None position) of.1 placed)
+  ends_so (Err s) stops placed = tt
 
-  stops_so : (Ends : Done → Type 0) (Stops : Stopped → Type 0) (P : Interruption → Type 0) → ((s : Stopped) → Stops s → (position : Option Position)
-      → IsPlacedBy marks start settled s.position position → P (record { fault = s.fault; position = position; settled = settled }))
-      → (end : Result Done Stopped) → PlacesEnd marks start settled end engine → MatchResult end Ends Stops → IfErr engine P
-  stops_so Ends Stops P so (Ok done) places ends = subst (λ (e : Result (Unit {0}) Interruption). IfErr e P) (sym places) tt
-  stops_so Ends Stops P so (Err s) places stops = subst (λ (e : Result (Unit {0}) Interruption). IfErr e P) (sym places.2) (so s stops places.0 places.1)
-
-  certain_so : (P : ℕ → Type 0) → (end : Result Done Stopped) → PlacesEnd marks start settled end engine → (IsErr end → P settled) → IfErr engine (λ s. P s.settled)
-  certain_so P (Ok done) places certain = subst (λ (e : Result (Unit {0}) Interruption). IfErr e (λ s. P s.settled)) (sym places) tt
-  certain_so P (Err s) places certain = subst (λ (e : Result (Unit {0}) Interruption). IfErr e (λ s. P s.settled)) (sym places.2) (certain refl)
+  stops_so : (end : Result Done Stopped) → MatchResult end (λ done. IsSomeAnd run (Ends done)) (Stops run) → IsPlaced run keep start settled (own_of end) position
+      → IfErr (end_of end) (λ fault. StopsText keep start Stops settled fault position)
+  stops_so (Ok done) ends placed = tt
+  stops_so (Err s) stops placed = (run, s, refl, stops, placed)
 
 -- ---- It ran, and OUT was ended.
 
@@ -81,33 +85,35 @@ module _ (IsPorts : Ports → Type 0) (Later : Outcome → Type 0) (w : Writing)
   abbrev engine : Engine
   engine = decrypt_engine IsPorts Later (option_text w.save) i earlier
 
-  pub runs_opened : (end : Result Done Stopped) (marks : Option MarksView) (settled : ℕ) (stop : Result (Unit {0}) Interruption) (r : Result (Unit {0}) Ending)
-      → DecryptsMarked keep (allows_by i) (begun from) before after end marks → PlacesEnd marks (start_of earlier) settled end stop
-      → (IsErr end → is_some (option_text w.save) ≡ true → CameSince old new (Settled w.paths.durability after.sink.taken.bytes settled))
-      → Concludes (option_text w.save) w.paths.durability after.sink stop old new r → RunsEngine IsPorts Later engine w.paths before old new Unshown Progress r
-  runs_opened end marks settled stop r asked places certain concludes =
+  pub runs_opened : (end : Result Done Stopped) (marks : Option MarksView) (place : Reached) (r : Result (Unit {0}) Ending)
+      → DecryptsMarked keep (allows_by i) (begun from) before after end marks → IsPlacedBy marks (start_of earlier) place.settled (own_of end) place.position
+      → (is_some (option_text w.save) ≡ true → CameSince old new (Settled w.paths.durability after.sink.taken.bytes place.settled))
+      → Concludes (option_text w.save) w.paths.durability after.sink (end_of end) place old new r → RunsEngine IsPorts Later engine w.paths before old new Unshown Progress r
+  runs_opened end marks place r asked placed certain concludes =
       let run = asked.is.run in
+      let start = start_of earlier in
+      let at = placed_so run keep marks start place.settled (own_of end) place.position asked.found placed in
+      let ended = ends_so keep start place.settled Ends Stops place.position run end asked.is.answers at in
       record {
         after = after;
         after_is = after_is;
         over = later (Gave (reading_of w.paths.from.now after.source)) over;
-        end = stop;
-        ends = ends_so marks (start_of earlier) settled stop Ends (Stops run) (engine.ends before after × (after.sink.failed ≡ before.sink.failed)) (λ x y did. (
-          goes (λ from before after. (done : Done) × (run : Run) × DecryptEnds keep (allows_by i) (begun from) before after done run) (x, y, did),
-          did.2.1,
-        )) run end places asked.is.answers;
-        stops = stops_so marks (start_of earlier) settled stop (λ done. IsSomeAnd run (Ends done)) (Stops run) (λ x. engine.stops x.settled x.fault x.position before after) (λ s stops position by.
-            goes (λ from before after. StopsText keep (start_of earlier) (DecryptStops keep (allows_by i) (begun from) before after) settled s.fault position)
-            (run, s, refl, stops, placed_so run keep marks (start_of earlier) settled s.position position asked.found by)) end places asked.is.answers;
+        end = end_of end;
+        place = place;
+        ends = on_ok_weaker (end_of end) (λ did. (
+          goes (λ from before after. (done : Done) × (run : Run) × DecryptEnds keep (allows_by i) (begun from) before after done run) (did.0, did.1, did.2),
+          did.2.2.1,
+        )) ended;
+        unended = on_ok_weaker (end_of end) (goes (λ from before after. EndsText keep start (DecryptEnds keep (allows_by i) (begun from) before after) place.settled place.position)) ended;
+        stops = IfErr-weaker (end_of end) _ _ (λ fault. goes (λ from before after. StopsText keep start (DecryptStops keep (allows_by i) (begun from) before after) place.settled fault
+            place.position)) (stops_so keep start place.settled Ends Stops place.position run end asked.is.answers at);
         named = asked.is.named;
-        certain = certain_so marks (start_of earlier) settled stop (λ n. is_some (option_text w.save) ≡ true → Later (Settled w.paths.durability after.sink.taken.bytes n)) end places
-            (λ failed there. later (Settled w.paths.durability after.sink.taken.bytes settled) (certain failed there));
+        certain = λ saves. later (Settled w.paths.durability after.sink.taken.bytes place.settled) (certain saves);
         concludes = concludes;
         silent = silent;
         shown = shown;
-        whole = ended_with _ stop r _ (ends_so marks (start_of earlier) settled stop Ends (Stops run) (IsAtEnd after.source.supply)
-            (λ x y did. did.1.is.at_end did.1.ended) run end places asked.is.answers)
-            (concluded (option_text w.save) w.paths.durability after.sink stop old new r concludes).done;
+        whole = ended_with _ (end_of end) r _ (on_ok_weaker (end_of end) (λ did. did.2.1.is.at_end did.2.1.ended) ended)
+            (concluded (option_text w.save) w.paths.durability after.sink (end_of end) place old new r concludes).done;
       }
 
 -- ---- Where it goes on.

@@ -3,17 +3,18 @@ use Rattle.std.proofs.Common.{◌≡◌, ◌∙◌, ◌⊎◌, ◌++◌, ◌∷�
 use Rattle.std.proofs.Common.{OnOk, IfOk, IfErr}
 use Rattle.std.specs.Prelude.{IsSomeAnd, IfSome, MatchOption, is_some, ◌≢◌, Contains, Bool, false}
 use Rattle.clap.specs.Words.{Text}
-use Rattle.age_file.specs.{Ports, SecretView, EncryptsFront}
-use Rattle.age_file.specs.declared.encryption.Written.{Written}
-use Rattle.age_file.specs.Encrypts.{Encrypts}
+use Rattle.age_intake.specs.{Ports}
+use Rattle.age_sealing.specs.{SecretView, EncryptsFront}
+use Rattle.age_sealing.specs.declared.encryption.Written.{Written}
+use Rattle.age_sealing.specs.Encrypts.{Encrypts}
 use Rattle.age_fault.specs.declared.fault.FileFault.{FileFault}
+use Rattle.age_fault.specs.declared.fault.FileFault.TheVariants.{Write}
 use Rattle.age_fileset.specs.{Event, FilesView, Close, Outcome, Found, Absent, Unwritten, Settled, Put, Entry, entry, PutsOnly, CameSince}
 use Rattle.age_fileset.proofs.{grows_then}
 use Rattle.age_cli_args.specs.declared.request.ClobberOption.TheVariants.{Refused}
 use Rattle.age_cli_args.specs.declared.request.Paths.{Paths}
 use Rattle.age_command.specs.{Follows}
 use Rattle.age_command.specs.declared.ending.Ending.{Ending}
-use Rattle.age_command.specs.declared.ending.Ending.TheVariants.{Fault}
 use Rattle.age_machine.specs.{EndedFile, OutFile, TouchesItself, TouchesFile, FileCall, Opened, opening_of, is_waited, AllAnswered}
 use Rattle.age_machine.specs.declared.machine.Kind.TheVariants.{Regular}
 use Rattle.age_machine.specs.declared.in_place.Opening.{Opening}
@@ -21,9 +22,9 @@ use Rattle.age_machine.specs.declared.in_place.Opening.TheVariants as way
 use Rattle.age_machine.specs.Disk.{Disk}
 use Rattle.age_machine.specs.Ends.{OpensDevice}
 use Rattle.age_machine.proofs.LawLemmas.{calls_answered}
-use Rattle.age_cli.specs.Acts.{IsAnsweredOnce}
-use Rattle.age_cli.specs.{WasRead, Engine, encrypt_engine, Returned, HasEngineEnded, HasEngineStopped, Interruption}
-use Rattle.age_cli.specs.inner.{AreNew, sealing_end, Concludes, IsPut}
+use Rattle.age_cli.specs.Acts.{IsAnsweredOnce, Stopping, Unended}
+use Rattle.age_cli.specs.{WasRead, Engine, encrypt_engine, Returned, HasEngineEnded, HasEngineStopped, Reached}
+use Rattle.age_cli.specs.inner.{AreNew, sealing_end, Concludes, IsLeft, IsPut, IsUnended, SavesStop}
 use Rattle.age_cli.proofs.PutLemmas.{due_as, saved_as, put_came}
 
 -- ---- What an engine promises, by how it ended.
@@ -40,7 +41,7 @@ sealing_ends secret before after (Ok written) ends = ((written, ends), ends.none
 sealing_ends secret before after (Err f) ends = tt
 
 pub sealing_stops : (secret : SecretView) (before after : Ports) (r : Result Written FileFault) → IfErr r (EncryptsFront secret before after)
-    → IfErr (sealing_end r) (λ s. (encrypt_engine secret).stops s.settled s.fault s.position before after)
+    → IfErr (sealing_end r) (λ fault. (encrypt_engine secret).stops 0 fault None before after)
 sealing_stops secret before after (Ok written) fails = tt
 sealing_stops secret before after (Err f) fails = (fails, refl)
 
@@ -90,9 +91,9 @@ module _ (IsPorts : Ports → Type 0) (Came : Outcome → Type 0) (engine : Engi
   same_entry out took = ap (λ n. entry n after.sink.taken.bytes) named ∙ ap (λ b. entry p.to.now b) (sym took)
 
   module _ (old mid now : FilesView) (opened : PutsOnly [] old mid) (late : (o : Outcome) → CameSince mid now o → Came o) where
-    pub engine_ended : (end : Result (Unit {0}) Interruption) → OnOk end (engine.ends before after × (after.sink.failed ≡ before.sink.failed)) → (r : Result (Unit {0}) Ending)
-        → Concludes engine.save p.durability after.sink end mid now r → OnOk r (HasEngineEnded IsPorts Came engine p old now)
-    engine_ended (Ok x) did (Ok y) c =
+    pub engine_ended : (end : Result (Unit {0}) FileFault) (place : Reached) → OnOk end (engine.ends before after × (after.sink.failed ≡ before.sink.failed)) → (r : Result (Unit {0}) Ending)
+        → Concludes engine.save p.durability after.sink end place mid now r → OnOk r (HasEngineEnded IsPorts Came engine p old now)
+    engine_ended (Ok x) place did (Ok y) c =
         let o = the_some now.ended c.ended in
         record {
           leaves = record {
@@ -108,65 +109,60 @@ module _ (IsPorts : Ports → Type 0) (Came : Outcome → Type 0) (engine : Engi
           puts = subst (λ (x : Entry). PutsOnly (x ∷ []) old now) (same_entry o.0 o.2.took)
               (grows_then [] (entry after.sink.taken.label after.sink.taken.bytes ∷ []) old mid now opened c.puts_only);
         }
-    engine_ended (Err s) did (Ok y) c = absurd c
-    engine_ended end did (Err e) c = tt
+    engine_ended (Err s) place did (Ok y) c = absurd c
+    engine_ended end place did (Err e) c = tt
 
     out_so : (out : EndedFile) → out.took ≡ after.sink.taken.bytes → (puts : List Entry) → IsPut after.sink puts
         → (puts ≡ []) ⊎ ((puts ≡ entry p.to.now out.took ∷ []) × (out.took ≢ []))
     out_so out took puts (inl none) = inl none
     out_so out took puts (inr (all, some)) = inr (all ∙ ap (λ (x : Entry). x ∷ []) (same_entry out took), (λ none. some (sym took ∙ none)))
 
-    pub engine_stopped : (done : List Event) → (now.events ≡ mid.events ++ Close p.durability ∷ [] → Follows done old.events now.events) → (end : Result (Unit {0}) Interruption)
-        → OnOk end (engine.ends before after × (after.sink.failed ≡ before.sink.failed)) → IfErr end (λ s. engine.stops s.settled s.fault s.position before after)
-        → IfErr end (λ s. is_some engine.save ≡ true → Came (Settled p.durability after.sink.taken.bytes s.settled)) → (r : Result (Unit {0}) Ending)
-        → Concludes engine.save p.durability after.sink end mid now r → IfErr r (λ e. HasEngineStopped IsPorts Came engine p done e old now)
-    engine_stopped done closed (Ok x) did stops certain (Err (Fault f)) c =
-        let o = the_some now.ended c.0.ended in
-        record {
-          run = returned now.ended o.0 o.1 o.2.took;
-          within = o.2.within;
-          fault = f;
-          save = Ok tt;
-          reported = refl;
-          position = None;
-          settled = 0;
-          cause = inr (record {
-            promise = did.0;
-            is = (c.1, refl);
-            said = subst (λ (n : Text). Came (Unwritten n)) named (late (Unwritten after.sink.taken.label) c.2);
-            caused = subst (λ (x : Option OutFile). IfSome x (λ y. 0 < o.0.failed)) (sym o.2.same) o.2.caused;
-          });
-          outs = [];
-          rest = [];
-          due = None;
-          is_due = refl;
-          puts = grows_then [] [] old mid now opened c.0.puts_only;
-          out = inl refl;
-          saved = (refl, refl, closed c.0.noted);
-        }
-    engine_stopped done closed (Err s) did stops certain (Err e) c =
-        let o = the_some now.ended c.ended in
-        record {
-          run = returned now.ended o.0 o.1 o.2.took;
-          within = o.2.within;
-          fault = s.fault;
-          save = c.how;
-          reported = c.reported;
-          position = s.position;
-          settled = s.settled;
-          cause = inl (record {
-            promise = stops;
-            untouched = λ none. o.2.untouched (sym o.2.took ∙ none);
-            kept = λ some. (o.2.kept (λ none. some (o.2.took ∙ none)), o.2.there (λ none. some (o.2.took ∙ none)));
-            certain = λ there. subst (λ (b : List ℕ). Came (Settled p.durability b s.settled)) (sym o.2.took) (certain there);
-          });
-          outs = c.outs;
-          rest = c.rest;
-          puts = grows_then [] (c.outs ++ c.rest) old mid now opened c.puts_only;
-          out = out_so o.0 o.2.took c.outs c.out;
-          due = c.due;
-          is_due = due_as (CameSince mid now) Came late s.position engine.save c.due c.is_due;
-          saved = saved_as (CameSince mid now) Came late closed p.durability s.settled c.due engine.save c.how c.rest now.saved c.saved;
-        }
-    engine_stopped done closed (Ok x) did stops certain (Err e) c = absurd c
-    engine_stopped done closed end did stops certain (Ok y) c = tt
+    pub engine_stopped : (done : List Event) → (now.events ≡ mid.events ++ Close p.durability ∷ [] → Follows done old.events now.events) → (end : Result (Unit {0}) FileFault)
+        → (place : Reached) → OnOk end (engine.ends before after × (after.sink.failed ≡ before.sink.failed))
+        → OnOk end (engine.unended place.settled place.position before after) → IfErr end (λ f. engine.stops place.settled f place.position before after)
+        → (is_some engine.save ≡ true → Came (Settled p.durability after.sink.taken.bytes place.settled)) → (r : Result (Unit {0}) Ending)
+        → Concludes engine.save p.durability after.sink end place mid now r → IfErr r (λ e. HasEngineStopped IsPorts Came engine p done e old now)
+    engine_stopped done closed end place did placed stops certain r c = go end r did placed stops c where
+      stopped : (IsFile : EndedFile → Type 0) (fault : FileFault) (e : Ending) → SavesStop engine.save p.durability after.sink IsFile fault place mid now e
+          → ((out : EndedFile) → IsFile out → (out.took ≡ after.sink.taken.bytes) × TouchesItself out) → ((out : EndedFile) (is : now.ended ≡ Some out)
+          (took : out.took ≡ after.sink.taken.bytes) → IsFile out → Stopping IsPorts Came engine p place.settled fault place.position (returned now.ended out is took)
+          ⊎ Unended IsPorts Came engine p place.settled fault place.position (returned now.ended out is took)) → HasEngineStopped IsPorts Came engine p done e old now
+      stopped IsFile fault e c left cause =
+          let o = the_some now.ended c.ended in
+          let took = (left o.0 o.2).0 in
+          record {
+            run = returned now.ended o.0 o.1 took;
+            within = (left o.0 o.2).1;
+            fault = fault;
+            save = c.how;
+            reported = c.reported;
+            position = place.position;
+            settled = place.settled;
+            certain = λ there. subst (λ (b : List ℕ). Came (Settled p.durability b place.settled)) (sym took) (certain there);
+            cause = cause o.0 o.1 took o.2;
+            outs = c.outs;
+            rest = c.rest;
+            puts = grows_then [] (c.outs ++ c.rest) old mid now opened c.puts_only;
+            out = out_so o.0 took c.outs c.out;
+            due = c.due;
+            is_due = due_as (CameSince mid now) Came late place.position engine.save c.due c.is_due;
+            saved = saved_as (CameSince mid now) Came late closed p.durability place.settled c.due engine.save c.how c.rest now.saved c.saved;
+          }
+
+      go : (end : Result (Unit {0}) FileFault) (r : Result (Unit {0}) Ending) → OnOk end (engine.ends before after × (after.sink.failed ≡ before.sink.failed))
+          → OnOk end (engine.unended place.settled place.position before after) → IfErr end (λ f. engine.stops place.settled f place.position before after)
+          → Concludes engine.save p.durability after.sink end place mid now r → IfErr r (λ e. HasEngineStopped IsPorts Came engine p done e old now)
+      go (Ok x) (Err e) did placed stops c = stopped (IsUnended p.durability after.sink) Write e c.0 (λ out left. (left.1.took, left.1.within)) (λ out is took left. inr (record {
+        promise = did.0;
+        placed = placed;
+        is = refl;
+        said = subst (λ (n : Text). Came (Unwritten n)) named (late (Unwritten after.sink.taken.label) c.1);
+        caused = subst (λ (x : Option OutFile). IfSome x (λ y. 0 < out.failed)) (sym left.1.same) left.1.caused;
+      }))
+      go (Err f) (Err e) did placed stops c = stopped (IsLeft p.durability after.sink) f e c (λ out left. (left.took, left.within)) (λ out is took left. inl (record {
+        promise = stops;
+        untouched = λ none. left.untouched (sym took ∙ none);
+        kept = λ some. (left.kept (λ none. some (took ∙ none)), left.there (λ none. some (took ∙ none)));
+      }))
+      go (Err f) (Ok y) did placed stops c = absurd c
+      go (Ok x) (Ok y) did placed stops c = tt

@@ -6,10 +6,11 @@ use Rattle.std.proofs.lemmas.Result.{on_ok_weaker, IfErr-weaker}
 use Rattle.age_io.specs.{Shown as ShownOne, IsAtEnd, Adds, Begins, Ends, Lending, CountsSince}
 use Rattle.age_io.specs.Supply.{Supply}
 use Rattle.age_fault.specs.declared.fault.FileFault.{FileFault}
-use Rattle.age_file.specs.{SecretView, EncryptsFront, Ports}
-use Rattle.age_file.specs.declared.encryption.Written.{Written}
-use Rattle.age_file.specs.Encrypts.{Encrypts}
-use Rattle.age_fileset.specs.{Event, Close, FilesView, Outcome, Found, Absent, Gave, Settled, CameSince, Does, reading_of}
+use Rattle.age_sealing.specs.{SecretView, EncryptsFront}
+use Rattle.age_intake.specs.{Ports}
+use Rattle.age_sealing.specs.declared.encryption.Written.{Written}
+use Rattle.age_sealing.specs.Encrypts.{Encrypts}
+use Rattle.age_fileset.specs.{Event, Close, FilesView, Outcome, Found, Absent, Gave, CameSince, Does, reading_of}
 use Rattle.age_fileset.proofs.{did_events, grows_by, then_came}
 use Rattle.age_command.proofs.{followed}
 use Rattle.age_cli_args.specs.declared.request.Paths.{Paths}
@@ -21,7 +22,7 @@ use Rattle.age_command.specs.{Follows, creating, making, replacing, NamesTwice, 
 use Rattle.age_command.specs.declared.ending.Ending.{Ending}
 use Rattle.age_cli.specs.Acts.{Acts}
 use Rattle.age_cli.specs.{CameFirst, Engine, OfEngine, HasEngineEnded, HasEngineStopped, paths_of, ShowsProgress}
-use Rattle.age_cli.specs.{encrypt_engine, WasRead, Interruption}
+use Rattle.age_cli.specs.{encrypt_engine, WasRead, Reached}
 use Rattle.age_cli.specs.inner.{AreNew, Concludes, sealing_end, RunsEngine, ShowsRun}
 use Rattle.age_cli.proofs.ActLemmas.{then_closed, then_concluded}
 use Rattle.age_cli.proofs.EngineLemmas.{engine_ended, engine_stopped, sealing_ends, sealing_stops}
@@ -30,7 +31,7 @@ use base.Fml.{GName}
 use Rattle.age_io.proofs.{begins_since, reading_of as shows_reading}
 
 -- an engine that ended has read its source to the end, and so has its command
-pub ended_with : (P : Type 0) (end : Result (Unit {0}) Interruption) (r : Result (Unit {0}) Ending) (Q : Type 0) → OnOk end P → OnOk r (IsOk end × Q)
+pub ended_with : (P : Type 0) (end : Result (Unit {0}) FileFault) (r : Result (Unit {0}) Ending) (Q : Type 0) → OnOk end P → OnOk r (IsOk end × Q)
     → OnOk r P
 ended_with P (Ok x) (Ok y) Q p q = p
 ended_with P (Ok x) (Err e) Q p q = tt
@@ -55,7 +56,7 @@ either_shown : {A B : Type 0} (p : ProgressOption) → (p ≡ Silent → A) → 
 either_shown Silent a b = inl (a refl)
 either_shown Shown a b = inr (b refl)
 
-pub always_ok : (x : Result (Unit {0}) Ending) (P : Type 0) → P → OnOk x P
+pub always_ok : {A B : Type 0} (x : Result A B) (P : Type 0) → P → OnOk x P
 always_ok (Ok done) P p = p
 always_ok (Err e) P p = tt
 
@@ -72,17 +73,16 @@ sealed_named : (s : SecretView) (before after : Ports) (end : Result Written Fil
 sealed_named s before after (Ok w) ends fails = ends.wrote.named
 sealed_named s before after (Err f) ends fails = fails.wrote.named
 
--- no position is saved of it
-sealed_unsaved : (P : Interruption → Type 0) (end : Result Written FileFault) → IfErr (sealing_end end) (λ s. false ≡ true → P s)
-sealed_unsaved P (Ok w) = tt
-sealed_unsaved P (Err f) = λ some. absurd (true≢false (sym some))
+-- it can't go on
+abbrev pub nowhere : Reached
+nowhere = record { position = None; settled = 0 }
 
 -- an encryption ran, and the reading of IN was over before OUT was ended
 pub runs_sealed : (IsPorts : Ports → Type 0) (Came : Outcome → Type 0) (p : Paths) (secret : SecretView) (before after : Ports) (opened mid new : FilesView)
     (Unshown : Type 0) (show_old show_new : Option (List ShownOne)) (size : Option ℕ) (sealed : Result Written FileFault) (r : Result (Unit {0}) Ending)
     → IsPorts after → Came (Gave (reading_of p.from.now after.source)) → Does [] opened mid → IfOk sealed (Encrypts secret before after)
     → IfErr sealed (EncryptsFront secret before after)
-    → Concludes None p.durability after.sink (sealing_end sealed) mid new r
+    → Concludes None p.durability after.sink (sealing_end sealed) nowhere mid new r
     → (p.progress ≡ Silent → Unshown) → (p.progress ≡ Shown → ShowsRun size before.source.supply after.source.supply show_old show_new)
     → RunsEngine IsPorts Came (encrypt_engine secret) p before opened new Unshown (λ coming left. ShowsRun size coming left show_old show_new) r
 runs_sealed IsPorts Came p secret before after opened mid new Unshown show_old show_new size sealed r after_is over did ends fails concludes silent shown = record {
@@ -90,15 +90,17 @@ runs_sealed IsPorts Came p secret before after opened mid new Unshown show_old s
   after_is = after_is;
   over = over;
   end = sealing_end sealed;
+  place = nowhere;
   ends = sealing_ends secret before after sealed ends;
+  unended = always_ok (sealing_end sealed) _ refl;
   stops = sealing_stops secret before after sealed fails;
   named = sealed_named secret before after sealed ends fails;
-  certain = sealed_unsaved (λ s. Came (Settled p.durability after.sink.taken.bytes s.settled)) sealed;
-  concludes = concludes_from None p.durability after.sink opened mid new did (sealing_end sealed) r concludes;
+  certain = λ saves. absurd (true≢false (sym saves));
+  concludes = concludes_from None p.durability after.sink nowhere opened mid new did (sealing_end sealed) r concludes;
   silent = silent;
   shown = shown;
   whole = sealed_to_end secret before after sealed r ends (on_ok_weaker r (λ done. done.0)
-      (concluded None p.durability after.sink (sealing_end sealed) mid new r concludes).done);
+      (concluded None p.durability after.sink (sealing_end sealed) nowhere mid new r concludes).done);
 }
 
 -- what was opened is `old` to `mid`, and the engine ran until then; OUT was ended, and a position saved, until `new`
@@ -121,7 +123,7 @@ module _ (IsPorts : Ports → Type 0) (asked : Request) (old mid new : FilesView
       → Acts IsPorts asked old new Unshown (ShowsProgress Came show_old show_new) r
   acts_engine before_is begun found fresh named run did done_is whole_is of paths_is apart =
       let concludes = run.concludes in
-      let facts = concluded engine.save p.durability run.after.sink run.end mid new r concludes in
+      let facts = concluded engine.save p.durability run.after.sink run.end run.place mid new r concludes in
       let grows = grows_by opened old mid did in
       let noted = did_events opened old mid did in
       let late : (o : Outcome) → CameSince mid new o → Came o = then_came [] old mid new grows in
@@ -133,10 +135,10 @@ module _ (IsPorts : Ports → Type 0) (asked : Request) (old mid new : FilesView
       record {
         done = on_ok_weaker r (λ ended. of (λ n q. HasEngineEnded IsPorts Came n q old new) ended)
             (engine_ended IsPorts Came engine p before run.after before_is run.after_is begun read fresh (run.named ∙ named) old mid new grows late
-            run.end run.ends r concludes);
+            run.end run.place run.ends r concludes);
         stopped = IfErr-weaker r _ _ (λ e stop. inr (of (λ n q. HasEngineStopped IsPorts Came n q (order_asked asked).done e old new) stop))
             (engine_stopped IsPorts Came engine p before run.after before_is run.after_is begun read fresh (run.named ∙ named) old mid new grows late
-            (order_asked asked).done (λ events. followed old.events new.events (order_asked asked).done (closed events)) run.end run.ends run.stops run.certain r concludes);
+            (order_asked asked).done (λ events. followed old.events new.events (order_asked asked).done (closed events)) run.end run.place run.ends run.unended run.stops run.certain r concludes);
         blamed = IfErr-weaker r _ _ (λ e no usage. absurd (true≢false (sym usage ∙ no))) facts.fault;
         order = subst (λ (order : List Event). Follows order old.events new.events) (sym whole_is)
             (then_concluded xs ys p.clobber p.to.now p.durability (replacing engine.save p.durability) old.events mid.events new.events noted facts.order);

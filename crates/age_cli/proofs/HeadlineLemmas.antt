@@ -12,13 +12,16 @@ use Rattle.clap.specs.Kinds.{Kinds, IsAmong}
 use Rattle.clap.specs.declared.error.kind.ErrorKind.TheVariants.{DisplayHelp, DisplayVersion}
 use Rattle.age_chunk.specs.{chunk_limit, chunk_count, chunk_length}
 use Rattle.age_stream.specs.{IsPrefixOf}
-use Rattle.age_file.proofs.RunLemmas.{Fits, begins_fits}
-use Rattle.age_file.proofs.GivenLemmas.{call_right, gave_text}
-use Rattle.age_file.specs.{AnswersRight, Beginning, DecryptAnswers, BeginsWith, Resumption, resumption, from_either, IsFrom, position_text, Ports, Run, IsFromStart, IsRun, IsTexts}
-use Rattle.age_file.specs.declared.decryption.Done.{Done}
-use Rattle.age_file.specs.{SecretView, AgeFile}
-use Rattle.age_file.specs.declared.decryption.Stopped.{Stopped}
-use Rattle.age_file.specs.declared.position.Position.{Position}
+use Rattle.age_opening.proofs.RunLemmas.{Fits, begins_fits}
+use Rattle.age_opening.proofs.GivenLemmas.{call_right, gave_text}
+use Rattle.age_opening.specs.{AnswersRight, Beginning, DecryptAnswers, BeginsWith, Resumption, resumption, from_either, IsFrom, Run, IsFromStart, IsRun}
+use Rattle.age_opening.specs.{IsTexts}
+use Rattle.age_position.specs.{position_text}
+use Rattle.age_intake.specs.{Ports}
+use Rattle.age_opening.specs.declared.decryption.Done.{Done}
+use Rattle.age_sealing.specs.{SecretView, AgeFile}
+use Rattle.age_opening.specs.declared.decryption.Stopped.{Stopped}
+use Rattle.age_position.specs.declared.position.Position.{Position}
 use Rattle.age_fault.specs.declared.fault.FileFault.{FileFault}
 use Rattle.age_machine.specs.{EndedFile, SavedFile}
 use Rattle.age_fileset.specs.{Event, FilesView, Files, Entry, entry, entry_of, Outcome, Found, FoundOrEmpty, PutsOnly, CameSince, HasGiven, HasGivenAll, AreTrue}

@@ -21,7 +21,8 @@ use Rattle.age_cli_args.specs.declared.request.Request.{Request}
 use Rattle.age_cli_args.specs.declared.request.Request.TheVariants.{Inspect, Drill}
 use Rattle.age_cli_args.specs.Requests.{Requests}
 use Rattle.age_cli_args.specs.declared.request.Drilling.{Drilling}
-use Rattle.age_file.specs.{Ports, IsReport}
+use Rattle.age_intake.specs.{Ports}
+use Rattle.age_inspection.specs.{IsReport}
 use Rattle.age_fileset.specs.{CameSince, FilesView, Does}
 use Rattle.age_fileset.proofs.{did_events}
 use Rattle.age_command.specs.{Announces, ReportsEnding, ReportsRest, TakesLine, fault_line, Follows, order_asked}
@@ -36,7 +37,7 @@ use Rattle.age_cli.specs.Acts.{Acts}
 use Rattle.age_cli.specs.{IsUsage, FailsReport, DoesOther, FailsWriting, IsRefusal, Obeys, World}
 use Rattle.age_cli.specs.inner.{IsForOutput, IsInspected}
 use Rattle.age_fault.specs.declared.fault.FileFault.TheVariants.{Write, Memory}
-use Rattle.age_file.specs.declared.report.Report.{Report}
+use Rattle.age_inspection.specs.declared.report.Report.{Report}
 use Rattle.age_io.specs.Supply.{Supply}
 
 -- ---- The words.

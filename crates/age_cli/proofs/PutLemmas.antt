@@ -10,19 +10,19 @@ use Rattle.age_io.specs.declared.durability.Durability.{Durability}
 use Rattle.age_io.specs.declared.durability.Durability.TheVariants.{Synced}
 use Rattle.age_fault.specs.declared.fault.FileFault.{FileFault}
 use Rattle.age_fault.specs.declared.fault.FileFault.TheVariants.{Memory, Write}
-use Rattle.age_file.specs.{position_text}
-use Rattle.age_file.specs.declared.position.Position.{Position}
+use Rattle.age_position.specs.{position_text}
+use Rattle.age_position.specs.declared.position.Position.{Position}
 use Rattle.age_machine.specs.{Closes, Discards, EndedFile, OutFile, SavedFile, IsThere, IsOnDisk}
 use Rattle.age_machine.specs.Saved.{Saves}
-use Rattle.age_fileset.specs.{Unwritten, Entry, entry, FilesView, Close, Does, PutsOnly, CameSince, IsMemoryOr, Absent, Outcome, Put, refused_as, written_as, puts_in}
+use Rattle.age_fileset.specs.{Unwritten, Entry, entry, FilesView, Close, Does, PutsOnly, CameSince, IsMemoryOr, Absent, Present, Outcome, Put, refused_as, written_as, puts_in}
 use Rattle.age_fileset.proofs.{came_one, came_then, none_plain, grows_then, grows_by, then_came, did_events, unwritten_puts}
 use Rattle.age_command.proofs.{followed, longer, then_follows}
 use Rattle.age_command.specs.{Follows, is_usage, replacing}
 use Rattle.age_command.specs.declared.ending.Ending.{Ending}
 use Rattle.age_command.specs.declared.ending.Ending.TheVariants.{Fault}
-use Rattle.age_cli.specs.{IsDue, IsThereUnlessFailed, IsSaved, Interruption, stop_ending}
-use Rattle.age_cli.specs.inner.{ClosesOut, Concludes, IsLeft, IsPut, IsUnsavable, LacksOne, LeavesOut, PutsRest, SavesStop}
-use Rattle.age_cli.proofs.OpeningLemmas.{same_events}
+use Rattle.age_cli.specs.{IsDue, IsThereUnlessFailed, IsSaved, Reached, stop_ending}
+use Rattle.age_cli.specs.inner.{Concludes, EndsOut, IsLeft, IsPut, IsUnsavable, LacksOne, LeavesOut, PutsRest, SavesStop}
+use Rattle.age_cli.proofs.OpeningLemmas.{same_events, some_and}
 use Rattle.age_command.proofs.FileLemmas.{did_came}
 use Rattle.age_fileset.specs.declared.files.OpenFault.TheVariants as refusal
 
@@ -131,7 +131,7 @@ module _ (durability : Durability) (old new : FilesView) where
 pub due_as : (Came Later : Outcome → Type 0) → ((o : Outcome) → Came o → Later o) → (position : Option Position) (save : Option Text) (due : Option Position)
     → IsDue Came position save due → IsDue Later position save due
 due_as Came Later so (Some p) (Some name) due (inl (same, absent)) = inl (same, λ first. so (Absent name) (absent first))
-due_as Came Later so (Some p) (Some name) due (inr none) = inr none
+due_as Came Later so (Some p) (Some name) due (inr (none, first, present)) = inr (none, first, so (Present name) present)
 due_as Came Later so (Some p) None due same = same
 due_as Came Later so None save due same = same
 
@@ -152,44 +152,63 @@ saved_as Came Later so then durability settled (Some p) None how rest saved (wel
 saved_as Came Later so then durability settled None save how rest saved (well, none, untried) = (well, none, then untried)
 
 -- what is due was found, and then it was put, or not
-pub puts_rest : (durability : Durability) (old mid new : FilesView) → Does [] old mid → (save : Option Text) (stop : Interruption) (due : Option Position)
-    → IsDue (CameSince old mid) stop.position save due → (how : Result (Unit {0}) FileFault) → Saved durability save stop.settled due mid new how
-    → WhySaved save due how → PutsRest durability save stop old new (stop_ending stop.fault how)
-puts_rest durability old mid new did save stop due is how saved why =
-    let so = puts_so durability mid new stop.settled save due how saved why in
+pub puts_rest : (durability : Durability) (old mid new : FilesView) → Does [] old mid → (save : Option Text) (fault : FileFault) (place : Reached) (due : Option Position)
+    → IsDue (CameSince old mid) place.position save due → (how : Result (Unit {0}) FileFault) → Saved durability save place.settled due mid new how
+    → WhySaved save due how → PutsRest durability save fault place old new (stop_ending fault how)
+puts_rest durability old mid new did save fault place due is how saved why =
+    let so = puts_so durability mid new place.settled save due how saved why in
     record {
       how = how;
       reported = refl;
       rest = so.0;
       puts = grows_then [] so.0 old mid new (grows_by [] old mid did) so.1;
       due = due;
-      is_due = due_as (CameSince old mid) (CameSince old new) (came_then so.0 old mid new so.1) stop.position save due is;
-      saved = saved_as (CameSince mid new) (CameSince old new) (did_came did) (λ kept. kept ∙ same_events did) durability stop.settled due save how so.0 new.saved so.2;
+      is_due = due_as (CameSince old mid) (CameSince old new) (came_then so.0 old mid new so.1) place.position save due is;
+      saved = saved_as (CameSince mid new) (CameSince old new) (did_came did) (λ kept. kept ∙ same_events did) durability place.settled due save how so.0 new.saved so.2;
     }
 
 -- ---- How an output was ended.
 
-module _ {save : Option Text} {durability : Durability} {sink : SinkView} {stop : Interruption} {old mid new : FilesView} {e : Ending} where
-  -- it was left, and then the position of the stop was saved, or not
-  pub saves_stop : LeavesOut durability sink old mid → new.ended ≡ mid.ended → Follows (replacing save durability) mid.events new.events
-      → PutsRest durability save stop mid new e → SavesStop save durability sink stop old new e
+-- by what was noted of its close
+pub closed_as : (durability : Durability) (file : Option OutFile) (sink : SinkView) (r : Result (Unit {0}) FileFault) (old new : FilesView)
+    → new.outcomes ≡ old.outcomes ++ written_as sink.taken.label sink.taken.bytes r → new.events ≡ old.events ++ Close durability ∷ [] → IsOkUnless r Write
+    → IsSomeAnd new.ended (Closes durability file sink r) → EndsOut durability sink (Ok tt) old new r
+closed_as durability file sink (Ok done) old new is noted fails closes =
+    record { file = file; ended = closes; noted = noted; puts_only = grows_put sink.taken.label sink.taken.bytes old new is }
+closed_as durability file sink (Err fault) old new is noted fails closes = (
+  fails,
+  record {
+    outs = [];
+    puts_only = grows_lost sink.taken.label fault old new is (inl fails);
+    out = inl refl;
+    noted = noted;
+    ended = some_and new.ended (λ out c. (file, subst (λ f. Closes durability file sink (Err f) out) fails c)) closes;
+  },
+  lost_came sink.taken.label fault old new is fails,
+)
+
+module _ {save : Option Text} {durability : Durability} {sink : SinkView} {IsFile : EndedFile → Type 0} {fault : FileFault} {place : Reached}
+    {old mid new : FilesView} {e : Ending} where
+  -- it was left, and then the position was saved, or not
+  saves_stop : LeavesOut durability sink IsFile old mid → new.ended ≡ mid.ended → Follows (replacing save durability) mid.events new.events
+      → PutsRest durability save fault place mid new e → SavesStop save durability sink IsFile fault place old new e
   saves_stop left same order by = record {
     how = by.how;
     reported = by.reported;
-    ended = subst (λ (o : Option EndedFile). IsSomeAnd o (IsLeft durability sink)) (sym same) left.ended;
+    ended = subst (λ (o : Option EndedFile). IsSomeAnd o IsFile) (sym same) left.ended;
     order = then_follows old.events mid.events new.events (Close durability ∷ []) (replacing save durability) left.noted order;
     outs = left.outs;
     rest = by.rest;
     puts_only = grows_then left.outs by.rest old mid new left.puts_only by.puts;
     out = left.out;
     due = by.due;
-    is_due = due_as (CameSince mid new) (CameSince old new) (then_came left.outs old mid new left.puts_only) stop.position save by.due by.is_due;
-    saved = saved_as (CameSince mid new) (CameSince old new) (then_came left.outs old mid new left.puts_only) (λ kept. kept ∙ left.noted) durability stop.settled by.due save
+    is_due = due_as (CameSince mid new) (CameSince old new) (then_came left.outs old mid new left.puts_only) place.position save by.due by.is_due;
+    saved = saved_as (CameSince mid new) (CameSince old new) (then_came left.outs old mid new left.puts_only) (λ kept. kept ∙ left.noted) durability place.settled by.due save
         by.how by.rest new.saved by.saved;
   }
 
   -- the same from before something else was done
-  pub saves_from : Does [] old mid → SavesStop save durability sink stop mid new e → SavesStop save durability sink stop old new e
+  saves_from : Does [] old mid → SavesStop save durability sink IsFile fault place mid new e → SavesStop save durability sink IsFile fault place old new e
   saves_from did s = record {
     how = s.how;
     reported = s.reported;
@@ -200,30 +219,41 @@ module _ {save : Option Text} {durability : Durability} {sink : SinkView} {stop 
     puts_only = grows_then [] (s.outs ++ s.rest) old mid new (grows_by [] old mid did) s.puts_only;
     out = s.out;
     due = s.due;
-    is_due = due_as (CameSince mid new) (CameSince old new) (did_came did) stop.position save s.due s.is_due;
-    saved = saved_as (CameSince mid new) (CameSince old new) (did_came did) (λ noted. noted ∙ ap (λ es. es ++ Close durability ∷ []) (same_events did)) durability stop.settled
+    is_due = due_as (CameSince mid new) (CameSince old new) (did_came did) place.position save s.due s.is_due;
+    saved = saved_as (CameSince mid new) (CameSince old new) (did_came did) (λ noted. noted ∙ ap (λ es. es ++ Close durability ∷ []) (same_events did)) durability place.settled
         s.due save s.how s.rest new.saved s.saved;
   }
 
-module _ (save : Option Text) (durability : Durability) (sink : SinkView) (old mid new : FilesView) (did : Does [] old mid) where
-  closes_from : (puts : List Entry) (r : Result (Unit {0}) FileFault) → ClosesOut durability sink puts mid new r → ClosesOut durability sink puts old new r
-  closes_from puts r c = record {
+-- it was ended whole
+pub concludes_all : (save : Option Text) (durability : Durability) (sink : SinkView) (place : Reached) (old new : FilesView) (engine : Result (Unit {0}) FileFault)
+    → EndsOut durability sink engine old new (Ok tt) → Concludes save durability sink engine place old new (Ok tt)
+concludes_all save durability sink place old new (Ok x) ends = ends
+concludes_all save durability sink place old new (Err f) ends = absurd ends.0
+
+module _ (save : Option Text) (durability : Durability) (sink : SinkView) (place : Reached) (old mid new : FilesView) where
+  -- it wasn't, and then the position was saved, or not
+  pub concludes_stop : (engine : Result (Unit {0}) FileFault) (fault : FileFault) (e : Ending) → EndsOut durability sink engine old mid (Err fault) → new.ended ≡ mid.ended
+      → Follows (replacing save durability) mid.events new.events → PutsRest durability save fault place mid new e → Concludes save durability sink engine place old new (Err e)
+  concludes_stop (Ok x) fault e ends same order by = (
+    saves_stop ends.1 same order (subst (λ f. PutsRest durability save f place mid new e) ends.0 by),
+    came_then by.rest old mid new by.puts (Unwritten sink.taken.label) ends.2,
+  )
+  concludes_stop (Err f) fault e ends same order by = saves_stop ends.1 same order (subst (λ f. PutsRest durability save f place mid new e) ends.0 by)
+
+  pub concludes_from : Does [] old mid → (engine : Result (Unit {0}) FileFault) (r : Result (Unit {0}) Ending) → Concludes save durability sink engine place mid new r
+      → Concludes save durability sink engine place old new r
+  concludes_from did (Ok x) (Ok y) c = record {
     file = c.file;
     ended = c.ended;
     noted = c.noted ∙ ap (λ es. es ++ Close durability ∷ []) (same_events did);
-    puts_only = grows_then [] puts old mid new (grows_by [] old mid did) c.puts_only;
+    puts_only = grows_then [] (entry sink.taken.label sink.taken.bytes ∷ []) old mid new (grows_by [] old mid did) c.puts_only;
   }
-
-  pub concludes_from : (engine : Result (Unit {0}) Interruption) (r : Result (Unit {0}) Ending) → Concludes save durability sink engine mid new r
-      → Concludes save durability sink engine old new r
-  concludes_from (Ok x) (Ok y) c = closes_from _ _ c
-  concludes_from (Ok x) (Err (Fault f)) c = (closes_from [] (Err f) c.0, c.1, did_came did (Unwritten sink.taken.label) c.2)
-  concludes_from (Err s) (Err e) c = saves_from did c
-  concludes_from (Ok x) (Err e) c = absurd c
-  concludes_from (Err s) (Ok y) c = absurd c
+  concludes_from did (Ok x) (Err e) c = (saves_from did c.0, did_came did (Unwritten sink.taken.label) c.1)
+  concludes_from did (Err s) (Err e) c = saves_from did c
+  concludes_from did (Err s) (Ok y) c = absurd c
 
 -- what was done while an output was ended
-pub record Concluded (save : Option Text) (durability : Durability) (engine : Result (Unit {0}) Interruption) (old new : FilesView) (r : Result (Unit {0}) Ending)
+pub record Concluded (save : Option Text) (durability : Durability) (engine : Result (Unit {0}) FileFault) (old new : FilesView) (r : Result (Unit {0}) Ending)
     : Type 0 where
   pub puts : List Entry
   pub grows : PutsOnly puts old new
@@ -235,22 +265,20 @@ pub no_usage : (f : FileFault) (how : Result (Unit {0}) FileFault) → is_usage 
 no_usage f (Ok done) = refl
 no_usage f (Err second) = refl
 
-pub concluded : (save : Option Text) (durability : Durability) (sink : SinkView) (engine : Result (Unit {0}) Interruption) (old new : FilesView)
-    (r : Result (Unit {0}) Ending) → Concludes save durability sink engine old new r → Concluded save durability engine old new r
-concluded save durability sink (Ok x) old new (Ok y) c = record {
+stop_concluded : {save : Option Text} {durability : Durability} {sink : SinkView} {IsFile : EndedFile → Type 0} {fault : FileFault} {place : Reached}
+    {engine : Result (Unit {0}) FileFault} {old new : FilesView} {e : Ending} → SavesStop save durability sink IsFile fault place old new e
+    → Concluded save durability engine old new (Err e)
+stop_concluded {fault = fault} c = record { puts = c.outs ++ c.rest; grows = c.puts_only; fault = ap is_usage c.reported ∙ no_usage fault c.how; order = c.order; done = tt }
+
+pub concluded : (save : Option Text) (durability : Durability) (sink : SinkView) (engine : Result (Unit {0}) FileFault) (place : Reached) (old new : FilesView)
+    (r : Result (Unit {0}) Ending) → Concludes save durability sink engine place old new r → Concluded save durability engine old new r
+concluded save durability sink (Ok x) place old new (Ok y) c = record {
   puts = _;
   grows = c.puts_only;
   fault = tt;
   order = longer (Close durability ∷ []) (replacing save durability) old.events new.events (followed old.events new.events (Close durability ∷ []) c.noted);
   done = (refl, c.noted);
 }
-concluded save durability sink (Ok x) old new (Err (Fault f)) c = record {
-  puts = [];
-  grows = c.0.puts_only;
-  fault = refl;
-  order = longer (Close durability ∷ []) (replacing save durability) old.events new.events (followed old.events new.events (Close durability ∷ []) c.0.noted);
-  done = tt;
-}
-concluded save durability sink (Err s) old new (Err e) c = record { puts = c.outs ++ c.rest; grows = c.puts_only; fault = ap is_usage c.reported ∙ no_usage s.fault c.how; order = c.order; done = tt }
-concluded save durability sink (Ok x) old new (Err e) c = absurd c
-concluded save durability sink (Err s) old new (Ok y) c = absurd c
+concluded save durability sink (Ok x) place old new (Err e) c = stop_concluded c.0
+concluded save durability sink (Err s) place old new (Err e) c = stop_concluded c
+concluded save durability sink (Err s) place old new (Ok y) c = absurd c

@@ -5,17 +5,19 @@ use Rattle.std.proofs.Common.{◌≡◌, ◌∙◌, ◌++◌, [], List, ℕ, ap,
 use Rattle.std.specs.Prelude.{IsSomeAnd, OnOk, IfErr, IsErrAnd}
 use Rattle.age_fault.specs.declared.fault.FileFault.{FileFault}
 use Rattle.age_fault.specs.declared.fault.FileFault.TheVariants.{Head, Key, NonceCut, OtherFile, PositionForged}
-use Rattle.age_file.proofs.GivenLemmas.{gave_text}
-use Rattle.age_file.specs.{HeadFails, NoHeadFault, SecretView, DecryptStops, InOldFails, InSkippedFails, Ports, Run, PayloadFails, Resumption, from_either, resumption}
-use Rattle.age_file.specs.declared.decryption.Stopped.{Stopped}
-use Rattle.age_file.specs.declared.position.Position.{Position}
-use Rattle.age_file.specs.declared.position.PositionPolicy.{PositionPolicy}
+use Rattle.age_opening.proofs.GivenLemmas.{gave_text}
+use Rattle.age_intake.specs.{HeadFails, NoHeadFault, Ports}
+use Rattle.age_sealing.specs.{SecretView}
+use Rattle.age_opening.specs.{DecryptStops, InOldFails, InSkippedFails, Run, PayloadFails, Resumption, from_either, resumption}
+use Rattle.age_opening.specs.declared.decryption.Stopped.{Stopped}
+use Rattle.age_position.specs.declared.position.Position.{Position}
+use Rattle.age_position.specs.declared.position.PositionPolicy.{PositionPolicy}
 use Rattle.age_io.specs.{SinkView}
 use Rattle.age_io.specs.Taken.{Appends}
 use Rattle.age_fileset.specs.{Event, FilesView, Outcome, CameSince}
 use Rattle.clap.specs.Words.{Text}
-use Rattle.age_stanza.specs.declared.fault.HeadFault.{HeadFault}
-use Rattle.age_keys.specs.declared.fault.KeyFault.{KeyFault}
+use Rattle.age_fault.specs.declared.head.HeadFault.{HeadFault}
+use Rattle.age_fault.specs.declared.key.KeyFault.{KeyFault}
 use Rattle.age_machine.specs.{EndedFile, TouchesItself, IsUntouched}
 use Rattle.age_command.specs.{allows_by, refuses_by, order_asked, is_usage, IsUnreadable}
 use Rattle.age_command.specs.declared.ending.Ending.{Ending}
@@ -137,7 +139,7 @@ module _ (IsPorts : Ports → Type 0) (before after : FilesView) (ending : Endin
   spares_stop p identity save earlier done s =
       let mine : IsBeforeText s.fault = subst IsBeforeText (same_fault fault s.fault s.save (subst (IsEndingOf fault) s.reported is)) early in
       ⊎_elim (λ stop. spares_engine IsPorts since p before.ended after.ended s.run s.within identity save earlier s.settled s.fault s.position
-      stop.untouched mine stop.promise) (λ unended. absurd (subst IsBeforeText unended.is.0 mine)) s.cause
+      stop.untouched mine stop.promise) (λ unended. absurd (subst IsBeforeText unended.is mine)) s.cause
 
   pub spares_of_request : (asked : Request) → IsForText asked
       → HasNotBegun asked ending before after ⊎ OfEngine IsPorts since (CameFirst before after) asked

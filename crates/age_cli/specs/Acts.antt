@@ -9,23 +9,25 @@ use Rattle.age_io.specs.declared.durability.Durability.TheVariants.{Synced}
 use Rattle.age_fault.specs.declared.fault.FileFault.{FileFault}
 use Rattle.age_fault.specs.declared.fault.FileFault.TheVariants.{Read, Write, Memory, BadPosition}
 use Rattle.age_chunk.specs.{chunk_length}
-use Rattle.age_file.specs.{IsPositionWithin, Ports, ports, Run, SecretView, EncryptsFront}
-use Rattle.age_file.specs.{DecryptEnds, DecryptStops, Resumption, resumption, from_either}
-use Rattle.age_file.specs.{position_text}
-use Rattle.age_file.specs.declared.decryption.Done.{Done}
-use Rattle.age_file.specs.declared.encryption.Written.{Written}
-use Rattle.age_file.specs.declared.position.Position.{Position}
-use Rattle.age_file.specs.declared.position.PositionPolicy.{PositionPolicy}
-use Rattle.age_file.specs.declared.position.PositionPolicy.TheVariants.{Kept, Dropped}
-use Rattle.age_file.specs.declared.decryption.Stopped.{Stopped}
-use Rattle.age_file.specs.Encrypts.{Encrypts}
+use Rattle.age_opening.specs.{IsPositionWithin, Run, DecryptEnds, DecryptStops, Resumption}
+use Rattle.age_opening.specs.{resumption, from_either}
+use Rattle.age_intake.specs.{Ports, ports}
+use Rattle.age_sealing.specs.{SecretView, EncryptsFront}
+use Rattle.age_position.specs.{position_text}
+use Rattle.age_opening.specs.declared.decryption.Done.{Done}
+use Rattle.age_sealing.specs.declared.encryption.Written.{Written}
+use Rattle.age_position.specs.declared.position.Position.{Position}
+use Rattle.age_position.specs.declared.position.PositionPolicy.{PositionPolicy}
+use Rattle.age_position.specs.declared.position.PositionPolicy.TheVariants.{Kept, Dropped}
+use Rattle.age_opening.specs.declared.decryption.Stopped.{Stopped}
+use Rattle.age_sealing.specs.Encrypts.{Encrypts}
 use Rattle.age_machine.specs.{EndedFile, TouchesItself, IsThere, IsOnDisk, IsUntouched, SavedFile}
 use Rattle.age_machine.specs.Calls.{Opened}
 use Rattle.age_machine.specs.Saves.{AllAnswered}
 use Rattle.age_machine.specs.declared.machine.Kind.TheVariants.{Regular}
 use Rattle.age_machine.specs.Disk.{Disk}
 use Rattle.age_machine.specs.Saved.{Saves}
-use Rattle.age_fileset.specs.{Event, FilesView, Outcome, Found, Absent, Unwritten, Settled, Alike}
+use Rattle.age_fileset.specs.{Event, FilesView, Outcome, Found, Absent, Present, Unwritten, Settled, Alike}
 use Rattle.age_fileset.specs.{OneStream, InUse, Terminal, CameSince, HasGiven, HasGivenAll, Entry}
 use Rattle.age_fileset.specs.{PutsOnly, entry, puts_in, Put}
 use Rattle.age_cli_args.specs.{option_text}
@@ -65,12 +67,14 @@ status_by (Err e) = if is_usage e then 2 else 1
 
 -- ---- What the engine of a command promises of its source and its sink, before and after.
 
--- what it promises if it ends; and if it stops with this fault, and at this position, if it has one. If a
--- position is to be saved, the set of files said that so many bytes of OUT are certain (`settled`).
+-- What it promises if it ends; of the position to save if OUT can't be ended then; and if it stops with
+-- this fault, and with this position to save. If one is to be saved, the set of files said that so many
+-- bytes of OUT are certain (`settled`).
 pub record Engine : Type 1 where
   -- the file of `--save`
   pub save : Option Text
   pub ends : Ports → Ports → Type 0
+  pub unended : (settled : ℕ) → Option Position → Ports → Ports → Type 0
   pub stops : (settled : ℕ) → FileFault → Option Position → Ports → Ports → Type 0
 
 -- positions are kept if one is to be saved
@@ -83,18 +87,19 @@ abbrev pub encrypt_engine : SecretView → Engine
 encrypt_engine secret = record {
   save = None;
   ends = λ before after. (written : Written) × Encrypts secret before after written;
+  unended = λ settled position before after. position ≡ None;
   stops = λ settled fault position before after.
       EncryptsFront secret before after fault × (position ≡ None);
 }
 
--- The position to save of a stop: one of its run within what is certain, if it came to its payload
--- and positions are kept, but none before the one that it went on from: then that. Else the stop's own,
--- if it has one.
+-- The position to save of a run that comes to no end: one of it within what is certain, if it came to its
+-- payload and positions are kept, unless that is before the one that it went on from: then that one. Else
+-- the stop's own, if it has one.
 abbrev pub IsPlaced : Option Run → PositionPolicy → (start : Option Position) → (settled : ℕ)
     → (own at : Option Position) → Type 0
 IsPlaced (Some r) Kept start settled own position =
     IsSomeAnd position (λ p. (IsPositionWithin r settled p × IfSome start (λ s. s.index ≤ p.index))
-    ⊎ (start ≡ Some p))
+    ⊎ ((start ≡ Some p) × (q : Position) × IsPositionWithin r settled q × (q.index < p.index)))
 IsPlaced run keep start settled own position = position ≡ own
 
 -- a run stopped with this fault, and this is the position to save
@@ -102,6 +107,12 @@ abbrev pub StopsText : PositionPolicy → (start : Option Position) → (Stops :
     → (settled : ℕ) → FileFault → Option Position → Type 0
 StopsText keep start Stops settled fault position = (run : Option Run) × (stop : Stopped)
     × (stop.fault ≡ fault) × Stops run stop × IsPlaced run keep start settled stop.position position
+
+-- a run ended, and this is the position to save if its output can't be
+abbrev pub EndsText : PositionPolicy → (start : Option Position) → (Ends : Done → Run → Type 0) → (settled : ℕ)
+    → Option Position → Type 0
+EndsText keep start Ends settled position =
+    (done : Done) × (run : Run) × Ends done run × IsPlaced (Some run) keep start settled None position
 
 -- the position that it goes on from
 abbrev pub start_of : Option (Position × Text) → Option Position
@@ -131,6 +142,9 @@ module _ (IsPorts : Ports → Type 0) (Came : Outcome → Type 0) where
     save = save;
     ends = GoesOn earlier (λ from before after. (done : Done) × (run : Run)
         × DecryptEnds (kept_for save) (allows_by i) (begun from) before after done run);
+    unended = λ settled position. GoesOn earlier (λ from before after. EndsText (kept_for save)
+        (start_of earlier) (DecryptEnds (kept_for save) (allows_by i) (begun from) before after) settled
+        position);
     stops = λ settled fault position. GoesOn earlier (λ from before after. StopsText (kept_for save)
         (start_of earlier) (DecryptStops (kept_for save) (allows_by i) (begun from) before after) settled fault
         position);
@@ -213,7 +227,7 @@ pub record ShowsProgress (Came : Outcome → Type 0) (old new : Option (List Sho
   pub shown : ShowsReading reading.size first.supply last.supply old new
   pub whole : OnOk ended (IsAtEnd last.supply)
 
--- ---- What becomes of the position of a stop, by how its save went.
+-- ---- What becomes of the position to save, by how its save went.
 
 -- It was put to the file of this name, at once if that was a new one beside it, and stands there then; or
 -- memory was refused, or the set of files said that the file couldn't be written.
@@ -224,12 +238,13 @@ pub record IsStored (Came : Outcome → Type 0) (durability : Durability) (name 
   pub lost : IfErr save (λ second. (puts ≡ [])
       × ((second ≡ Memory) ⊎ ((second ≡ Write) × Came (Unwritten name))))
 
--- The position that is due to be put to the file of this name: that of the stop. But one of chunk 0, which
--- says nothing that `decrypt` doesn't do, is only if nothing has the name.
+-- The position that is due to be put to the file of this name: the one to save. But one of chunk 0, which
+-- says nothing that `decrypt` doesn't do, is if the set of files said that nothing has the name, and isn't
+-- if it said that something has, or may have it.
 abbrev pub IsDue : (Came : Outcome → Type 0) → (position : Option Position) → Option Text
     → (due : Option Position) → Type 0
 IsDue Came (Some p) (Some name) due = ((due ≡ Some p) × (p.index ≡ 0 → Came (Absent name)))
-    ⊎ ((due ≡ None) × (p.index ≡ 0))
+    ⊎ ((due ≡ None) × (p.index ≡ 0) × Came (Present name))
 IsDue Came position name due = due ≡ position
 
 -- If there is a position, and a name for its file, it was put there, and so much of OUT is certain; or the
@@ -316,7 +331,7 @@ module _ (IsPorts : Ports → Type 0) (Came : Outcome → Type 0) where
     pub within : TouchesItself leaves.run.out
 
   -- The engine stopped with this fault and at this position. The output is untouched if its sink took
-  -- nothing, and closed otherwise; and how much of it is certain was asked, if a position is to be saved.
+  -- nothing, and closed otherwise.
   pub record Stopping (engine : Engine) (p : Paths) (settled : ℕ) (fault : FileFault)
       (position : Option Position) {ended : Option EndedFile} (run : Returned p ended) : Type 0 where
     pub promise : engine.stops settled fault position run.before run.after
@@ -325,20 +340,21 @@ module _ (IsPorts : Ports → Type 0) (Came : Outcome → Type 0) where
     -- failed.
     pub kept : (run.out.took ≡ [] → ⊥) → (run.out.is_closed ≡ true)
         × (run.after.sink.failed ≡ 0 → IsThereUnlessFailed p.durability run.out)
-    pub certain : is_some engine.save ≡ true → Came (Settled p.durability run.out.took settled)
 
   -- It ended, but the output couldn't be, as the set of files said; if it is a regular file, a call has
-  -- failed.
-  pub record Unended (engine : Engine) (p : Paths) (fault : FileFault) (position : Option Position)
-      {ended : Option EndedFile} (run : Returned p ended) : Type 0 where
+  -- failed. This is the position to save.
+  pub record Unended (engine : Engine) (p : Paths) (settled : ℕ) (fault : FileFault)
+      (position : Option Position) {ended : Option EndedFile} (run : Returned p ended) : Type 0 where
     pub promise : engine.ends run.before run.after
-    pub is : (fault ≡ Write) × (position ≡ None)
+    pub placed : engine.unended settled position run.before run.after
+    pub is : fault ≡ Write
     pub said : Came (Unwritten p.to.now)
     pub caused : IfSome run.out.file (λ f. 0 < run.out.failed)
 
   -- It stopped with the fault that is reported, or its output couldn't be ended. What its sink took was
   -- put, or nothing was; and then its position, if it has one that is due to a file, or the ending
   -- says why not. If that wasn't tried, no file was to be replaced: what was done is of the order `done`.
+  -- How much of OUT is certain was asked, if a position is to be saved.
   pub record HasEngineStopped (engine : Engine) (p : Paths) (done : List Event) (ending : Ending)
       (before after : FilesView) : Type 0 where
     pub run : Returned p after.ended
@@ -348,7 +364,8 @@ module _ (IsPorts : Ports → Type 0) (Came : Outcome → Type 0) where
     pub reported : ending ≡ stop_ending fault save
     pub position : Option Position
     pub settled : ℕ
-    pub cause : Stopping engine p settled fault position run ⊎ Unended engine p fault position run
+    pub certain : is_some engine.save ≡ true → Came (Settled p.durability run.out.took settled)
+    pub cause : Stopping engine p settled fault position run ⊎ Unended engine p settled fault position run
     pub outs : List Entry
     pub rest : List Entry
     pub puts : PutsOnly (outs ++ rest) before after

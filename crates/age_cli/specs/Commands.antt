@@ -9,11 +9,14 @@ use Rattle.age_keys.specs.{IsAllowed}
 use Rattle.age_fault.specs.{HasRisen}
 use Rattle.age_fault.specs.declared.fault.FileFault.{FileFault}
 use Rattle.age_fault.specs.declared.fault.FileFault.TheVariants.{Read, Write, Memory}
-use Rattle.age_file.specs.{SecretView, NoPosition, HeadFails, NoHeadFault, IsReport}
-use Rattle.age_file.specs.Reports as file
-use Rattle.age_file.specs.declared.position.Position.{Position}
-use Rattle.age_file.specs.declared.report.Report.{Report}
-use Rattle.age_file.specs.declared.report.StanzaReport.{StanzaReport}
+use Rattle.age_sealing.specs.{SecretView}
+use Rattle.age_position.specs.{NoPosition}
+use Rattle.age_intake.specs.{HeadFails, NoHeadFault}
+use Rattle.age_inspection.specs.{IsReport}
+use Rattle.age_inspection.specs.Reports as file
+use Rattle.age_position.specs.declared.position.Position.{Position}
+use Rattle.age_inspection.specs.declared.report.Report.{Report}
+use Rattle.age_inspection.specs.declared.report.StanzaReport.{StanzaReport}
 use Rattle.age_fileset.specs.{FilesView, CameSince, Outcome, Found, FoundOrEmpty, Unread, InUse, Gave}
 use Rattle.age_fileset.specs.{reading_of}
 use Rattle.age_cli_args.specs.{option_text}

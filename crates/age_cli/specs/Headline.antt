@@ -8,9 +8,12 @@ use Rattle.age_chunk.specs.{chunk_count, chunk_length, block_length, chunk_limit
 use Rattle.age_io.specs.{Shown, SourceView, SinkView, Consumes, IsAtEnd}
 use Rattle.age_stream.specs.{IsPrefixOf}
 use Rattle.age_keys.specs.{Opens, FileOf, box}
-use Rattle.age_file.specs.{Ports, ports, Run, IsFromStart, IsTexts, BelongsTo, CarriesText, OpenedFile}
-use Rattle.age_file.specs.declared.position.Position.{Position}
-use Rattle.age_file.specs.{GaveFile, GaveOld, GaveRest, position_text, SecretView, AgeFile}
+use Rattle.age_intake.specs.{Ports, ports}
+use Rattle.age_opening.specs.{Run, IsFromStart, IsTexts, BelongsTo, CarriesText, OpenedFile}
+use Rattle.age_opening.specs.{GaveFile, GaveOld, GaveRest}
+use Rattle.age_position.specs.declared.position.Position.{Position}
+use Rattle.age_position.specs.{position_text}
+use Rattle.age_sealing.specs.{SecretView, AgeFile}
 use Rattle.age_cli_args.specs.Requests.{Requests}
 use Rattle.age_cli_args.specs.{IsForHelp, option_text}
 use Rattle.age_cli_args.specs.declared.request.Decrypting.{Decrypting}

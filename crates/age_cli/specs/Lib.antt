@@ -7,4 +7,4 @@ unfoldable pub use Commands.*
 unfoldable pub use Acts.*
 unfoldable pub use Runs.*
 unfoldable pub use Headline.*
-pub use Rattle.age_cli.specs.declared.interruption.Interruption.{Interruption}
+pub use Rattle.age_cli.specs.declared.interruption.Reached.{Reached}

@@ -7,9 +7,9 @@ use Rattle.age_io.specs.{SourceView, SinkView}
 use Rattle.age_fault.specs.{HasRisen}
 use Rattle.age_fault.specs.declared.fault.FileFault.{FileFault}
 use Rattle.age_fault.specs.declared.fault.FileFault.TheVariants.{Write, Memory}
-use Rattle.age_file.specs.{HeadFails, NoHeadFault, Ports}
-use Rattle.age_file.specs.Reports.{Inspects}
-use Rattle.age_file.specs.declared.report.Report.{Report}
+use Rattle.age_intake.specs.{HeadFails, NoHeadFault, Ports}
+use Rattle.age_inspection.specs.{Inspects}
+use Rattle.age_inspection.specs.declared.report.Report.{Report}
 use Rattle.age_fileset.specs.{Event, FilesView, CameSince, Does, Gave, Open, Reading}
 use Rattle.age_cli_args.specs.{IsForHelp, option_text}
 use Rattle.age_cli_args.specs.declared.request.Request.{Request}

@@ -9,9 +9,9 @@ use Rattle.age_io.specs.{SinkView, SourceView, Origin, Named, IsAtEnd, Shown as 
 use Rattle.age_io.specs.declared.durability.Durability.{Durability}
 use Rattle.age_fault.specs.declared.fault.FileFault.{FileFault}
 use Rattle.age_fault.specs.declared.fault.FileFault.TheVariants.{Write, Read, Memory, BadPosition}
-use Rattle.age_file.specs.declared.decryption.Done.{Done}
-use Rattle.age_file.specs.declared.decryption.Stopped.{Stopped}
-use Rattle.age_file.specs.declared.encryption.Written.{Written}
+use Rattle.age_opening.specs.declared.decryption.Done.{Done}
+use Rattle.age_opening.specs.declared.decryption.Stopped.{Stopped}
+use Rattle.age_sealing.specs.declared.encryption.Written.{Written}
 use Rattle.age_fileset.specs.{Close, Unwritten, Entry, entry, FilesView, PutsOnly, CameSince, Outcome, Found}
 use Rattle.age_fileset.specs.{Gave, Settled, reading_of, Event, HasGiven, HasGivenAll, Does, FoundOrEmpty}
 use Rattle.age_fileset.specs.{Absent}
@@ -23,13 +23,16 @@ use Rattle.age_command.specs.declared.ending.Ending.TheVariants.{Fault, Usage}
 use Rattle.age_machine.specs.{Closes, EndedFile, OutFile, TouchesItself, IsUntouched}
 use Rattle.age_cli.specs.Acts.{stop_ending, IsDue, IsSaved, Engine}
 use Rattle.age_cli.specs.Acts.{SparesOut, AreSame, IsUnusable, NamesOne, IsThereUnlessFailed}
-use Rattle.age_cli.specs.declared.interruption.Interruption.{Interruption}
+use Rattle.age_cli.specs.declared.interruption.Reached.{Reached}
 use Rattle.age_io.specs.Supply.{Supply}
 use Rattle.age_chunk.specs.{chunk_length}
-use Rattle.age_file.specs.{IsMarked, IsReport, MarksView, Ports, ports, Resumption, resumption, SecretView}
-use Rattle.age_file.specs.declared.report.Report.{Report}
+use Rattle.age_opening.specs.{IsMarked, MarksView, Resumption, resumption}
+use Rattle.age_inspection.specs.{IsReport}
+use Rattle.age_intake.specs.{Ports, ports}
+use Rattle.age_sealing.specs.{SecretView}
+use Rattle.age_inspection.specs.declared.report.Report.{Report}
 use Rattle.age_cli.specs.Commands.{ReportsAs, old_found, HoldsNoPosition, MakesSecret}
-use Rattle.age_file.specs.declared.position.Position.{Position}
+use Rattle.age_position.specs.declared.position.Position.{Position}
 use Rattle.age_cli_args.specs.{option_text}
 use Rattle.age_cli_args.specs.declared.request.ClobberOption.TheVariants.{Refused}
 use Rattle.age_cli_args.specs.declared.request.Paths.{Paths}
@@ -50,10 +53,19 @@ use Rattle.age_cli.specs.declared.output.Writing.{Writing}
 abbrev pub IsForOutput : ErrorKind → Type 0
 IsForOutput kind = (kind ≡ DisplayHelp) ⊎ (kind ≡ DisplayVersion)
 
--- how an engine ended: an encryption has no position
-abbrev pub sealing_end : Result Written FileFault → Result (Unit {0}) Interruption
+-- how an engine ended, without what it wrote
+abbrev pub sealing_end : Result Written FileFault → Result (Unit {0}) FileFault
 sealing_end (Ok written) = Ok tt
-sealing_end (Err fault) = Err (record { fault = fault; position = None; settled = 0 })
+sealing_end (Err fault) = Err fault
+
+abbrev pub end_of : Result Done Stopped → Result (Unit {0}) FileFault
+end_of (Ok done) = Ok tt
+end_of (Err s) = Err s.fault
+
+-- the position of a stop, if it has one
+abbrev pub own_of : Result Done Stopped → Option Position
+own_of (Ok done) = None
+own_of (Err s) = s.position
 
 -- what was put of an output, whose sink is this: nothing, or all that it took
 abbrev pub IsPut : SinkView → List Entry → Type 0
@@ -69,20 +81,25 @@ pub record IsLeft (durability : Durability) (sink : SinkView) (out : EndedFile) 
   pub kept : (sink.taken.bytes ≡ [] → ⊥) → out.is_closed ≡ true
   pub there : (sink.taken.bytes ≡ [] → ⊥) → sink.failed ≡ 0 → IsThereUnlessFailed durability out
 
-pub record LeavesOut (durability : Durability) (sink : SinkView) (old new : FilesView) : Type 0 where
+-- how it was left if it couldn't be ended
+abbrev pub IsUnended : Durability → SinkView → EndedFile → Type 0
+IsUnended durability sink out = (file : Option OutFile) × Closes durability file sink (Err Write) out
+
+-- OUT was left, whose sink is this, and this holds of its file
+pub record LeavesOut (durability : Durability) (sink : SinkView) (IsFile : EndedFile → Type 0)
+    (old new : FilesView) : Type 0 where
   pub outs : List Entry
   pub puts_only : PutsOnly outs old new
   pub out : IsPut sink outs
   pub noted : new.events ≡ old.events ++ Close durability ∷ []
-  pub ended : IsSomeAnd new.ended (IsLeft durability sink)
+  pub ended : IsSomeAnd new.ended IsFile
 
--- OUT was closed, whose sink is this, with this result, and these were put
-pub record ClosesOut (durability : Durability) (sink : SinkView) (puts : List Entry) (old new : FilesView)
-    (result : Result (Unit {0}) FileFault) : Type 0 where
+-- OUT was closed with what its sink took
+pub record ClosesOut (durability : Durability) (sink : SinkView) (old new : FilesView) : Type 0 where
   pub file : Option OutFile
-  pub ended : IsSomeAnd new.ended (Closes durability file sink result)
+  pub ended : IsSomeAnd new.ended (Closes {E = FileFault} durability file sink (Ok tt))
   pub noted : new.events ≡ old.events ++ Close durability ∷ []
-  pub puts_only : PutsOnly puts old new
+  pub puts_only : PutsOnly (entry sink.taken.label sink.taken.bytes ∷ []) old new
 
 -- a name and a position aren't both there
 abbrev pub LacksOne : Option Text → Option Position → Type 0
@@ -95,25 +112,26 @@ abbrev pub IsUnsavable : (settled : ℕ) → Position → (second : FileFault) �
 IsUnsavable settled p second =
     (second ≡ Memory) ⊎ ((second ≡ Write) × (settled < p.index * chunk_length))
 
--- the position of a stop was saved, or not, and its ending says how that went
-pub record PutsRest (durability : Durability) (save : Option Text) (stop : Interruption)
+-- the position was saved, or not, and the ending says how that went
+pub record PutsRest (durability : Durability) (save : Option Text) (fault : FileFault) (place : Reached)
     (old new : FilesView) (ending : Ending) : Type 0 where
   pub how : Result (Unit {0}) FileFault
-  pub reported : ending ≡ stop_ending stop.fault how
+  pub reported : ending ≡ stop_ending fault how
   pub rest : List Entry
   pub puts : PutsOnly rest old new
   pub due : Option Position
-  pub is_due : IsDue (CameSince old new) stop.position save due
-  pub saved : IsSaved (CameSince old new) durability stop.settled due save how rest new.saved
+  pub is_due : IsDue (CameSince old new) place.position save due
+  pub saved : IsSaved (CameSince old new) durability place.settled due save how rest new.saved
       (new.events ≡ old.events)
 
--- OUT was left as a stop leaves it, whose sink is this, and its position was saved, if there is one and a
--- file for it, and if it isn't beyond what is certain
-pub record SavesStop (save : Option Text) (durability : Durability) (sink : SinkView) (stop : Interruption)
-    (old new : FilesView) (ending : Ending) : Type 0 where
+-- OUT was left, whose sink is this, and the position was saved, if there is one and a file for it, and if it
+-- isn't beyond what is certain
+pub record SavesStop (save : Option Text) (durability : Durability) (sink : SinkView)
+    (IsFile : EndedFile → Type 0) (fault : FileFault) (place : Reached) (old new : FilesView) (ending : Ending)
+    : Type 0 where
   pub how : Result (Unit {0}) FileFault
-  pub reported : ending ≡ stop_ending stop.fault how
-  pub ended : IsSomeAnd new.ended (IsLeft durability sink)
+  pub reported : ending ≡ stop_ending fault how
+  pub ended : IsSomeAnd new.ended IsFile
   -- OUT is closed, and the file of the position replaced, if at all.
   pub order : Follows (Close durability ∷ replacing save durability) old.events new.events
   -- What was put of the output comes first.
@@ -122,25 +140,30 @@ pub record SavesStop (save : Option Text) (durability : Durability) (sink : Sink
   pub puts_only : PutsOnly (outs ++ rest) old new
   pub out : IsPut sink outs
   pub due : Option Position
-  pub is_due : IsDue (CameSince old new) stop.position save due
-  pub saved : IsSaved (CameSince old new) durability stop.settled due save how rest new.saved
+  pub is_due : IsDue (CameSince old new) place.position save due
+  pub saved : IsSaved (CameSince old new) durability place.settled due save how rest new.saved
       (new.events ≡ old.events ++ Close durability ∷ [])
 
--- it was closed whole, or it couldn't be, as the set of files said
-abbrev pub ClosesAll : Durability → SinkView → (old new : FilesView) → Result (Unit {0}) Ending → Type 0
-ClosesAll durability sink old new (Ok done) =
-    ClosesOut durability sink (entry sink.taken.label sink.taken.bytes ∷ []) old new (Ok tt)
-ClosesAll durability sink old new (Err (Fault fault)) =
-    ClosesOut durability sink [] old new (Err fault) × (fault ≡ Write)
+-- OUT was ended once its engine returned so: whole; or it couldn't be, as the set of files said; or it was
+-- left as the engine's stop leaves it
+abbrev pub EndsOut : Durability → SinkView → (engine : Result (Unit {0}) FileFault) → (old new : FilesView)
+    → Result (Unit {0}) FileFault → Type 0
+EndsOut durability sink (Ok done) old new (Ok all) = ClosesOut durability sink old new
+EndsOut durability sink (Ok done) old new (Err fault) = (fault ≡ Write)
+    × LeavesOut durability sink (IsUnended durability sink) old new
     × CameSince old new (Unwritten sink.taken.label)
-ClosesAll durability sink old new other = ⊥
+EndsOut durability sink (Err stop) old new result =
+    IsErrAnd result (λ fault. fault ≡ stop) × LeavesOut durability sink (IsLeft durability sink) old new
 
--- OUT was ended once its engine returned
-abbrev pub Concludes : Option Text → Durability → SinkView → (engine : Result (Unit {0}) Interruption)
+-- and then the position was saved, or not, if it wasn't ended whole
+abbrev pub Concludes : Option Text → Durability → SinkView → (engine : Result (Unit {0}) FileFault) → Reached
     → (old new : FilesView) → Result (Unit {0}) Ending → Type 0
-Concludes save durability sink (Ok done) old new result = ClosesAll durability sink old new result
-Concludes save durability sink (Err stop) old new result =
-    IsErrAnd result (SavesStop save durability sink stop old new)
+Concludes save durability sink (Ok done) place old new (Ok all) = ClosesOut durability sink old new
+Concludes save durability sink (Ok done) place old new (Err ending) =
+    SavesStop save durability sink (IsUnended durability sink) Write place old new ending
+    × CameSince old new (Unwritten sink.taken.label)
+Concludes save durability sink (Err fault) place old new result =
+    IsErrAnd result (SavesStop save durability sink (IsLeft durability sink) fault place old new)
 
 -- the report of an input, which was read to its end, or whose length is this
 pub record IsInspected (size : Option ℕ) (old new : Supply) (r : Report) : Type 0 where
@@ -150,37 +173,32 @@ pub record IsInspected (size : Option ℕ) (old new : Supply) (r : Report) : Typ
 
 -- ---- How a decryption was concluded.
 
--- the position of a stop by the marks of its run, within what is certain, but not before where it
--- started; its own, if it has no marks
+-- the position to save by the marks of its run, within what is certain, or where it started, if that is
+-- after it; its own, if it has no marks
 abbrev pub IsPlacedBy : Option MarksView → (start : Option Position) → (settled : ℕ)
     → (own position : Option Position) → Type 0
 IsPlacedBy None start settled own position = position ≡ own
 IsPlacedBy (Some m) start settled own position =
     IsSomeAnd position (λ p. (IsMarked m settled p × IfSome start (λ s. s.index ≤ p.index))
-    ⊎ (start ≡ Some p))
+    ⊎ ((start ≡ Some p) × (q : Position) × IsMarked m settled q × (q.index < p.index)))
 
-abbrev pub PlacesEnd : Option MarksView → (start : Option Position) → (settled : ℕ) → Result Done Stopped
-    → Result (Unit {0}) Interruption → Type 0
-PlacesEnd marks start settled (Ok done) engine = engine ≡ Ok tt
-PlacesEnd marks start settled (Err s) engine = (position : Option Position)
-    × IsPlacedBy marks start settled s.position position
-    × (engine ≡ Err (record { fault = s.fault; position = position; settled = settled }))
-
--- An engine ran over a source and a sink of the files, and OUT was ended. `end` is how it ended; of a
--- stop, it has the position that is saved, and how many bytes are certain.
+-- An engine ran over a source and a sink of the files, and OUT was ended. `end` is how it ended, and
+-- `place` has the position that is saved if that isn't whole, and how many bytes are certain.
 pub record RunsEngine (IsPorts : Ports → Type 0) (Came : Outcome → Type 0) (engine : Engine) (p : Paths)
     (before : Ports) (old new : FilesView) (Unshown : Type 0) (IsShown : Supply → Supply → Type 0)
     (result : Result (Unit {0}) Ending) : Type 0 where
   pub after : Ports
   pub after_is : IsPorts after
   pub over : Came (Gave (reading_of p.from.now after.source))
-  pub end : Result (Unit {0}) Interruption
+  pub end : Result (Unit {0}) FileFault
+  pub place : Reached
   pub ends : OnOk end (engine.ends before after × (after.sink.failed ≡ before.sink.failed))
-  pub stops : IfErr end (λ s. engine.stops s.settled s.fault s.position before after)
+  pub unended : OnOk end (engine.unended place.settled place.position before after)
+  pub stops : IfErr end (λ fault. engine.stops place.settled fault place.position before after)
   pub named : after.sink.taken.label ≡ before.sink.taken.label
-  pub certain : IfErr end (λ s. is_some engine.save ≡ true
-      → Came (Settled p.durability after.sink.taken.bytes s.settled))
-  pub concludes : Concludes engine.save p.durability after.sink end old new result
+  pub certain : is_some engine.save ≡ true
+      → Came (Settled p.durability after.sink.taken.bytes place.settled)
+  pub concludes : Concludes engine.save p.durability after.sink end place old new result
   pub silent : p.progress ≡ Silent → Unshown
   pub shown : p.progress ≡ Shown → IsShown before.source.supply after.source.supply
   pub whole : OnOk result (IsAtEnd after.source.supply)

@@ -1,17 +1,19 @@
-//! How a decryption ends, and the position of a stop.
+//! How a decryption ends, and where it can go on.
 
-ghost use Rattle.std.specs.Prelude.{◌≡◌, ◌⊎◌, ◌≤◌, [], Some, IfSome, option_map};
+ghost use Rattle.std.specs.Prelude.{◌≡◌, ◌⊎◌, ◌≤◌, ◌<◌, [], Some, IfSome, option_map};
 ghost use Rattle.age_io.specs.{Named};
 ghost use Rattle.age_fileset.specs.{CameSince, Does, Gave, reading_of};
 ghost use Rattle.age_cli_args.specs.{option_text};
 ghost use Rattle.age_cli.specs.{kept_for, start_of};
-ghost use Rattle.age_cli.specs.inner.{IsPlacedBy, PlacesEnd, earlier_of};
+ghost use Rattle.age_cli.specs.inner.{IsPlacedBy, earlier_of, end_of, own_of};
 
 use crate::decrypt_command::OldText;
-use crate::interruption::Interruption;
-use age_file::{Done, Marks, Position, PositionPolicy, Stopped};
+use crate::interruption::Reached;
+use age_fault::FileFault;
 use age_fileset::FileSet;
 use age_io::{Sink, Source};
+use age_opening::{Done, Marks, Stopped};
+use age_position::{Position, PositionPolicy};
 use std::alloc::Global;
 
 /// Positions are kept if one is to be saved.
@@ -47,7 +49,8 @@ pub(crate) fn start_of<S: Source>(earlier: &Option<OldText<'_, S>>) -> Option<Po
 
 /// The later one of a position and of where its run started.
 fn not_before(place: Position, start: Option<Position>) -> Position
-    ensures { (result ≡ place × IfSome start (λ s. s.index ≤ result.index)) ⊎ (start ≡ Some result) }
+    ensures { (result ≡ place × IfSome start (λ s. s.index ≤ result.index))
+        ⊎ ((start ≡ Some result) × (place.index < result.index)) }
 {
     match start {
         Some(start) => {
@@ -61,42 +64,47 @@ fn not_before(place: Position, start: Option<Position>) -> Position
     }
 }
 
-/// The position to save of a stop: by its marks the last one within what OUT holds for certain, but
-/// none before where the run started, which would take the place of a better one; or its own, if it
-/// has no marks.
-fn place_of(
-    stopped: &Stopped,
-    marks: &Option<Marks>,
-    start: Option<Position>,
-    settled: u64,
-) -> Option<Position>
-    ensures { IsPlacedBy marks.now start settled stopped.now.position result }
+/// The position of a stop, if it has one.
+fn own_position(end: &Result<Done, Stopped>) -> Option<Position>
+    ensures { result ≡ own_of end.now }
 {
-    match marks {
-        Some(marks) => Some(not_before(marks.within(settled), start)),
-        None => stopped.position,
+    match end {
+        Ok(_) => None,
+        Err(stopped) => stopped.position,
     }
 }
 
-/// How a decryption ended, of whose output so many bytes are certain.
-pub(crate) fn placed_end(
-    end: Result<Done, Stopped>,
+/// Where a decryption that ended so can go on, of whose output so many bytes are certain: by its marks
+/// at the last position within these, but not before where the run started, since that would take the
+/// place of a better one; or at its own, if it has no marks.
+pub(crate) fn place_of(
+    end: &Result<Done, Stopped>,
     marks: &Option<Marks>,
     start: Option<Position>,
     settled: u64,
-) -> Result<(), Interruption>
-    ensures { PlacesEnd marks.now start settled end result }
+) -> Reached
+    ensures placed { IsPlacedBy marks.now start settled (own_of end.now) result.position }
+    ensures settled { result.settled ≡ settled }
+{
+    match marks {
+        Some(marks) => Reached {
+            position: Some(not_before(marks.within(settled), start)),
+            settled,
+        },
+        None => Reached {
+            position: own_position(end),
+            settled,
+        },
+    }
+}
+
+/// How a decryption ended, without what it wrote.
+pub(crate) fn end_of(end: &Result<Done, Stopped>) -> Result<(), FileFault>
+    ensures { result ≡ end_of end.now }
 {
     match end {
         Ok(_) => Ok(()),
-        Err(stopped) => {
-            let position = place_of(&stopped, marks, start, settled);
-            Err(Interruption {
-                fault: stopped.fault,
-                position,
-                settled,
-            })
-        }
+        Err(stopped) => Err(stopped.fault),
     }
 }
 

@@ -1,7 +1,8 @@
 //! How a file is decrypted, from its start or from a position, and the command that begins at its start.
 
 ghost use Rattle.std.specs.Prelude.{◌≡◌, ℕ, List, IfSome, option_map};
-ghost use Rattle.age_file.specs.{DecryptsMarked, from_either, ports};
+ghost use Rattle.age_opening.specs.{DecryptsMarked, from_either};
+ghost use Rattle.age_intake.specs.{ports};
 ghost use Rattle.age_cli_args.specs.{option_text};
 ghost use Rattle.age_cli_args.specs.declared.request.ProgressOption.TheVariants.{Silent, Shown};
 ghost use Rattle.age_cli_args.specs.declared.request.Request.TheVariants.{Decrypt};
@@ -14,15 +15,16 @@ ghost use Rattle.age_cli.specs.{kept_for};
 ghost use Rattle.age_cli.specs.inner.{EndsBy, IsBlamedBy, IsNewOld, IsSameOld, OpensFiles, RunsEngine};
 ghost use Rattle.age_cli.specs.inner.{ShowsRun, earlier_of, goes_on, order_in};
 
-use crate::conclusion::{Decrypted, finish_old, placed_end, positions_for, start_of};
+use crate::conclusion::{Decrypted, end_of, finish_old, place_of, positions_for, start_of};
 use crate::output::{
     Content, Writing, begin_meter, check_names, end_meter, end_output, open_both, settle_end,
 };
 use age_cli_args::{Decrypting, ProgressOption};
 use age_command::{Announcement, Choice, Ending, Identity};
-use age_file::{Done, Marks, Position, PositionPolicy, Stopped, decrypt_marked, resume_marked};
 use age_fileset::FileSet;
 use age_io::{Meter, Metered, Sink, Source};
+use age_opening::{Done, Marks, Stopped, decrypt_marked, resume_marked};
+use age_position::{Position, PositionPolicy};
 use std::alloc::Global;
 
 /// What opens the input, by the options and the file that they name. Before it reads that, refuses
@@ -166,8 +168,8 @@ fn decrypt_text<'w, F: FileSet<'w>, P: Meter>(
     }
 }
 
-/// Decrypts the input into the output, ends both, and saves the position of a stop, at no more than
-/// what the output holds for certain.
+/// Decrypts the input into the output, ends both, and saves the position if it stops or the output
+/// can't be ended, at no more than what the output holds for certain.
 pub(crate) fn decrypt_ready<'w, F: FileSet<'w>, E: Sink, P: Meter>(
     alloc: Global,
     files: &mut F,
@@ -204,8 +206,9 @@ pub(crate) fn decrypt_ready<'w, F: FileSet<'w>, E: Sink, P: Meter>(
     finish_old(files, earlier);
     files.finish(source);
     let settled = settle_end(files, &mut out, writing, end.is_err());
-    let engine = placed_end(end, &marks, start, settled);
-    end_output(alloc, files, out, writing, faults, announced, engine)
+    let place = place_of(&end, &marks, start, settled);
+    let engine = end_of(&end);
+    end_output(alloc, files, out, writing, place, faults, announced, engine)
 }
 
 /// Decrypts a file as asked. If it stops, the line of its fault is put to `faults`, and then its

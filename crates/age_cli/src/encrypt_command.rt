@@ -11,25 +11,27 @@ ghost use Rattle.age_cli_args.specs.declared.request.ProgressOption.TheVariants.
 ghost use Rattle.age_command.specs.{Tells, HoldsNoPassphrase, HoldsOnly, NamesTwice, creating, making};
 ghost use Rattle.age_command.specs.{random_name};
 ghost use Rattle.age_command.specs.declared.ending.Usage.TheVariants.{BadPassphraseFile, BadRandomFile};
-ghost use Rattle.age_file.specs.Encrypts.{Encrypts};
-ghost use Rattle.age_file.specs.{EncryptsFront, IsFrontOf, SecretView, ports};
+ghost use Rattle.age_sealing.specs.Encrypts.{Encrypts};
+ghost use Rattle.age_sealing.specs.{EncryptsFront, IsFrontOf, SecretView};
+ghost use Rattle.age_intake.specs.{ports};
 ghost use Rattle.age_command.specs.declared.ending.Ending.TheVariants.{Usage as UsageEnding};
 ghost use Rattle.age_cli.specs.Acts.{Acts, IsUnusable, PortsOf, ShowsProgress};
 ghost use Rattle.age_cli.specs.inner.{EndsBy, GivesPassphrase, IsBlamedBy, IsMaterialGiven, IsNewBy};
 ghost use Rattle.age_cli.specs.inner.{IsRandom, IsUnopened, LacksMaterial, OpensFiles, age_file_in};
 ghost use Rattle.age_cli.specs.inner.{ShowsRun, order_in, secret_of};
 
-use crate::interruption::sealing_end;
+use crate::interruption::{Reached, sealing_end};
 use crate::output::{
     Content, Writing, begin_meter, check_names, check_new, create_out, end_meter, end_output,
     open_in,
 };
 use age_cli_args::{Encrypting, ProgressOption};
 use age_command::{Announcement, Choice, Ending, OwnPassphrase, Usage, passphrase_in, read_first};
-use age_file::{FileFault, Front, Secret, Source, Written, encrypt_after};
+use age_fault::FileFault;
 use age_fileset::FileSet;
-use age_io::{Meter, Metered, Sink};
+use age_io::{Meter, Metered, Sink, Source};
 use age_keys::{FileRandom, RANDOM_LEN};
+use age_sealing::{Front, Secret, Written, encrypt_after};
 use std::alloc::Global;
 
 /// Where random bytes come from if no file is named.
@@ -257,6 +259,7 @@ pub fn encrypt_file<'w, F: FileSet<'w>, E: Sink, P: Meter>(
         files,
         out,
         &writing,
+        Reached::nowhere(),
         faults,
         announced,
         sealing_end(end),

@@ -2,20 +2,22 @@
 
 ghost use Rattle.std.specs.Prelude.{◌≡◌, ◌⊎◌, [], ◌∷◌, IfOk, OnOk, IfErr, true};
 ghost use Rattle.age_io.specs.Taken.{Appends};
-ghost use Rattle.age_file.specs.declared.report.Report.{Report};
+ghost use Rattle.age_inspection.specs.declared.report.Report.{Report};
 ghost use Rattle.age_command.specs.declared.ending.Ending.TheVariants.{Fault};
 ghost use Rattle.age_io.specs.{Origin};
 ghost use Rattle.age_fileset.specs.{Open, Does, CameSince};
-ghost use Rattle.age_file.specs.{HeadFails, NoHeadFault};
-ghost use Rattle.age_file.specs.Reports.{Inspects};
+ghost use Rattle.age_intake.specs.{HeadFails, NoHeadFault};
+ghost use Rattle.age_inspection.specs.{Inspects};
 ghost use Rattle.age_cli.specs.{ReportsFile, FailsReport, FailsFile, report_text};
 ghost use Rattle.age_cli.specs.{FailsWriting};
 ghost use Rattle.age_cli.specs.inner.{IsInspected};
 
 use crate::print::text_of;
 use age_command::{Ending, put_bytes};
-use age_file::{FileFault, Report, Sink, Source, flush_all, inspect, inspect_sized};
+use age_fault::{FileFault, flush_all};
 use age_fileset::{FileSet, OpenFault};
+use age_inspection::{Report, inspect, inspect_sized};
+use age_io::{Sink, Source};
 use std::alloc::Global;
 
 /// Reports what an input of this length holds. If its length isn't known, it is read to its end; and so

@@ -10,37 +10,45 @@ ghost use Rattle.age_command.specs.{Announces, Follows, replacing};
 ghost use Rattle.age_cli.specs.Acts.{IsDue};
 ghost use Rattle.age_cli.specs.inner.{IsUnsavable, LacksOne, PutsRest, sealing_end};
 ghost use Rattle.age_machine.specs.Saved.{Saves};
-ghost use Rattle.age_file.specs.{position_text};
+ghost use Rattle.age_position.specs.{position_text};
 
 use crate::output::Writing;
 use age_command::{Announcement, Ending, announce};
-use age_file::{FileFault, Position, Written};
+use age_fault::FileFault;
 use age_fileset::FileSet;
 use age_io::{Durability, Sink};
+use age_position::Position;
+use age_sealing::Written;
 use std::alloc::Global;
 
-/// Why a command stopped, and what it leaves.
+/// How far a command came that comes to no end.
 #[derive(Clone, Copy)]
-pub(crate) struct Interruption {
-    /// Why it stopped.
-    pub(crate) fault: FileFault,
+pub(crate) struct Reached {
     /// The position to save.
     pub(crate) position: Option<Position>,
     /// How many bytes OUT holds for certain, if a position is to be saved.
     pub(crate) settled: u64,
 }
 
-/// How an encryption ended. It has no position.
-pub(crate) fn sealing_end(sealed: Result<Written, FileFault>) -> Result<(), Interruption>
+impl Reached {
+    /// Nowhere: an encryption has no position.
+    pub(crate) fn nowhere() -> Reached
+        ensures { result ≡ record { position = None; settled = 0 } }
+    {
+        Reached {
+            position: None,
+            settled: 0,
+        }
+    }
+}
+
+/// How an encryption ended, without what it wrote.
+pub(crate) fn sealing_end(sealed: Result<Written, FileFault>) -> Result<(), FileFault>
     ensures { result ≡ sealing_end sealed }
 {
     match sealed {
         Ok(_) => Ok(()),
-        Err(fault) => Err(Interruption {
-            fault,
-            position: None,
-            settled: 0,
-        }),
+        Err(fault) => Err(fault),
     }
 }
 
@@ -104,7 +112,8 @@ pub(crate) fn report_and_save<'w, F: FileSet<'w>, E: Sink>(
     alloc: Global,
     files: &mut F,
     asked: &Writing<'w>,
-    stop: Interruption,
+    fault: FileFault,
+    place: Reached,
     faults: &mut E,
     announced: &mut Announcement,
 ) -> Ending
@@ -112,14 +121,14 @@ pub(crate) fn report_and_save<'w, F: FileSet<'w>, E: Sink>(
     ensures noted { Follows (replacing (option_text asked.now.save) asked.now.paths.durability)
         (F.view files.old).events (F.view files.new).events }
     ensures unended { (F.view files.new).ended ≡ (F.view files.old).ended }
-    ensures put { PutsRest asked.now.paths.durability (option_text asked.now.save) stop
-        (F.view files.old) (F.view files.new) result }
+    ensures put { PutsRest asked.now.paths.durability (option_text asked.now.save) fault
+        place (F.view files.old) (F.view files.new) result }
 {
-    *announced = announce(faults, stop.fault);
+    *announced = announce(faults, fault);
     let durability = asked.paths.durability;
-    let due = due_position(files, asked.save, stop.position);
-    match save(alloc, files, asked.save, due, stop.settled, durability) {
-        Ok(()) => Ending::Fault(stop.fault),
-        Err(second) => Ending::Unsaved(stop.fault, second),
+    let due = due_position(files, asked.save, place.position);
+    match save(alloc, files, asked.save, due, place.settled, durability) {
+        Ok(()) => Ending::Fault(fault),
+        Err(second) => Ending::Unsaved(fault, second),
     }
 }

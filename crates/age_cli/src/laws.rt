@@ -4,9 +4,8 @@ ghost use Rattle.age_cli.specs.{PortsOf, RunsKeepOut, RefusesInSilence, ReportsA
 ghost use Rattle.age_cli.specs.{EarlyFaultsSpareOut};
 ghost use Rattle.age_fileset.specs.{shown_in, shown_out};
 
-use age_file::{Sink, Source};
 use age_fileset::{FileSet, MemFiles};
-use age_io::Meter;
+use age_io::{Meter, Sink, Source};
 
 /// The headline of [`run`](crate::run) over files in memory, as they stand before it and when it
 /// returns: whatever the status, OUT is as it was or holds a beginning of the plaintext, while no

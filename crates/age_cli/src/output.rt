@@ -9,14 +9,15 @@ ghost use Rattle.age_command.specs.{Tells, AreApart, NamesTwice, creating, prepa
 ghost use Rattle.age_command.specs.declared.ending.Usage.TheVariants.{SameFile};
 ghost use Rattle.age_command.specs.declared.ending.Ending.TheVariants.{Usage as UsageEnding};
 ghost use Rattle.age_cli.specs.Acts.{IsUnusable, NamesOne};
-ghost use Rattle.age_cli.specs.inner.{ClosesAll, Concludes, LeavesOut};
+ghost use Rattle.age_cli.specs.inner.{Concludes, EndsOut, IsLeft, LeavesOut};
 ghost use Rattle.age_cli.specs.inner.{Compares, EndsBy, IsNewBy, IsUnopened, OpensFiles, age_file_in};
 ghost use Rattle.age_cli.specs.inner.{found_by, order_in};
 ghost use Rattle.age_cli.specs.declared.output.Content.TheVariants.{AgeFile};
 
-use crate::interruption::{Interruption, report_and_save};
+use crate::interruption::{Reached, report_and_save};
 use age_cli_args::{ClobberOption, Paths};
-use age_command::{Announcement, Ending, Usage, announce};
+use age_command::{Announcement, Ending, Usage};
+use age_fault::FileFault;
 use age_fileset::FileSet;
 use age_io::{Durability, Meter, Metered, Sink};
 use std::alloc::Global;
@@ -293,7 +294,8 @@ pub(crate) fn end_meter<M: Meter>(meter: &mut M)
 
 /// Ends the output of an engine that stopped: with what was written, or as it was, if nothing was.
 pub(crate) fn leave<'w, F: FileSet<'w>>(files: &mut F, out: F::Out, durability: Durability)
-    ensures { LeavesOut durability (F.Out.view out) (F.view files.old) (F.view files.new) }
+    ensures { LeavesOut durability (F.Out.view out) (IsLeft durability (F.Out.view out))
+        (F.view files.old) (F.view files.new) }
 {
     let is_empty = files.is_empty(&out);
     if is_empty {
@@ -304,28 +306,8 @@ pub(crate) fn leave<'w, F: FileSet<'w>>(files: &mut F, out: F::Out, durability: 
     }
 }
 
-/// Ends the output of an engine that ended.
-fn close_out<'w, F: FileSet<'w>, E: Sink>(
-    files: &mut F,
-    out: F::Out,
-    durability: Durability,
-    faults: &mut E,
-    announced: &mut Announcement,
-) -> Result<(), Ending>
-    ensures announced { Tells announced.new result (E.view faults.old) (E.view faults.new)
-        (faults.new ≡ faults.old) }
-    ensures closes { ClosesAll durability (F.Out.view out) (F.view files.old) (F.view files.new) result }
-{
-    match files.close(out, durability) {
-        Ok(()) => Ok(()),
-        Err(fault) => {
-            *announced = announce(faults, fault);
-            Err(Ending::Fault(fault))
-        }
-    }
-}
-
-/// How many bytes an output holds for certain, if its engine stopped and a position is to be saved.
+/// How many bytes an output holds for certain, if a position is to be saved. If the engine ended, that
+/// is asked without a wait: the end of the output is to find each failure.
 pub(crate) fn settle_end<'w, F: FileSet<'w>>(
     files: &mut F,
     out: &mut F::Out,
@@ -334,38 +316,58 @@ pub(crate) fn settle_end<'w, F: FileSet<'w>>(
 ) -> u64
     ensures does { Does [] (F.view files.old) (F.view files.new) }
     ensures same { F.Out.view out.new ≡ F.Out.view out.old }
-    ensures certain { is_stopped ≡ true → is_some (option_text asked.now.save) ≡ true
+    ensures certain { is_some (option_text asked.now.save) ≡ true
         → CameSince (F.view files.old) (F.view files.new)
         (Settled asked.now.paths.durability (F.Out.view out.old).taken.bytes result) }
 {
-    if is_stopped && asked.save.is_some() {
+    if asked.save.is_none() {
+        return 0;
+    }
+    if is_stopped {
         files.settle(out, asked.paths.durability)
     } else {
-        0
+        files.settled_so_far(out, asked.paths.durability)
     }
 }
 
-/// Ends the output once the engine returned: whole, or as its stop leaves it. Announces the fault,
-/// and saves the position of a stop, unless it is beyond what is certain.
+/// Ends the output once the engine returned: whole, or as its stop leaves it. Returns why the command
+/// stops, if it does: the engine did, or the output couldn't be ended.
+fn end_out<'w, F: FileSet<'w>>(
+    files: &mut F,
+    out: F::Out,
+    durability: Durability,
+    engine: Result<(), FileFault>,
+) -> Result<(), FileFault>
+    ensures { EndsOut durability (F.Out.view out) engine (F.view files.old) (F.view files.new) result }
+{
+    match engine {
+        Ok(()) => files.close(out, durability),
+        Err(fault) => {
+            leave(files, out, durability);
+            Err(fault)
+        }
+    }
+}
+
+/// Ends the output, and announces the fault, if there is one. The position is saved then, unless it is
+/// beyond what is certain.
 pub(crate) fn end_output<'w, F: FileSet<'w>, E: Sink>(
     alloc: Global,
     files: &mut F,
     out: F::Out,
     asked: &Writing<'w>,
+    place: Reached,
     faults: &mut E,
     announced: &mut Announcement,
-    engine: Result<(), Interruption>,
+    engine: Result<(), FileFault>,
 ) -> Result<(), Ending>
     ensures announced { Tells announced.new result (E.view faults.old) (E.view faults.new)
         (faults.new ≡ faults.old) }
     ensures concludes { Concludes (option_text asked.now.save) asked.now.paths.durability
-        (F.Out.view out) engine (F.view files.old) (F.view files.new) result }
+        (F.Out.view out) engine place (F.view files.old) (F.view files.new) result }
 {
-    match engine {
-        Ok(()) => close_out(files, out, asked.paths.durability, faults, announced),
-        Err(stop) => {
-            leave(files, out, asked.paths.durability);
-            Err(report_and_save(alloc, files, asked, stop, faults, announced))
-        }
+    match end_out(files, out, asked.paths.durability, engine) {
+        Ok(()) => Ok(()),
+        Err(fault) => Err(report_and_save(alloc, files, asked, fault, place, faults, announced)),
     }
 }

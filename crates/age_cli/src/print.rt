@@ -5,7 +5,7 @@ ghost use Rattle.std.specs.String.{string_bytes};
 ghost use Rattle.std.specs.List.{flat_map};
 ghost use Rattle.age_cli.specs.{stanza_line, plain_line, report_text};
 
-use age_file::{Report, StanzaReport};
+use age_inspection::{Report, StanzaReport};
 use std::alloc::{AllocError, Global};
 
 fn put_stanza(alloc: Global, out: &mut Vec<u8>, stanza: &StanzaReport) -> Result<(), AllocError>

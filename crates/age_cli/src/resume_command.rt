@@ -4,7 +4,7 @@ ghost use Rattle.std.specs.Prelude.{◌≡◌, [], ◌∷◌};
 ghost use Rattle.age_io.specs.{Named};
 ghost use Rattle.age_fileset.specs.{Open, CameSince, HasGivenAll};
 ghost use Rattle.age_cli_args.specs.declared.request.Request.TheVariants.{Resume};
-ghost use Rattle.age_file.specs.{position_text};
+ghost use Rattle.age_position.specs.{position_text};
 ghost use Rattle.age_command.specs.{Tells};
 ghost use Rattle.age_cli.specs.Acts.{Acts};
 ghost use Rattle.age_cli.specs.{PortsOf, ShowsProgress};
@@ -14,9 +14,10 @@ use crate::decrypt_command::{OldText, Ready, decrypt_ready, identify};
 use crate::output::{Content, Writing, open_both, open_in};
 use age_cli_args::Resuming;
 use age_command::{Announcement, Ending, read_file};
-use age_file::{FileFault, Position};
+use age_fault::FileFault;
 use age_fileset::FileSet;
 use age_io::{Meter, Sink};
+use age_position::Position;
 use std::alloc::Global;
 
 /// A position's file has fewer bytes.

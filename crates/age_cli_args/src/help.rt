@@ -10,21 +10,21 @@ pub(crate) const PROGRAM: &str = "Encrypt, decrypt and inspect age files (age-en
 pub(crate) const USAGE: &str = "age_tool [COMMAND]";
 
 pub(crate) const AFTER_PROGRAM: &str =
-    "Without arguments it inspects standard input, as `age_tool inspect` does.
+    "With no arguments it inspects standard input, as `age_tool inspect` does.
 
-Exit status: 0 on success; 1 on a fault, reported in one line such as
-`age_tool: 13 WrongKey`, and what to do in the next; 2 for a bad command line,
-and then no file has changed.
+Exit status: 0 on success; 1 on a fault: one line with its number and name, such
+as `age_tool: 13 WrongKey`, and one that says what to do; 2 for a bad command
+line, and then no file has changed.
 
 Faults: 1-8: not an age file, or a damaged or truncated header; 9-15: not
-decrypted with this key; 16-22: a damaged or truncated payload, or one that
-something follows; 23-25, 30, 31: position, file and old output don't match;
-26: a file can't be read; 27: one can't be written; 28: out of memory; 29: an
-input never ends. `age_tool help 13` explains 13. So do `man age_tool-faults`
-and share/doc/age_tool/FAULTS.md of a release.
+decrypted with this key; 16-22: a damaged or truncated payload, or extra data
+after it; 23-25, 30, 31: position, file and earlier output don't match; 26: a
+file can't be read; 27: one can't be written; 28: out of memory; 29: an input
+never ends. `age_tool help 13` explains 13. So do `man age_tool-faults` and
+share/doc/age_tool/FAULTS.md of a release.
 
 A name is a path: `-` is a file of that name; /dev/stdin and /dev/stdout are the
-standard streams. OUT must not be a file that is read, under any name.
+standard streams. OUT must not be one of the input files, under any name.
 
 From age: `age -p -o OUT IN` is `age_tool encrypt --pass FILE IN OUT`, and
 `age -d -o OUT IN` is `age_tool decrypt --pass FILE IN OUT`, where FILE holds
@@ -38,8 +38,8 @@ pub(crate) const AFTER_ENCRYPT: &str = "Example:
     age_tool encrypt --no-clobber --pass passphrase.txt notes.txt notes.txt.age
 
 `age -d` opens the result if the passphrase is one line that can be typed. OUT
-keeps what it held until the first byte is written. If encryption stops after
-that, what it has written stays in OUT.";
+stays unchanged until the first byte is written. If encryption stops after that,
+what it has written stays in OUT.";
 
 pub(crate) const DECRYPT: &str = "Decrypt an age file";
 
@@ -52,8 +52,8 @@ pub(crate) const AFTER_DECRYPT: &str = "Example:
 
 One of --pass, --file-key and --shared is required. Every chunk is checked
 before it is written. Only status 0 means that OUT is the complete plaintext:
-after a fault it is as it was, or holds the part that was checked so far (after
-27 perhaps followed by what it held before).";
+after a fault it is unchanged, or holds the part that was checked so far (after
+27 perhaps followed by its old contents).";
 
 pub(crate) const RESUME: &str = "Continue a decryption that stopped";
 
@@ -68,9 +68,9 @@ One of --pass, --file-key and --shared is required. `resume` copies the part
 already decrypted from the earlier output, decrypts the rest, and writes the
 complete plaintext to OUT. It refuses a position that belongs to another file or
 was altered, or that doesn't match the earlier output. Only status 0 means that
-OUT is the complete plaintext. A position saved by this run goes with the OUT of
-this run, and --save may name the file of --position again. If none was saved,
-the old position still goes with the old output.";
+OUT is the complete plaintext. A position saved by this run belongs to this
+run's OUT, and --save may overwrite the file of --position. If none was saved,
+the old position still belongs to the earlier output.";
 
 pub(crate) const INSPECT: &str = "Show what the header of an age file says";
 
@@ -78,8 +78,8 @@ pub(crate) const AFTER_INSPECT: &str = "Example:
     age_tool inspect notes.txt.age
 
 Nothing is decrypted. The report gives the length of the header, its stanzas,
-the number of bytes after it, and how long the plaintext is if the file is
-whole, which isn't checked.";
+the number of bytes after it, and the length of the plaintext, provided the file
+is complete, which isn't checked.";
 
 pub(crate) const DRILL: &str = "Show how a reader reacts to lost, repeated or altered pieces";
 
@@ -104,8 +104,8 @@ With --pass an altered byte is refused (failed-17): try `flip 0` first. With
 
 pub(crate) const PASS: &str = "File with the passphrase, 1 to 65,536 bytes. The
 passphrase is the file's contents; one trailing newline
-is ignored, a carriage return isn't. At /dev/tty it is
-shown as it is typed, and Ctrl-D ends it";
+is ignored, a carriage return isn't. With /dev/tty you
+type it (it is shown), and end with Ctrl-D";
 
 pub(crate) const LOG: &str = "Work factor, 1 to 22 [default: 18]. Opening the file
 takes 2^N KiB of memory; each step doubles the time";
@@ -136,7 +136,7 @@ time, whatever IN is. Best on a disk that OUT can't
 fill";
 
 pub(crate) const NO_SYNC: &str = "Don't wait until OUT, a regular file or a block device,
-has reached the disk. Errors that come only then (NFS,
+has reached the disk. Errors reported only then (NFS,
 quotas) go unnoticed";
 
 pub(crate) const NO_CLOBBER: &str = "Refuse an existing OUT (27); it stays unchanged";
@@ -154,8 +154,8 @@ a terminal also how fast, and how long the rest takes";
 pub(crate) const POSITION: &str = "File with the position that the stopped run saved";
 
 pub(crate) const OLD: &str = "The output of the stopped run; not the same file as IN,
-OUT or that of --save. If the run stopped at chunk 0,
-it needn't be there";
+OUT or that of --save. It may be missing if the run
+stopped at chunk 0";
 
 pub(crate) const PLAIN_IN: &str = "The file to encrypt";
 
@@ -173,8 +173,8 @@ pub(crate) const WHOLE_OUT: &str =
 
 pub(crate) const CLEAR: &str = "IN is a payload in the clear: chunks of 4 bytes, each
 followed by a mark of 16: the chunk's number in 11, 1 in
-the last chunk, else 0, and 4 zero bytes. The mark says
-nothing of the text, so altered text isn't refused";
+the last chunk, else 0, and 4 zero bytes. Nothing is
+encrypted, and altered text isn't noticed";
 
 pub(crate) const SCRIPT: &str = "The file with the script";
 

@@ -7,7 +7,7 @@ use Rattle.clap.specs.Words.{Text}
 use Rattle.age_stanza.specs.declared.header.Header.{Header}
 use Rattle.age_keys.specs.{SpellsKey, IsAllowed, IsPassphraseKey, PassphraseRefuses, passphrase_steps, Shared}
 use Rattle.age_keys.specs.{IsSharedKey, SharedRefuses}
-use Rattle.age_keys.specs.declared.fault.KeyFault.{KeyFault}
+use Rattle.age_fault.specs.declared.key.KeyFault.{KeyFault}
 use Rattle.age_fileset.specs.{Outcome, HasGivenAll}
 use Rattle.age_cli_args.specs.{option_text}
 use Rattle.age_cli_args.specs.declared.request.IdentityOptions.{IdentityOptions}

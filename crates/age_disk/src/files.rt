@@ -452,9 +452,11 @@ impl<'r, 'w> FileSet<'w> for HostFiles<'r, 'w> {
     /// What can't be looked at may be there.
     fn is_absent(&mut self, name: &'w str) -> bool {
         let is_absent = matches!(found_at(self.rt, name), Ok(None));
-        if is_absent {
-            self.log.note(Doing::Absent(name));
-        }
+        self.log.note(if is_absent {
+            Doing::Absent(name)
+        } else {
+            Doing::Present(name)
+        });
         is_absent
     }
 
@@ -520,6 +522,20 @@ impl<'r, 'w> FileSet<'w> for HostFiles<'r, 'w> {
         ensures stored { durability ≡ wait.Synced → result ≤ out.new.settled }
     {
         let size = out.settle(self.rt, durability);
+        self.log.note(Doing::Settled(durability, out.took(), size));
+        size
+    }
+
+    fn settled_so_far(&mut self, out: &HostOut, durability: Durability) -> u64
+        ensures noted { self.new.log.events ≡ self.old.log.events }
+        ensures came { self.new.log.outcomes ≡ self.old.log.outcomes
+            ++ Settled durability out.now.took result ∷ [] }
+        ensures unended { self.new.ended ≡ self.old.ended }
+        ensures unsaved { self.new.saved ≡ self.old.saved }
+        ensures most { result ≤ length out.now.took }
+        ensures stored { result ≤ out.now.settled }
+    {
+        let size = out.settled_so_far(self.rt, durability);
         self.log.note(Doing::Settled(durability, out.took(), size));
         size
     }

@@ -637,6 +637,21 @@ impl HostOut {
         self.target.certain_of(rt, held)
     }
 
+    /// The same, by what the waits so far have shown, and without one: so none of what is looked at
+    /// is told a failure that the end is to find. If the disk isn't waited for, nothing is certain.
+    pub fn settled_so_far(&self, rt: &HostRuntime, durability: Durability) -> u64
+        ensures most { result ≤ length self.now.took }
+        ensures stored { result ≤ self.now.settled }
+    {
+        match durability {
+            Durability::Synced => {
+                let held = self.pace.settled.min(self.target.length_by_name(rt));
+                self.target.certain_of(rt, held)
+            }
+            Durability::Buffered => 0,
+        }
+    }
+
     /// Whether puts were tried, and none took a byte.
     fn has_only_failed(&self) -> bool
         ensures { result ≡ true → (0 < self.now.failed) × (self.now.took ≡ []) }

@@ -12,11 +12,11 @@ use Rattle.age_fault.specs.{HasRisen}
 use Rattle.age_fault.specs.inner.{fault_by_kind, fault_of, fault_of_key}
 use Rattle.age_fault.specs.declared.fault.FileFault.{FileFault}
 use Rattle.age_fault.specs.declared.fault.FileFault.TheVariants.{Read, Write, Memory}
-use Rattle.age_stanza.specs.declared.fault.HeadFault.{HeadFault}
-use Rattle.age_stanza.specs.declared.fault.HeadKind.{HeadKind}
-use Rattle.age_stanza.specs.declared.fault.HeadKind.TheVariants.{Memory as HeadMemory}
-use Rattle.age_keys.specs.declared.fault.KeyFault.{KeyFault}
-use Rattle.age_keys.specs.declared.fault.KeyFault.TheVariants.{Memory as KeyMemory}
+use Rattle.age_fault.specs.declared.head.HeadFault.{HeadFault}
+use Rattle.age_fault.specs.declared.head.HeadKind.{HeadKind}
+use Rattle.age_fault.specs.declared.head.HeadKind.TheVariants.{Memory as HeadMemory}
+use Rattle.age_fault.specs.declared.key.KeyFault.{KeyFault}
+use Rattle.age_fault.specs.declared.key.KeyFault.TheVariants.{Memory as KeyMemory}
 use Rattle.age_fileset.specs.{Outcome, InUse, IsMemoryOr, OneStream, OpenFails}
 use Rattle.age_fileset.specs.declared.files.OpenFault.{OpenFault}
 use Rattle.age_fileset.specs.declared.files.OpenFault.TheVariants as why

@@ -3,7 +3,7 @@
 ghost use Rattle.std.specs.Prelude.{◌≡◌, ◌⊎◌, ◌+◌};
 ghost use Rattle.std.specs.Bool.{MatchBool};
 ghost use Rattle.age_keys.specs.{is_before_work};
-ghost use Rattle.age_keys.specs.declared.fault.KeyFault.{KeyFault as Fault};
+ghost use Rattle.age_keys.specs.{KeyFault as Fault};
 
 use age_keys::{FileKey, KeyFault, Steps, Unlock};
 use age_stanza::Header;

@@ -1,9 +1,9 @@
 -- How a fault is numbered, named and placed, and what a write that fails leaves.
 use Rattle.std.specs.Prelude.{◌≡◌, ◌⊎◌, ℕ, ◌^◌, ◌-◌, ◌<◌, List, [], ◌∷◌, Option, Some, None, codes}
 use Rattle.std.specs.Prelude.{Bool, true, get_or, ◌+◌, ◌++◌, length, Result, MatchResult, OnErr}
-use Rattle.age_stanza.specs.Parsing as head
 use Rattle.age_chunk.specs.Payload as stream
-use Rattle.age_keys.specs.Keys as key
+use Rattle.age_fault.specs.HeadFaults as head
+use Rattle.age_fault.specs.KeyFaults as key
 use Rattle.age_io.specs.{one_more, SinkView}
 use Rattle.age_io.specs.Taken.{Appends}
 use Rattle.age_fault.specs.declared.fault.FileFault.{FileFault}

@@ -1,10 +1,10 @@
 -- Which fault of a file the fault of a lower layer becomes. Private: no public contract cites this
 -- module.
-use Rattle.age_stanza.specs.declared.fault.HeadFault.{HeadFault}
-use Rattle.age_stanza.specs.declared.fault.HeadKind.{HeadKind}
-use Rattle.age_stanza.specs.declared.fault.HeadKind.TheVariants.{Memory as HeadMemory}
-use Rattle.age_keys.specs.declared.fault.KeyFault.{KeyFault}
-use Rattle.age_keys.specs.declared.fault.KeyFault.TheVariants.{Memory as KeyMemory}
+use Rattle.age_fault.specs.declared.head.HeadFault.{HeadFault}
+use Rattle.age_fault.specs.declared.head.HeadKind.{HeadKind}
+use Rattle.age_fault.specs.declared.head.HeadKind.TheVariants.{Memory as HeadMemory}
+use Rattle.age_fault.specs.declared.key.KeyFault.{KeyFault}
+use Rattle.age_fault.specs.declared.key.KeyFault.TheVariants.{Memory as KeyMemory}
 use Rattle.age_fault.specs.declared.fault.FileFault.{FileFault}
 use Rattle.age_fault.specs.declared.fault.FileFault.TheVariants.{Head, Key, Memory}
 

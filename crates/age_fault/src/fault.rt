@@ -3,15 +3,15 @@
 ghost use Rattle.std.specs.Prelude.{◌≡◌};
 ghost use Rattle.age_fault.specs.declared.fault.FileFault.TheVariants.{Stream, Memory as MemoryFault};
 ghost use Rattle.age_fault.specs.Faults.{fault_number, fault_place, name_of, name_by};
-ghost use Rattle.age_stanza.specs.{head_fault_number};
-ghost use Rattle.age_keys.specs.{key_fault_number};
+ghost use Rattle.age_fault.specs.HeadFaults.{head_fault_number};
+ghost use Rattle.age_fault.specs.KeyFaults.{key_fault_number};
 ghost use Rattle.age_chunk.specs.{stream_fault_number};
 ghost use Rattle.age_fault.specs.inner.{fault_of, fault_of_key};
 
+use crate::head::{HeadFault, HeadKind};
+use crate::key::KeyFault;
 use age_chunk::{StreamFault, StreamKind};
 use age_io::Memory;
-use age_keys::KeyFault;
-use age_stanza::{HeadFault, HeadKind};
 use std::alloc::{AllocError, AllocFailed};
 use std::error::Error;
 use std::fmt;

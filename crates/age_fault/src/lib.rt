@@ -1,9 +1,14 @@
-//! Why a file could not be read or written: the numbered list of all faults, whichever layer they
-//! come from, and the two calls on a sink that answer one.
+//! Why a file could not be read or written: the numbered list of all faults, with those of headers
+//! and keys, which their crates pass on, and the two calls on a sink that answer one. What reads
+//! and writes files so needn't wait for the proofs of what parses and opens them.
 #![tactic(auto)]
 
 mod fault;
+mod head;
+mod key;
 mod put;
 
 pub use fault::FileFault;
+pub use head::{HeadFault, HeadKind};
+pub use key::KeyFault;
 pub use put::{flush_all, write_all};

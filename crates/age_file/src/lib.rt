@@ -1,4 +1,5 @@
-//! Age files over sources and sinks.
+//! Age files over sources and sinks: all engines, each of which has a crate of its own, and the laws
+//! that join them.
 //!
 //! A `Source` gives bytes and a `Sink` takes them. Both count their failures, and those over memory
 //! show their bytes, so that the contract of an engine can name what it read and what it wrote.
@@ -12,38 +13,15 @@
 //! docs/LIBRARY.md says which call to use for what, and has examples.
 #![tactic(auto)]
 
-mod chunk_tape;
-mod copy;
-mod decryption;
-mod encryption;
-mod head;
-mod inspection;
-mod intake;
 mod laws;
-mod links;
-mod marks;
-mod payload;
-mod position;
-mod position_text;
-mod reader;
-mod report;
-mod resumption;
-mod sealing;
-mod secret;
-mod start;
-mod tally;
 
 pub use age_fault::{FileFault, flush_all, write_all};
+pub use age_inspection::{Report, StanzaReport, StanzaReports, inspect, inspect_sized};
 pub use age_io::{Failed, MemSink, MemSource, Memory, Reading, Sink, Source, Tape, Writing};
-pub use decryption::{Done, Stopped, decrypt, decrypt_marked};
-pub use encryption::{Front, Written, encrypt, encrypt_after};
-pub use inspection::{inspect, inspect_sized};
-pub use laws::{
-    age_file_is_whole, authentic_runs, bound_positions, calls_in_a_row, done_gave_text,
-    head_faults_stay, round_trip, runs_in_a_row, undamaged_is_written,
+pub use age_opening::{
+    Done, Marks, Stopped, authentic_runs, bound_positions, calls_in_a_row, decrypt, decrypt_marked,
+    done_gave_text, head_faults_stay, resume, resume_marked, runs_in_a_row, undamaged_is_written,
 };
-pub use marks::Marks;
-pub use position::{Position, PositionPolicy};
-pub use report::{Report, StanzaReport, StanzaReports};
-pub use resumption::{resume, resume_marked};
-pub use secret::Secret;
+pub use age_position::{Position, PositionPolicy};
+pub use age_sealing::{Front, Secret, Written, encrypt, encrypt_after};
+pub use laws::{age_file_is_whole, round_trip};

@@ -1,14 +1,15 @@
 -- What was done with a set of files, and what came of it, in steps.
 use Rattle.std.proofs.Common.{◌≡◌, ◌∙◌, ◌++◌, [], ◌∷◌, refl, ap, sym, subst, inl, inr, List, ℕ, Bool, true, false, Option, Some, None, Result, Ok, Err, IfErr, IfOk, append_assoc, append-nil}
+use Rattle.std.specs.Prelude.{if◌then◌else◌}
 use Rattle.std.specs.Io.KnownBytes.{prepend_known}
 use Rattle.std.specs.Io.KnownBytes as known
 use Rattle.age_io.specs.{SourceView, Consumes, IsAtEnd}
 use Rattle.age_io.specs.declared.durability.Durability.{Durability}
 use Rattle.age_fault.specs.declared.fault.FileFault.{FileFault}
 use Rattle.age_fault.specs.declared.fault.FileFault.TheVariants.{Read, Write}
-use Rattle.age_fileset.specs.{OpenFault, SameFile, Fault, Event, Open, Outcome, Found, FoundOrEmpty, Unread, Absent, Gave, Settled, Put, Alike}
+use Rattle.age_fileset.specs.{OpenFault, SameFile, Fault, Event, Open, Outcome, Found, FoundOrEmpty, Unread, Absent, Present, Gave, Settled, Put, Alike}
 use Rattle.age_fileset.specs.{OneStream, InUse, Terminal, Reading, reading_of, Entry, entry, FilesView, Does, PutsOnly, CameSince, HasGiven, HasGivenAll}
-use Rattle.age_fileset.specs.{puts_in, with_event, with_outcomes, refused_as, OpenFails, IsMemoryOr, opened_as, made_as, checked_as, noted_if, ChecksStreams}
+use Rattle.age_fileset.specs.{puts_in, with_event, with_outcomes, refused_as, OpenFails, IsMemoryOr, opened_as, made_as, checked_as, looked_as, noted_if, ChecksStreams}
 
 pub puts_then : (a b : List Outcome) → puts_in (a ++ b) ≡ puts_in a ++ puts_in b
 unfolding puts_in
@@ -173,6 +174,19 @@ module _ (b : Bool) (o : Outcome) (plain : puts_in (o ∷ []) ≡ []) (old new :
 
   pub noted_came : b ≡ true → CameSince old new o
   noted_came holds = came_one old new o (ap (λ v. v.outcomes) is ∙ ap (λ a. old.outcomes ++ noted_if a o) holds)
+
+-- a name was looked at
+module _ (name : List ℕ) (answer : Bool) (old new : FilesView) (is : new ≡ with_outcomes (looked_as name answer) old) where
+  pub looked_does : Does [] old new
+  unfolding puts_in
+  looked_does = does_only old new (looked_as name answer) is (none answer) where
+    none : (b : Bool) → puts_in (looked_as name b) ≡ []
+    none true = refl
+    none false = refl
+
+  pub looked_came : (b : Bool) → answer ≡ b → CameSince old new (if b then Absent name else Present name)
+  looked_came b answered = came_one old new (if b then Absent name else Present name)
+      (ap (λ v. v.outcomes) is ∙ ap (λ a. old.outcomes ++ looked_as name a) answered)
 
 pub alike_plain : (one other : List ℕ) → puts_in (Alike one other ∷ []) ≡ []
 unfolding puts_in

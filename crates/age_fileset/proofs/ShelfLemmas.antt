@@ -4,7 +4,7 @@ use Rattle.std.proofs.Common.{append_assoc, true≢false}
 use Rattle.std.specs.Str.{bytes_eq}
 use Rattle.std.proofs.lemmas.Slice.Eq.{bytes_eq-Decides}
 use Rattle.std.specs.Prelude.{if◌then◌else◌, is_some}
-use Rattle.age_fileset.specs.{MemEntry, Outcome, Found, FoundOrEmpty, Unread, Unwritten, Absent, Put}
+use Rattle.age_fileset.specs.{MemEntry, Outcome, Found, FoundOrEmpty, Unread, Unwritten, Absent, Present, Put}
 use Rattle.age_fileset.specs.{Files, no_files, once, stands, or_empty, Fits, AllFit, AreTrue, PutsEntry, entry_of, refused_as, MemFails, IsMemoryOr}
 use Rattle.age_fileset.specs.{OpenFault, SameFile, Fault, Entry, entry, puts_in, FilesView, PutsOnly, CameSince, HasGivenAll}
 use Rattle.age_fault.specs.declared.fault.FileFault.{FileFault}
@@ -31,6 +31,7 @@ fits_by f g (Found name left size) same fit = (fit.0, fit.1 ∙ same name, fit.2
 fits_by f g (FoundOrEmpty name left size) same fit = (fit.0 ∙ ap or_empty (same name), fit.1)
 fits_by f g (Unread name) same fit = sym (same name) ∙ fit
 fits_by f g (Absent name) same fit = sym (same name) ∙ fit
+fits_by f g (Present name) same fit = ap is_some (sym (same name)) ∙ fit
 fits_by f g o same fit = fit
 
 -- what stands doesn't change

@@ -52,10 +52,12 @@ pub data Outcome : Type 0 where
   Found : List ℕ → Option (List ℕ) → Option ℕ → Outcome
   -- the same, but a file that isn't there counts as empty
   FoundOrEmpty : List ℕ → Option (List ℕ) → Option ℕ → Outcome
-  -- none could be opened; none could be prepared, created, made, ended or replaced; none was there
+  -- none could be opened; none could be prepared, created, made, ended or replaced; none was there; one
+  -- was, or may have been
   Unread : List ℕ → Outcome
   Unwritten : List ℕ → Outcome
   Absent : List ℕ → Outcome
+  Present : List ℕ → Outcome
   -- the reading of a file is over
   Gave : Reading → Outcome
   -- an output that took these bytes holds so many of them for certain, as the set says: on the disk, if
@@ -76,6 +78,10 @@ pub data Outcome : Type 0 where
 abbrev pub noted_if : Bool → Outcome → List Outcome
 noted_if true outcome = outcome ∷ []
 noted_if false outcome = []
+
+-- what comes of a name that was looked at, by whether nothing has it
+abbrev pub looked_as : List ℕ → Bool → List Outcome
+looked_as name is_absent = (if is_absent then Absent name else Present name) ∷ []
 
 -- what comes of two names that were compared: that they lead to one file, unless they are equal
 abbrev pub alike_as : (one other : List ℕ) → Bool → List Outcome
@@ -263,6 +269,7 @@ Fits files (Found name left size) =
 Fits files (FoundOrEmpty name left size) = (left ≡ or_empty (files name)) × (size ≡ option_map length left)
 Fits files (Unread name) = files name ≡ None
 Fits files (Absent name) = files name ≡ None
+Fits files (Present name) = is_some (files name) ≡ true
 Fits files (Settled durability took size) = size ≡ length took
 Fits files (Unwritten name) = Unit {0}
 Fits files (Gave reading) = Unit {0}

@@ -1,8 +1,8 @@
 -- What a set of files notes of what is done with it.
 use Rattle.std.specs.Prelude.{List, [], ◌∷◌, ◌++◌, option_map}
 use Rattle.age_fileset.specs.FileSet.{Event, Open, Prepare, Create, Make, Replace, Close, Reading}
-use Rattle.age_fileset.specs.FileSet.{Doings, Outcome, Found, FoundOrEmpty, Unwritten, Absent, Gave}
-use Rattle.age_fileset.specs.FileSet.{Settled, Put, Alike, OneStream, InUse, Terminal, passed_names}
+use Rattle.age_fileset.specs.FileSet.{Doings, Outcome, Found, FoundOrEmpty, Unwritten, Absent, Present}
+use Rattle.age_fileset.specs.FileSet.{Gave, Settled, Put, Alike, OneStream, InUse, Terminal, passed_names}
 use Rattle.age_fileset.specs.FileSet.{refused_as}
 use Rattle.age_fileset.specs.declared.log.Doing.{Doing}
 use Rattle.age_fileset.specs.declared.log.Doing.TheVariants as doing
@@ -30,6 +30,7 @@ once_done (doing.FoundOrEmpty name left size) old =
 once_done (doing.Refused name fault) old = came (refused_as name.now fault) old
 once_done (doing.Unwritten name) old = came (Unwritten name.now ∷ []) old
 once_done (doing.Absent name) old = came (Absent name.now ∷ []) old
+once_done (doing.Present name) old = came (Present name.now ∷ []) old
 once_done (doing.Gave name given is_at_end is_failing) old =
     let reading : Reading = record {
       name = name.now;

@@ -5,7 +5,8 @@ ghost use Rattle.std.specs.Prelude.{IfOk, IfErr, IsOkUnless, IfSome, ◌≤◌, 
 ghost use Rattle.age_fileset.specs.FileSet.{FilesView, IsMemoryOr, OpenFails, Open, Prepare, Create};
 ghost use Rattle.age_fileset.specs.FileSet.{Make, Replace, EndsOne, Found, FoundOrEmpty, Absent, Gave};
 ghost use Rattle.age_fileset.specs.FileSet.{Settled, reading_of, opened_as, made_as, written_as};
-ghost use Rattle.age_fileset.specs.FileSet.{alike_as, noted_if, passed_names, ChecksStreams, InUse, Terminal};
+ghost use Rattle.age_fileset.specs.FileSet.{alike_as, looked_as, noted_if, passed_names, ChecksStreams};
+ghost use Rattle.age_fileset.specs.FileSet.{InUse, Terminal};
 ghost use Rattle.age_fileset.specs.FileSet.{with_event, with_outcomes};
 ghost use Rattle.age_io.specs.{Named};
 ghost use Rattle.age_machine.specs.{Closes, Discards, OutFile};
@@ -150,10 +151,9 @@ pub trait FileSet<'w> {
         ensures noted { view self.new ≡ with_outcomes (made_as [] name.now result) (view self.old) }
         ensures faults { IfErr result (OpenFails FileFault.Write) };
 
-    /// Whether nothing has the name, not even a link.
+    /// Whether nothing has the name, not even a link. What can't be looked at may have it.
     fn is_absent(&mut self, name: &'w str) -> bool
-        ensures { view self.new
-            ≡ with_outcomes (noted_if result (Absent name.now)) (view self.old) };
+        ensures { view self.new ≡ with_outcomes (looked_as name.now result) (view self.old) };
 
     /// Makes a file to be written, as `create` does, and refuses one that is there too, with `Write`
     /// (27): it is as it was then, and no link is followed.
@@ -193,6 +193,13 @@ pub trait FileSet<'w> {
             (Settled durability (Self.Out.view out.old).taken.bytes result ∷ []) (view self.old) }
         ensures same { Self.Out.view out.new ≡ Self.Out.view out.old }
         ensures most { result ≤ length (Self.Out.view out.old).taken.bytes };
+
+    /// The same, by what is known already: nothing is waited for, and no failure is used up that
+    /// `close` is to find.
+    fn settled_so_far(&mut self, out: &Self::Out, durability: Durability) -> u64
+        ensures noted { view self.new ≡ with_outcomes
+            (Settled durability (Self.Out.view out.now).taken.bytes result ∷ []) (view self.old) }
+        ensures most { result ≤ length (Self.Out.view out.now).taken.bytes };
 
     /// Ends a file that was created, with exactly the bytes that its sink took, in place of what it
     /// held, and waits until they have reached the disk if that is asked for and the machine can

@@ -35,6 +35,8 @@ pub enum Doing<'a> {
     Unwritten(&'a Tape),
     /// No file had this name.
     Absent(&'a str),
+    /// Something had this name, or may have had it.
+    Present(&'a str),
     /// The reading of a file is over that was opened under this name: it gave these bytes. Whether
     /// a pull found its end, and whether the last pull failed.
     Gave(&'a Tape, &'a Tape, bool, bool),

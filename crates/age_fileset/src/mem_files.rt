@@ -7,7 +7,7 @@ ghost use Rattle.age_io.specs.Taken.{WriteAppends, Keeps};
 ghost use Rattle.age_io.specs.{Puts, Pulls, Flushes, holds, memory_supply, IsNamed, ReadConsumes};
 ghost use Rattle.age_fileset.specs.{entry_of, empty_with, PutsEntry, IsMemoryOr, or_empty, Open, Prepare};
 ghost use Rattle.age_fileset.specs.{Create, Make, Replace, Close, Found, FoundOrEmpty, Absent, Gave};
-ghost use Rattle.age_fileset.specs.{Settled, ended_with, opened_as, made_as, noted_if, put_as, written_as};
+ghost use Rattle.age_fileset.specs.{Settled, ended_with, opened_as, looked_as, made_as, put_as, written_as};
 ghost use Rattle.age_fileset.specs.{size_in, shown_in, shown_out, seen_in, reading_of, MemFails, AreTrue};
 ghost use Rattle.age_fileset.specs.declared.files.OpenFault.TheVariants.{Fault};
 
@@ -486,10 +486,11 @@ impl<'w> FileSet<'w> for MemFiles {
     fn is_absent(&mut self, name: &'w str) -> bool
         ensures absent { result ≡ true ↔ (entry_of self.old.entries name.now ≡ None) }
         ensures kept { self.new ≡ record self.old {
-          outcomes = self.old.outcomes ++ noted_if result (Absent name.now);
+          outcomes = self.old.outcomes ++ looked_as name.now result;
         } }
     {
         if bytes_of(self.entries.as_slice(), name).is_some() {
+            self.log.note(Doing::Present(name));
             return false;
         }
         self.log.note(Doing::Absent(name));
@@ -555,6 +556,16 @@ impl<'w> FileSet<'w> for MemFiles {
         } }
         ensures same { out.new ≡ out.old }
         ensures all { result ≡ length out.old.1.held }
+    {
+        self.settled_so_far(out, durability)
+    }
+
+    /// All that the sink took.
+    fn settled_so_far(&mut self, out: &MemOut, durability: Durability) -> u64
+        ensures kept { self.new ≡ record self.old {
+          outcomes = self.old.outcomes ++ Settled durability out.now.1.held result ∷ [];
+        } }
+        ensures all { result ≡ length out.now.1.held }
     {
         let mut took = Tape::new();
         took.note(out.sink.bytes());

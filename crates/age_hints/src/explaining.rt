@@ -64,18 +64,16 @@ fn explain_words_taken(rt: &HostRuntime, failures: &RunFailures<'_>) {
 fn explain_files(rt: &HostRuntime, failures: &RunFailures<'_>) {
     if let Some(name) = failures.cut_off.get() {
         let name = Leading(name.as_bytes());
-        let _ = eprintln!(rt; "age_tool: {name}: it became shorter while it was read");
+        let _ = eprintln!(rt; "age_tool: {name}: it shrank while it was being read");
     }
     if let Some(name) = failures.moved.get() {
         let name = Escaped(name.as_bytes());
-        let _ = eprintln!(rt;
-            "age_tool: OUT was moved: {name} leads to another file now, or to none"
-        );
+        let _ = eprintln!(rt; "age_tool: OUT was moved: {name} is another file now, or gone");
     }
     if let Some(name) = failures.unwaited.get() {
         let name = Leading(name.as_bytes());
         let _ = eprintln!(rt;
-            "age_tool: {name}: its file system can't sync; it may not be on the disk yet"
+            "age_tool: {name}: the file system can't sync it: it may not be on the disk yet"
         );
     }
 }
@@ -179,7 +177,7 @@ fn work_asked(failures: &RunFailures<'_>) -> Option<Work> {
 fn explain_work(rt: &HostRuntime, name: About<'_>, work: Work) {
     let _ = match work {
         Work::Allowed(log) => eprintln!(rt;
-            "age_tool: {name}{work}: if you trust the file, retry with --max-log {log} (age_tool help 11)"
+            "age_tool: {name}{work}; if you trust the file, retry with --max-log {log} (age_tool help 11)"
         ),
         Work::TooHigh => eprintln!(rt; "age_tool: {name}{work} (age_tool help 11)"),
     };
@@ -216,7 +214,7 @@ fn tell_command(rt: &HostRuntime, saved: &str, old: &str, again: Again<'_, '_>) 
          age_tool resume --position {saved} --old {old} {again} NEW"
     );
     let _ = eprintln!(rt;
-        "age_tool: resume reads only the rest of IN; from a fast disk, age_tool decrypt is quicker"
+        "age_tool: resume reads only the rest of IN; if IN is on a fast disk, decrypting again is quicker"
     );
 }
 
@@ -250,7 +248,7 @@ fn tell_position(rt: &HostRuntime, failures: &RunFailures<'_>) {
         } else {
             let (name, output) = (Escaped(saved.as_bytes()), Escaped(output.as_bytes()));
             let _ = eprintln!(rt;
-                "age_tool: position saved in {name}; resume would need the text that {output} took"
+                "age_tool: position saved in {name}, but resume needs the output, which went to {output}"
             );
         }
     } else if failures.named_by("--save").is_some() && failures.unsaved.get().is_none() {

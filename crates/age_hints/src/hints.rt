@@ -46,8 +46,8 @@ fn sentence_of_key(number: u8, by_pass: bool) -> &'static str {
              file is for age -d -i, or for python3 -m agefile decrypt --identity"
         }
         _ if by_pass => {
-            "the passphrase doesn't open it: check the passphrase: only one trailing newline in its \
-             file is ignored, not a second one, a carriage return or a BOM"
+            "the passphrase doesn't open it: check the passphrase, whose file may end with one \
+             newline, not two, and has no carriage return or BOM"
         }
         _ => "the shared secret doesn't open it: check the shared secret",
     }
@@ -55,7 +55,7 @@ fn sentence_of_key(number: u8, by_pass: bool) -> &'static str {
 
 fn sentence_of_head(number: u8) -> &'static str {
     match number {
-        1 => "not an age file: an age file begins with the line age-encryption.org/v1",
+        1 => "not an age file: its first line isn't age-encryption.org/v1",
         2 => {
             "it is armored: remove the armor first: \
              grep -v '^-----' f.asc | tr -d '\\r' | base64 -d > f.age"
@@ -65,14 +65,14 @@ fn sentence_of_head(number: u8) -> &'static str {
             "its header is too long: no age program writes a header this large, except for \
              thousands of recipients: check where the file comes from"
         }
-        8 => "cut off in its header at @: fetch all of it",
+        8 => "truncated in its header at @: fetch all of it",
         9 | 10 => { "altered or forged: no age program writes such a header: don't trust the file" }
         14 => {
-            "the key doesn't match its header: the header was altered, or --file-key is the key of \
+            "the key doesn't match its header: the header was altered, or --file-key belongs to \
              another file"
         }
         15 => {
-            "malformed for the shared secret: check the file of --shared; if it is right, fetch \
+            "bad X25519 stanza or shared secret: check the file of --shared; if it is right, fetch \
              the age file again"
         }
         _ => "",
@@ -81,16 +81,16 @@ fn sentence_of_head(number: u8) -> &'static str {
 
 fn sentence_of_payload(number: u8) -> &'static str {
     match number {
-        16 => "cut off after its header: fetch all of it",
-        17 => "damaged or cut off at @: fetch it again",
-        18 | 20 => "cut off at @: fetch the rest",
+        16 => "truncated after its header: fetch all of it",
+        17 => "damaged or truncated at @: fetch it again",
+        18 | 20 => "truncated at @: fetch the rest",
         19 => {
-            "cut off or altered at @: fetch it again; if this happens again, don't trust the file"
+            "truncated or altered at @: fetch it again; if this happens again, don't trust the file"
         }
         21 => {
-            "something was appended: OUT has the whole text, but the file isn't as its writer left it"
+            "something was appended: OUT has the complete plaintext, but the file isn't as its writer left it"
         }
-        _ => "more than 2^48 chunks: split the plaintext",
+        _ => "too long (more than 2^48 chunks): split the plaintext",
     }
 }
 
@@ -107,10 +107,10 @@ fn sentence_of_rest(number: u8) -> &'static str {
         28 => "out of memory: a passphrase with work factor N takes 2^N KiB of memory",
         29 => "read 2^63 times without ending: supply an input that ends",
         30 => {
-            "altered, or not of this file's key: use the position file exactly as --save wrote it"
+            "altered, or made with another key: use the position file exactly as --save wrote it"
         }
         31 => {
-            "not the text of the position: --old takes the output of the run that saved the position"
+            "it doesn't match the position: --old takes the output of the run that saved the position"
         }
         _ => "",
     }

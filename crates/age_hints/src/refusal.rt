@@ -187,7 +187,7 @@ fn hint_of(word: &str) -> Option<&'static str> {
         "-R" | "--recipients-file" => {
             Some("for recipients: python3 -m agefile encrypt --recipients-file FILE IN OUT")
         }
-        "-a" | "--armor" => Some("age_tool writes no armor: leave it out"),
+        "-a" | "--armor" => Some("age_tool doesn't do armor: leave it out"),
         "-f" | "--force" | "--overwrite" | "--yes" => {
             Some("without --no-clobber an existing OUT is overwritten")
         }
@@ -197,7 +197,7 @@ fn hint_of(word: &str) -> Option<&'static str> {
         "-q" | "--quiet" => {
             Some("leave it out: without --progress a run that succeeds says little")
         }
-        _ if !word.starts_with('-') => Some("a command takes one file at a time"),
+        _ if !word.starts_with('-') => Some("a command takes one IN and one OUT at a time"),
         _ => None,
     }
 }

@@ -11,10 +11,9 @@ use Rattle.age_stanza.specs.declared.header.Header.{Header}
 use Rattle.age_stanza.specs.declared.header.Stanza.{Stanza}
 use Rattle.age_kdf.specs.{hmac, hkdf32}
 use Rattle.age_cipher.specs.{sealing, opening}
-use Rattle.age_keys.specs.declared.fault.KeyFault.{KeyFault}
-use Rattle.age_keys.specs.declared.fault.KeyFault.TheVariants.{ScryptNotAlone, BadScrypt, WorkTooHigh}
-use Rattle.age_keys.specs.declared.fault.KeyFault.TheVariants.{NoMatch, WrongKey, MacMismatch, BadX25519}
-use Rattle.age_keys.specs.declared.fault.KeyFault.TheVariants.{Memory}
+use Rattle.age_fault.specs.{is_before_work}
+use Rattle.age_fault.specs.declared.key.KeyFault.{KeyFault}
+use Rattle.age_fault.specs.declared.key.KeyFault.TheVariants.{ScryptNotAlone, MacMismatch, Memory}
 use Rattle.age_chunk.specs.{payload, chunk_length}
 
 -- ---- The keys of an age file (C2SP age.md, "File key", "Header MAC", "Payload", "Recipient
@@ -129,30 +128,9 @@ pub record AllowsAlone (Allows : Header → List ℕ → Type 0) (Refused : Head
 
 -- ---- How much work opening a header takes, by a count of scrypt's steps.
 
--- the fault is found before any work: by looking at the header, before a body is opened
-abbrev pub is_before_work : KeyFault → Bool
-is_before_work ScryptNotAlone = true
-is_before_work BadScrypt = true
-is_before_work WorkTooHigh = true
-is_before_work NoMatch = true
-is_before_work BadX25519 = true
-is_before_work other = false
-
 -- how the count of steps changes as a header is opened or refused
 pub record Counts (most : ℕ) (result : Result (List ℕ) KeyFault) (old new : ℕ) : Type 0 where
   -- no step was made if the fault is found before any work
   pub before : IfErr result (λ fault. OnTrue (is_before_work fault) (new ≡ old))
   -- there are never more steps than these
   pub within : new ≤ old + most
-
--- ---- How a refusal is numbered among all faults.
-
-abbrev pub key_fault_number : KeyFault → ℕ
-key_fault_number ScryptNotAlone = 9
-key_fault_number BadScrypt = 10
-key_fault_number WorkTooHigh = 11
-key_fault_number NoMatch = 12
-key_fault_number WrongKey = 13
-key_fault_number MacMismatch = 14
-key_fault_number BadX25519 = 15
-key_fault_number Memory = 28

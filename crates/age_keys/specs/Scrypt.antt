@@ -9,9 +9,9 @@ use Rattle.age_stanza.specs.declared.header.Header.{Header}
 use Rattle.age_stanza.specs.declared.header.Stanza.{Stanza}
 use Rattle.age_scrypt.specs.{scrypt, work_factor_limit}
 use Rattle.age_keys.specs.Keys.{header_mac, wrapped_key, IsScryptNotAlone, has_scrypt, AllowsAlone}
-use Rattle.age_keys.specs.declared.fault.KeyFault.{KeyFault}
-use Rattle.age_keys.specs.declared.fault.KeyFault.TheVariants.{ScryptNotAlone, BadScrypt, WorkTooHigh}
-use Rattle.age_keys.specs.declared.fault.KeyFault.TheVariants.{NoMatch, WrongKey, Memory}
+use Rattle.age_fault.specs.declared.key.KeyFault.{KeyFault}
+use Rattle.age_fault.specs.declared.key.KeyFault.TheVariants.{ScryptNotAlone, BadScrypt, WorkTooHigh}
+use Rattle.age_fault.specs.declared.key.KeyFault.TheVariants.{NoMatch, WrongKey, Memory}
 
 -- ---- The scrypt stanza.
 

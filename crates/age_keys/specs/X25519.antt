@@ -8,8 +8,8 @@ use Rattle.age_stanza.specs.declared.header.Header.{Header}
 use Rattle.age_stanza.specs.declared.header.Stanza.{Stanza}
 use Rattle.age_kdf.specs.{hkdf32}
 use Rattle.age_keys.specs.Keys.{has_type, wrapped_key}
-use Rattle.age_keys.specs.declared.fault.KeyFault.{KeyFault}
-use Rattle.age_keys.specs.declared.fault.KeyFault.TheVariants.{NoMatch, BadX25519, WrongKey}
+use Rattle.age_fault.specs.declared.key.KeyFault.{KeyFault}
+use Rattle.age_fault.specs.declared.key.KeyFault.TheVariants.{NoMatch, BadX25519, WrongKey}
 
 -- ---- The X25519 stanza. The function X25519 isn't defined here: the shared secret is given.
 

@@ -8,7 +8,6 @@
 //! No claim is made of constant time, and no key is wiped.
 #![tactic(auto)]
 
-mod fault;
 mod key;
 mod laws;
 mod open;
@@ -22,8 +21,8 @@ mod wrap;
 mod x25519;
 
 pub use age_chunk::PAYLOAD_NONCE_LEN;
+pub use age_fault::KeyFault;
 pub use age_scrypt::{Steps, WORK_FACTOR_LIMIT};
-pub use fault::KeyFault;
 pub use key::FileKey;
 pub use laws::passphrase_opens;
 pub use open::{mac_of, open_header, scrypt_not_alone};

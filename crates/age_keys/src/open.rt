@@ -5,11 +5,11 @@ ghost use Rattle.std.specs.List.{list_any};
 ghost use Rattle.base64.specs.GeneralPurpose.{IsBytes};
 ghost use Rattle.age_stanza.specs.{HasText};
 ghost use Rattle.age_keys.specs.{Counts, has_type, is_scrypt, scrypt_not_alone, header_mac, Opens, Refuses};
-ghost use Rattle.age_keys.specs.declared.fault.KeyFault.TheVariants.{Memory};
+ghost use Rattle.age_fault.specs.declared.key.KeyFault.TheVariants.{Memory};
 
-use crate::fault::KeyFault;
 use crate::key::FileKey;
 use crate::unlock::Unlock;
+use age_fault::KeyFault;
 use age_scrypt::Steps;
 use age_stanza::{Header, Stanza};
 use std::alloc::Global;

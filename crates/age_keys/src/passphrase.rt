@@ -3,12 +3,12 @@
 ghost use Rattle.std.specs.Option.{SomeIff};
 ghost use Rattle.age_keys.specs.{IsAllowed, IsPassphraseKey, PassphraseRefuses, passphrase_steps};
 
-use crate::fault::KeyFault;
 use crate::key::FileKey;
 use crate::open::has_scrypt;
 use crate::scrypt::{ScryptStanza, wrap_key};
 use crate::unlock::Unlock;
 use crate::wrap::unwrapped_key;
+use age_fault::KeyFault;
 use age_scrypt::{Steps, WORK_FACTOR_LIMIT};
 use age_stanza::Header;
 use std::alloc::Global;

@@ -10,12 +10,12 @@ ghost use Rattle.age_stanza.specs.{HasText, base64_text};
 ghost use Rattle.age_scrypt.specs.{work_factor_limit};
 ghost use Rattle.age_keys.specs.{IsAllowed, IsWorkFactor, IsScryptStanza, wrap_key, scrypt_stanza};
 ghost use Rattle.age_keys.specs.{scrypt_head};
-ghost use Rattle.age_keys.specs.declared.fault.KeyFault.TheVariants.{Memory};
+ghost use Rattle.age_fault.specs.declared.key.KeyFault.TheVariants.{Memory};
 
-use crate::fault::KeyFault;
 use crate::key::FileKey;
 use crate::open::{is_scrypt, mac_of};
 use crate::wrap::wrapped_key;
+use age_fault::KeyFault;
 use age_io::Bytes;
 use age_scrypt::Steps;
 use age_stanza::{Argument, Arguments, Header, Stanza, Stanzas, read_base64};
@@ -44,7 +44,10 @@ pub(crate) fn wrap_key(
     let mut labelled = [0; 44];
     labelled[..28].copy_from_slice(LABEL);
     labelled[28..].copy_from_slice(salt);
-    Ok(age_scrypt::derive(alloc, pass, &labelled, log, steps)?)
+    match age_scrypt::derive(alloc, pass, &labelled, log, steps) {
+        Ok(key) => Ok(key),
+        Err(_) => Err(KeyFault::Memory),
+    }
 }
 
 /// Whether all characters are decimal digits.

@@ -6,11 +6,11 @@ ghost use Rattle.std.specs.List.{list_any, AllByRecursion};
 ghost use Rattle.age_keys.specs.{is_x25519, shared_wrap_key, OpensTo, StaysShut, IsBadStanza, IsFirstKey};
 ghost use Rattle.age_keys.specs.{IsSharedKey, SharedRefuses};
 
-use crate::fault::KeyFault;
 use crate::key::FileKey;
 use crate::unlock::Unlock;
 use crate::wrap::unwrapped_key;
 use crate::x25519::{X25519Stanza, is_x25519};
+use age_fault::KeyFault;
 use age_scrypt::Steps;
 use age_stanza::{Header, Stanza};
 use std::alloc::Global;

@@ -2,11 +2,11 @@
 
 ghost use Rattle.std.specs.Prelude.{◌≡◌, ℕ, List, MatchResult, IfSome, IfNone};
 ghost use Rattle.age_stanza.specs.declared.header.Header.{Header as HeaderValue};
-ghost use Rattle.age_keys.specs.declared.fault.KeyFault.{KeyFault as Fault};
+ghost use Rattle.age_fault.specs.declared.key.KeyFault.{KeyFault as Fault};
 ghost use Rattle.age_keys.specs.{Counts, SpellsKey};
 
-use crate::fault::KeyFault;
 use crate::key::FileKey;
+use age_fault::KeyFault;
 use age_scrypt::Steps;
 use age_stanza::Header;
 use hex::FromHex;

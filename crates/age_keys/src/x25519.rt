@@ -3,8 +3,8 @@
 ghost use Rattle.std.specs.Prelude.{◌≡◌, IfOk, IfErr};
 ghost use Rattle.age_keys.specs.{is_x25519, IsX25519Stanza, ReadRefuses};
 
-use crate::fault::KeyFault;
 use crate::open::has_type;
+use age_fault::KeyFault;
 use age_stanza::{Stanza, read_base64};
 
 /// An X25519 stanza (<https://c2sp.org/age#x25519-recipient-stanza>): `-> X25519 SHARE` and a body.

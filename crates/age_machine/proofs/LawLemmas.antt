@@ -6,14 +6,14 @@ use Rattle.std.specs.Prelude.{Contains}
 use Rattle.std.proofs.lemmas.Bool.{false≢true}
 use Rattle.std.proofs.lemmas.List.{append-nil, drop_all, take_all}
 use Rattle.age_machine.specs.Calls.{Measured}
-use Rattle.age_machine.specs.{FileCall, Made, Opened, Wrote, Cut, Synced, Missing, Linked, Renamed, Removed, SyncedNames, Locked, Regular, at_path, after_call}
-use Rattle.age_machine.specs.{after_calls, IsAmong, MayLead, MayLeave, IsAnswered, AllAnswered, SavesWhole, IsSafe, CanLeave, filled, renamed, linked, bare, bare_but}
+use Rattle.age_machine.specs.{FileCall, Made, Opened, Wrote, Cut, Synced, Missing, Linked, SyncedNames, Locked, Regular, after_call}
+use Rattle.age_machine.specs.{after_calls, MayLead, MayLeave, IsAnswered, AllAnswered, IsSafe, CanLeave, filled, renamed, linked, bare, bare_but}
 use Rattle.age_machine.specs.{overwritten, put_out, HasOneLock, OutFile, opening_of, is_waited, IsOn, AllOn, TouchesFile, number_of, Node}
 use Rattle.age_machine.specs.declared.in_place.Opening.{Opening}
 use Rattle.age_machine.specs.declared.in_place.Opening.TheVariants as way
 use Rattle.age_machine.specs.Disk.{Disk}
 use Rattle.age_machine.proofs.OutLemmas.{opened_beside, contains_none, contains_cases}
-use Rattle.age_machine.proofs.SaveLemmas.{path_same, path_other, file_same, file_renamed, file_linked, throughout_last, sized_within}
+use Rattle.age_machine.proofs.SaveLemmas.{path_same, path_other, file_same, sized_within}
 
 -- ---- What a power cut may leave.
 
@@ -45,62 +45,11 @@ module _ (n : ℕ) (from path bytes : List ℕ) (apart : from ≡ path → ⊥) 
   answered : AllAnswered path (filled n from bytes) bare
   answered = (ap length held, (tt, ((refl, nowhere path n), tt)))
 
-  there : wrote.file from ≡ Some n
-  there = path_same from (Some n) bare.file
-
   free : wrote.file path ≡ None
   free = path_other from path (Some n) bare.file apart
 
-  at_once : (after_call (Renamed from path) wrote).file path ≡ Some n
-  at_once = file_renamed n from path wrote apart there
-
-  never : (MayLeave (after_calls [] bare) path (Some (0 ∷ bytes)) → ⊥)
-  never h0 = grind (arith, common_steps)
-
-  pub unwaited : SavesWhole path bytes [] (SyncedNames path ∷ Renamed from path ∷ filled n from bytes) → ⊥
-  unwaited saves =
-      ⊎_elim never (garbage bytes) (throughout_last path _ [] (SyncedNames path ∷ Renamed from path ∷ filled n from bytes) saves
-      bare (tt, (tt, answered)) (tt, (tt, (tt, (tt, (tt, tt))))) (Some (0 ∷ bytes))
-      (torn n path bytes (after_call (SyncedNames path) (after_call (Renamed from path) wrote)) at_once
-      (file_same n false begun.is_kept)))
-
-  pub renamed_first : SavesWhole path bytes [] (SyncedNames path ∷ Synced n ∷ Renamed from path ∷ filled n from bytes) → ⊥
-  renamed_first saves =
-      let all : saves.since ≡ SyncedNames path ∷ Synced n ∷ Renamed from path ∷ filled n from bytes =
-      sym (append-nil saves.since) ∙ sym saves.are in
-      let each = rw all at (saves.each bare (tt, (tt, (tt, answered))) (tt, (tt, (tt, (tt, (tt, (tt, tt))))))) in
-      ⊎_elim never (garbage bytes) (each.1.1.0 (Some (0 ∷ bytes)) (torn n path bytes (after_call (Renamed from path) wrote) at_once (file_same n false begun.is_kept)))
-
-  pub names_unwaited : IsSafe path bytes (Renamed from path ∷ Synced n ∷ filled n from bytes) → ⊥
-  names_unwaited safe =
-      nothing (safe bare (tt, (tt, answered)) (tt, (tt, (tt, (tt, (tt, tt))))) None (None, inr (old (sym before)), refl)) where
-        synced : Disk
-        synced = after_call (Synced n) wrote
-
-        before : (after_call (Renamed from path) synced).before path ≡ synced.file path ∷ synced.before path
-        before = path_other from path _ (at_path path _ synced.before) apart ∙ path_same path (synced.file path ∷ synced.before path) synced.before
-
-        old : {l : List (Option ℕ)} → synced.file path ∷ synced.before path ≡ l → IsAmong None l
-        old same = subst (λ (l : List (Option ℕ)). IsAmong None l) same (inl (sym free))
-
-        nothing : None ≡ Some bytes → ⊥
-        nothing same = cc
-
-  pub both_answered : CanLeave path bytes (renamed n from path bytes) bare × CanLeave path bytes (linked n from path bytes) bare
-  both_answered = (
-    record {
-      answered = (tt, (tt, (tt, (tt, answered))));
-      waited = (tt, (tt, (tt, (tt, (tt, (tt, (tt, tt)))))));
-      leaves = (Some n, inl (sym at_once), (bytes, refl, λ kept. sym held));
-    },
-    record {
-      answered = (tt, (tt, (free, (tt, (tt, answered)))));
-      waited = (tt, (tt, (tt, (tt, (tt, (tt, (tt, (tt, tt))))))));
-      leaves = (Some n, inl (sym second), (bytes, refl, λ kept. sym held));
-    },
-  ) where
-    second : (after_call (Removed from) (after_call (Linked from path) wrote)).file path ≡ Some n
-    second = path_other from path None (after_call (Linked from path) wrote).file apart ∙ file_linked n from path wrote apart there
+  pub both_answered : AllAnswered path (renamed n from path bytes) bare × AllAnswered path (linked n from path bytes) bare
+  both_answered = ((tt, (tt, (tt, (tt, answered)))), (tt, (tt, (free, (tt, (tt, answered))))))
 
 -- ---- Which file has which number.
 

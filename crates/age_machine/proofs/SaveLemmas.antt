@@ -2,22 +2,20 @@
 use Rattle.std.proofs.lemmas.Grind.{common_steps}
 use Rattle.std.proofs.lemmas.Bool.Decides.{eqb_tells}
 use Rattle.std.proofs.Common.{◌≡◌, ◌⊎◌, inl, inr, ℕ, List, [], ◌∷◌, Bool, Option, Some, None, refl, sym, ◌∙◌, ap, subst, rules, ⊎_elim, ◌+◌, ◌-◌, ◌≤◌, ◌++◌}
-use Rattle.std.proofs.Common.{false, length, take, drop, arith, append_assoc, length-append, length-drop, take-add}
+use Rattle.std.proofs.Common.{◌≢◌, false, length, take, drop, arith, append_assoc, length-append, length-drop, take-add}
 use Rattle.std.specs.Prelude.{bytes_eq, if◌then◌else◌, Contains, Result, Ok, Err, OnOk, OnErr, replicate}
 use Rattle.std.proofs.lemmas.Bool.{false_from_ne_true, eq-eqb, ne_eqb}
 use Rattle.std.proofs.lemmas.Slice.Eq.{bytes_eq-Decides}
-use Rattle.age_machine.specs.{FileCall, Made, Wrote, Closed, IsOf, Linked, Renamed, Removed, Reclaimed, SyncedNames, at_path, for_file, changed, after_call, IsAmong, MayLead}
-use Rattle.age_machine.specs.{MayLeaveFile, MayLeave, Synced, Unwaited, Missing, UnwaitedNames, MayHave, Waited, after_calls, sized, written, AllAnswered, AllWaited, IsBeside, IsKept}
-use Rattle.age_machine.specs.{AtEachMoment, Throughout, SavesWhole, SparesFile, HasMade, IsNumbered, IsWithin, AllWithin, Touches, IsSafe, IsThereAs, Replaces, HasBeside, Reclaims}
-use Rattle.age_machine.specs.Beside.{AllReclaimed}
+use Rattle.age_machine.specs.{FileCall, Made, Wrote, Closed, ClosesLast, IsOf, Linked, Renamed, Removed, Reclaimed, SyncedNames, at_path, for_file, after_call, IsAmong, MayLead}
+use Rattle.age_machine.specs.{MayLeaveFile, MayLeave, Synced, Unwaited, Missing, UnwaitedNames, MayHave, Waited, after_calls, sized, written, AllAnswered, AllWaited}
+use Rattle.age_machine.specs.{AtEachMoment, Throughout, SavesWhole, SparesFile, HasMade, IsNumbered, IsWithin, AllSo, Since, IsSafe, IsThereAs, Replaces}
+use Rattle.age_machine.specs.{IsSparing, IsReplacing, IsBeside, StandsAt, IsKept, Reclaims}
 use Rattle.age_machine.specs.Disk.{Disk}
-use Rattle.age_machine.specs.inner.{Has, AllOf, IsAbout, HasTried, HasPlaced, Gets, Fills, IsAtPath, IsReady, StaysSound, WritesOver, CutsOff}
+use Rattle.age_machine.specs.inner.{Has, IsAbout, Gets, IsAtPath, StaysSound, WritesOver, CutsOff, IsNaming, Names, TakesOver}
 use Rattle.std.proofs.lemmas.List.{append-nil, take_at, drop_at, take_all, drop-drop, length-take-le}
 use Rattle.std.proofs.lemmas.List.Elements.{Contains-append_left, Contains-append_right}
-use Rattle.std.proofs.lemmas.Result.{on_ok_weaker}
 use Rattle.age_io.specs.declared.durability.Durability.{Durability}
 use Rattle.age_machine.specs.declared.replacing.Spot.{Spot}
-use Rattle.age_io.specs.declared.durability.Durability.TheVariants as wait
 use Rattle.age_machine.specs.declared.replacing.Spot.TheVariants as spot
 
 -- ---- Values at one path, or for one file.
@@ -36,31 +34,10 @@ file_other n m x f other = ap (λ (b : Bool). if b then x else f m) (ne_eqb n m 
 
 -- ---- What stays as it was.
 
--- what is at a path, and every file but one
-pub record Apart (n : ℕ) (path : List ℕ) (old new : Disk) : Type 0 where
-  pub file : new.file path ≡ old.file path
-  pub before : new.before path ≡ old.before path
-  pub bytes : (m : ℕ) → (n ≡ m → ⊥) → new.bytes m ≡ old.bytes m
-  pub is_kept : (m : ℕ) → (n ≡ m → ⊥) → new.is_kept m ≡ old.is_kept m
-
-apart_same : (n : ℕ) (path : List ℕ) (disk : Disk) → Apart n path disk disk
-apart_same n path disk = record { file = refl; before = refl; bytes = λ m other. refl; is_kept = λ m other. refl }
-
-pub apart_made : (n : ℕ) (path p : List ℕ) (disk : Disk) → (p ≡ path → ⊥) → Apart n path disk (after_call (Made p n) disk)
-apart_made n path p disk apart = grind (arith, common_steps, file_other, path_other)
-
-apart_changed : (n m : ℕ) (path bytes : List ℕ) (disk : Disk) → m ≡ n → Apart n path disk (changed m bytes disk)
-apart_changed n m path bytes disk of = grind (arith, common_steps, file_other)
-
--- what a power cut does to the file may differ
-apart_kept : (n m : ℕ) (path : List ℕ) (is_kept : Bool) (is_lost : ℕ → Bool) (disk : Disk) → m ≡ n
-    → Apart n path disk (record disk { is_kept = for_file m is_kept disk.is_kept; is_lost = is_lost })
-apart_kept n m path is_kept is_lost disk of = grind (arith, common_steps, file_other)
-
--- after a call about the one file
-pub apart_of : (n : ℕ) (path : List ℕ) (call : FileCall) (disk : Disk) → IsOf n call → Apart n path disk (after_call call disk)
-apart_of n path (Wrote m at part) disk of = apart_changed n m path _ disk of
-apart_of n path call disk of = search (rules, apart_changed, apart_kept, apart_same)
+-- no name, after a call about one file
+of_file : (n : ℕ) (call : FileCall) (disk : Disk) → IsOf n call → (after_call call disk).file ≡ disk.file
+of_file n (Wrote m at part) disk of = refl
+of_file n call disk of = search rules
 
 -- ---- What a power cut leaves.
 
@@ -77,15 +54,6 @@ leaves_fewer path old new fewer same left leaves =
       files : (to : Option ℕ) → MayLead old path to → MayLeaveFile new to left → MayLeaveFile old to left
       files None may leaves = leaves
       files (Some m) may leaves = (leaves.0, leaves.1, λ kept. leaves.2 ((same m may).1 ∙ kept) ∙ (same m may).0)
-
--- where no path leads to the one file that may differ
-pub leaves_apart : (n : ℕ) (path : List ℕ) (old new : Disk) → Apart n path old new
-    → (MayLead old path (Some n) → ⊥) → (left : Option (List ℕ)) → MayLeave new path left → MayLeave old path left
-leaves_apart n path old new apart nowhere = grind (arith, common_steps, leaves_fewer, led)
-
-pub leaves_removed : (path p : List ℕ) (disk : Disk) → (p ≡ path → ⊥) → (left : Option (List ℕ))
-    → MayLeave (after_call (Removed p) disk) path left → MayLeave disk path left
-leaves_removed path p disk apart = grind (arith, common_steps, leaves_fewer, led, path_other)
 
 pub leaves_synced : (path : List ℕ) (disk : Disk) (left : Option (List ℕ))
     → MayLeave (after_call (SyncedNames path) disk) path left → MayLeave disk path left
@@ -133,19 +101,6 @@ module _ (n : ℕ) (from path : List ℕ) (disk : Disk) (apart : from ≡ path �
   pub file_linked : (after_call (Linked from path) disk).file path ≡ Some n
   file_linked = path_same path (disk.file from) disk.file ∙ is
 
-  more : (bytes : List ℕ) → Has n bytes disk → (new : Disk) → ((m : ℕ) → new.bytes m ≡ disk.bytes m) → ((m : ℕ) → new.is_kept m ≡ disk.is_kept m)
-      → new.file path ≡ Some n → new.before path ≡ disk.file path ∷ disk.before path → (left : Option (List ℕ)) → MayLeave new path left
-      → MayLeave disk path left ⊎ (left ≡ Some bytes)
-  more bytes has new bytes_same kept_same = grind (arith, common_steps, leaves_new)
-
-  pub leaves_renamed : (bytes : List ℕ) → Has n bytes disk → (left : Option (List ℕ)) → MayLeave (after_call (Renamed from path) disk) path left
-      → MayLeave disk path left ⊎ (left ≡ Some bytes)
-  leaves_renamed bytes has = grind (arith, common_steps, file_renamed, more, path_other, path_same)
-
-  pub leaves_linked : (bytes : List ℕ) → Has n bytes disk → (left : Option (List ℕ)) → MayLeave (after_call (Linked from path) disk) path left
-      → MayLeave disk path left ⊎ (left ≡ Some bytes)
-  leaves_linked bytes has = grind (arith, common_steps, file_linked, more, path_same)
-
 -- ---- What holds after calls that were made or not.
 
 -- if one may have been made
@@ -190,43 +145,10 @@ answers_then : (path : List ℕ) (since old : List FileCall) (disk : Disk) → A
 answers_then path [] old disk answers = answers
 answers_then path (call ∷ since) old disk answers = answers_then path since old disk answers.1
 
-waited_then : (since old : List FileCall) → AllWaited (since ++ old) → AllWaited old
-waited_then [] old waited = waited
-waited_then (call ∷ since) old waited = waited_then since old waited.1
-
-each_then : (P Q : List FileCall → Type 0) (second first old : List FileCall) → AtEachMoment P first old
-    → AtEachMoment Q second (first ++ old) → ((calls : List FileCall) → Q calls → P calls) → AtEachMoment P (second ++ first) old
-each_then P Q [] first old before after_call carry = before
-each_then P Q (call ∷ second) first old before after_call carry = (
-  subst (λ (l : List FileCall). P (call ∷ l)) (sym (append_assoc second first old)) (carry (call ∷ (second ++ (first ++ old))) after_call.0),
-  each_then P Q second first old before after_call.1 carry,
-)
-
--- what holds since a later moment carries over to an earlier one
-throughout_then : (path : List ℕ) (P Q : Disk → List FileCall → Type 0) (old mid new : List FileCall)
-    → Throughout path P old mid → Throughout path Q mid new → ((disk : Disk) → P disk mid → (calls : List FileCall) → Q disk calls → P disk calls)
-    → Throughout path P old new
-throughout_then path P Q old mid new first second carry = record {
-  since = second.since ++ first.since;
-  are = rw (second.are, first.are, append_assoc);
-  each = λ disk answers waited. let were : AllAnswered path mid disk =
-      answers_then path second.since mid disk (subst (λ (l : List FileCall). AllAnswered path l disk) second.are answers) in
-      let was : AllWaited mid = waited_then second.since mid (subst AllWaited second.are waited) in
-      each_then (P disk) (Q disk) second.since first.since old (first.each disk were was)
-      (subst (AtEachMoment (Q disk) second.since) first.are (second.each disk answers waited))
-      (carry disk (throughout_last path P old mid first disk were was));
-}
-
 -- ---- What a power cut leaves.
 
 pub saves_none : (path bytes : List ℕ) (old : List FileCall) → SavesWhole path bytes old old
 saves_none path bytes old = throughout_none path _ old (λ disk left leaves. inl leaves)
-
-pub saves_then : (path bytes : List ℕ) (old mid new : List FileCall) → SavesWhole path bytes old mid
-    → SavesWhole path bytes mid new → SavesWhole path bytes old new
-saves_then path bytes old mid new first second =
-    throughout_then path _ _ old mid new first second (λ disk before calls keeps left leaves.
-    ⊎_elim (λ was. before left was) (λ is. inr is) (keeps left leaves))
 
 -- after a call that lets the path lead to these bytes
 pub saves_loudly : (path bytes : List ℕ) (old : List FileCall) (call : FileCall) (calls : List FileCall) → SavesWhole path bytes old calls
@@ -243,23 +165,58 @@ pub saves_quietly : (path bytes : List ℕ) (old : List FileCall) (call : FileCa
 saves_quietly path bytes old call calls saves quiet =
     saves_loudly path bytes old call calls saves (λ disk answers waited left leaves. inl (quiet disk answers waited left leaves))
 
--- ---- What stays at the path.
+-- ---- What each call since the old ones is.
 
-pub spares_none : (path : List ℕ) (old : List FileCall) → SparesFile path old old
-spares_none path old = throughout_none path _ old (λ disk n is. is)
+module _ (P : List FileCall → FileCall → Type 0) where
+  pub since_none : (old new : List FileCall) → new ≡ old → Since P old new
+  since_none old new is = record { since = []; are = is; each = tt }
 
-pub spares_then : (path : List ℕ) (old mid new : List FileCall) → SparesFile path old mid → SparesFile path mid new → SparesFile path old new
-spares_then path old mid new first second = throughout_then path _ _ old mid new first second (λ disk before calls keeps n is. keeps n (before n is))
+  pub since_more : (call : FileCall) (old new later : List FileCall) (calls : Since P old new) → later ≡ call ∷ new
+      → P calls.since call → Since P old later
+  since_more call old new later calls are so = record {
+    since = call ∷ calls.since;
+    are = are ∙ ap (λ (l : List FileCall). call ∷ l) calls.are;
+    each = (so, calls.each);
+  }
 
-pub spares_quietly : (path : List ℕ) (old : List FileCall) (call : FileCall) (calls : List FileCall) → SparesFile path old calls
-    → ((disk : Disk) → AllAnswered path (call ∷ calls) disk → (n : ℕ)
-    → (after_calls calls disk).file path ≡ Some n → (after_calls (call ∷ calls) disk).file path ≡ Some n) → SparesFile path old (call ∷ calls)
-spares_quietly path old call calls spares quiet = grind (arith, common_steps, throughout_last, throughout_more)
+  pub since_one : (call : FileCall) (old new : List FileCall) → new ≡ call ∷ old → P [] call → Since P old new
+  since_one call old new is so = record { since = call ∷ []; are = is; each = (so, tt) }
 
--- ---- What is touched.
+  pub since_may : (call : FileCall) (old new : List FileCall) → P [] call → MayHave call old new → Since P old new
+  since_may call old new so = ⊎_elim (since_none old new) (λ is. since_one call old new is so)
 
-pub touches_none : (path : List ℕ) (old : List FileCall) → Touches path old old
-touches_none path old = record { since = []; are = refl; within = tt }
+  pub since_waited : (waits cant : FileCall) (old new : List FileCall) → P [] waits → P [] cant → Waited waits cant old new → Since P old new
+  since_waited waits cant old new one other = ⊎_elim (λ is. since_one waits old new is one) (λ is. since_one cant old new is other)
+
+-- what holds of the later calls by what is known of the first ones
+all_then : (P Q : List FileCall → FileCall → Type 0) (first second : List FileCall)
+    → ((calls : List FileCall) (call : FileCall) → P calls call → Q (calls ++ first) call)
+    → AllSo Q first → AllSo P second → AllSo Q (second ++ first)
+all_then P Q first [] wider before later = before
+all_then P Q first (call ∷ second) wider before later = (wider second call later.0, all_then P Q first second wider before later.1)
+
+pub since_then : (P Q : List FileCall → FileCall → Type 0) (old mid new : List FileCall) (first : Since Q old mid)
+    → ((calls : List FileCall) (call : FileCall) → P calls call → Q (calls ++ first.since) call) → (second : Since P mid new)
+    → Since Q old new
+since_then P Q old mid new first wider second = record {
+  since = second.since ++ first.since;
+  are = rw (second.are, first.are, append_assoc);
+  each = all_then P Q first.since second.since wider first.each second.each;
+}
+
+all_map : (P Q : List FileCall → FileCall → Type 0) → ((calls : List FileCall) (call : FileCall) → P calls call → Q calls call)
+    → (since : List FileCall) → AllSo P since → AllSo Q since
+all_map P Q weaker [] all = tt
+all_map P Q weaker (call ∷ since) all = (weaker since call all.0, all_map P Q weaker since all.1)
+
+pub since_map : (P Q : List FileCall → FileCall → Type 0) (old new : List FileCall)
+    → ((calls : List FileCall) (call : FileCall) → P calls call → Q calls call) → Since P old new → Since Q old new
+since_map P Q old new weaker calls = record { since = calls.since; are = calls.are; each = all_map P Q weaker calls.since calls.each }
+
+answers_since : (P : List FileCall → FileCall → Type 0) (path : List ℕ) (old new : List FileCall) (disk : Disk) → Since P old new
+    → AllAnswered path new disk → AllAnswered path old disk
+answers_since P path old new disk calls answers =
+    answers_then path calls.since old disk (subst (λ (l : List FileCall). AllAnswered path l disk) calls.are answers)
 
 pub contains_first : (call : FileCall) (calls : List FileCall) → Contains (call ∷ calls) call
 contains_first call calls = Contains-append_left (call ∷ []) calls call (0, omega arith, refl)
@@ -267,161 +224,215 @@ contains_first call calls = Contains-append_left (call ∷ []) calls call (0, om
 pub contains_later : (call other : FileCall) (calls : List FileCall) → Contains calls other → Contains (call ∷ calls) other
 contains_later call other calls held = Contains-append_right (call ∷ []) calls other held
 
+-- ---- The steps of a replacement.
+
 within_more : (path : List ℕ) (call : FileCall) (first second : List FileCall) → IsWithin path second call → IsWithin path (second ++ first) call
 within_more path (Wrote n at part) first second within = (within.0, Contains-append_left second first _ within.1)
 within_more path call first second within = search (rules, Contains-append_left)
 
-all_within : (path : List ℕ) (first second : List FileCall) → AllWithin path first → AllWithin path second → AllWithin path (second ++ first)
-all_within path first [] before after_call = before
-all_within path first (call ∷ second) before after_call =
-    (within_more path call first second after_call.0, all_within path first second before after_call.1)
-
-pub touches_then : (path : List ℕ) (old mid new : List FileCall) → Touches path old mid → Touches path mid new → Touches path old new
-touches_then path old mid new first second = grind (arith, common_steps, all_within, append_assoc)
-
--- ---- Rooms beside the path.
-
--- nothing happened at the path
-record SeesNothing (path : List ℕ) (old new : List FileCall) : Type 0 where
-  pub touches : Touches path old new
-  pub saves : (bytes : List ℕ) → SavesWhole path bytes old new
-  pub spares : SparesFile path old new
-
-module _ (path : List ℕ) (old : List FileCall) where
-  pub reclaims_more : (p : List ℕ) (calls new : List FileCall) → IsNumbered path p → Reclaims path old calls
-      → MayHave (Reclaimed p) calls new → Reclaims path old new
-  reclaims_more p calls new longer reclaims = if_made (Reclaims path old) (Reclaimed p) calls new reclaims (record {
-    since = Reclaimed p ∷ reclaims.since;
-    are = ap (λ (l : List FileCall). Reclaimed p ∷ l) reclaims.are;
-    all = ((p, refl, longer), reclaims.all);
-  })
-
-  sees_one : (p : List ℕ) (calls : List FileCall) → IsNumbered path p → SeesNothing path old calls → SeesNothing path old (Reclaimed p ∷ calls)
-  sees_one p calls longer sees = record {
-    touches = record {
-      since = Reclaimed p ∷ sees.touches.since;
-      are = ap (λ (l : List FileCall). Reclaimed p ∷ l) sees.touches.are;
-      within = (longer, sees.touches.within);
-    };
-    saves = λ bytes. saves_quietly path bytes old (Reclaimed p) calls (sees.saves bytes)
-        (λ disk answers waited. leaves_removed path p (after_calls calls disk) longer.2);
-    spares =
-        spares_quietly path old (Reclaimed p) calls sees.spares (λ disk answers m is. path_other p path None (after_calls calls disk).file longer.2 ∙ is);
-  }
-
-  sees_all : (since : List FileCall) → AllReclaimed path since → SeesNothing path old (since ++ old)
-  sees_all [] all =
-      record { touches = touches_none path old; saves = λ bytes. saves_none path bytes old; spares = spares_none path old }
-  sees_all (call ∷ since) all = let sees = sees_all since all.1 in rw all.0.1 (sees_one all.0.0 (since ++ old) all.0.2 sees)
-
-  sees : (new : List FileCall) → Reclaims path old new → SeesNothing path old new
-  sees new reclaims = rw reclaims.are (sees_all reclaims.since reclaims.all)
-
--- ---- A file beside the path.
-
-pub has_more : (path from : List ℕ) (n : ℕ) (old : List FileCall) (call : FileCall) (calls : List FileCall) → HasBeside path from n old calls
-    → ((since : List FileCall) → Contains since (Made from n) → IsWithin path since call) → HasBeside path from n old (call ∷ calls)
-has_more path from n old call calls has within = record {
-  touches = record {
-    since = call ∷ has.touches.since;
-    are = ap (λ (l : List FileCall). call ∷ l) has.touches.are;
-    within = (within has.touches.since has.made, has.touches.within);
-  };
-  made = contains_later call (Made from n) has.touches.since has.made;
-}
+sparing_more : (path : List ℕ) (call : FileCall) (first second : List FileCall) → IsSparing path second call → IsSparing path (second ++ first) call
+sparing_more path (Renamed from t) first second sparing = (sparing.0 ++ first, ap (λ (l : List FileCall). l ++ first) sparing.1)
+sparing_more path call first second sparing = search rules
 
 made_for : (from : List ℕ) (n m : ℕ) (since : List FileCall) → m ≡ n → Contains since (Made from n) → HasMade m since
 made_for from n m since of made = (from, subst (λ (k : ℕ). Contains since (Made from k)) (sym of) made)
 
-within_of : (path from : List ℕ) (n : ℕ) (call : FileCall) (since : List FileCall) → IsOf n call
-    → Contains since (Made from n) → IsWithin path since call
-within_of path from n (Wrote m at part) since = made_for from n m since
-within_of path from n call since = search (rules, made_for)
+nothing : (m : ℕ) → None ≡ Some m → ⊥
+nothing m same = cc
 
-module _ (path from : List ℕ) (n : ℕ) (old : List FileCall) where
-  beside_of : (call : FileCall) (calls : List FileCall) → IsOf n call → IsBeside path from n old calls → IsBeside path from n old (call ∷ calls)
-  beside_of call calls of beside = record {
-    has =
-        has_more path from n old call calls beside.has (λ since made. within_of path from n call since of made);
-    apart = beside.apart;
-    saves = λ bytes. saves_quietly path bytes old call calls (beside.saves bytes) (λ disk answers waited.
-        leaves_apart n path (after_calls calls disk) (after_call call (after_calls calls disk))
-        (apart_of n path call (after_calls calls disk) of) (beside.elsewhere disk answers.1));
-    spares =
-        spares_quietly path old call calls beside.spares (λ disk answers m is. (apart_of n path call (after_calls calls disk) of).file ∙ is);
-    file = λ disk answers. (apart_of n from call (after_calls calls disk) of).file ∙ beside.file disk answers.1;
-    elsewhere = λ disk answers may. let apart = apart_of n path call (after_calls calls disk) of in
-        beside.elsewhere disk answers.1 (led _ _ _ _ (Some n) apart.file apart.before may);
+-- a call about the file that was made, and one about its names
+module _ (to : Spot) (path from : List ℕ) (n : ℕ) where
+  step_of : (calls : List FileCall) (call : FileCall) → IsOf n call → Contains calls (Made from n) → IsReplacing to path calls call
+  step_of calls (Wrote m at part) of made = (made_for from n m calls of made, λ free. tt)
+  step_of calls call of made = search (rules, made_for)
+
+  step_naming : (first calls : List FileCall) (call : FileCall) → from ≢ path → Contains first (Made from n)
+      → IsNaming to path from calls call → IsReplacing to path (calls ++ first) call
+  step_naming first calls call apart made names = grind (arith, common_steps, Contains-append_right, sparing_more)
+
+-- where nothing was, what has come there stays
+spares_one : (path : List ℕ) (since old : List FileCall) (call : FileCall) → IsReplacing spot.Free path since call
+    → (disk : Disk) → AllAnswered path (call ∷ (since ++ old)) disk → (m : ℕ) → (after_calls (since ++ old) disk).file path ≡ Some m
+    → (after_calls (call ∷ (since ++ old)) disk).file path ≡ Some m
+spares_one path since old call step disk answers m is = grind (arith, common_steps, path_other, nothing)
+
+spares_all : (path : List ℕ) (old since : List FileCall) → AllSo (IsReplacing spot.Free path) since → SparesFile path old (since ++ old)
+spares_all path old [] all = throughout_none path _ old (λ disk n is. is)
+spares_all path old (call ∷ since) all =
+    let spares = spares_all path old since all.1 in
+    throughout_more path _ old call (since ++ old) spares (λ disk answers waited m is.
+    spares_one path since old call all.0 disk answers m (throughout_last path _ old (since ++ old) spares disk answers.1 waited.1 m is))
+
+-- rooms were reclaimed
+pub reclaims_more : (path p : List ℕ) (old calls new : List FileCall) → IsNumbered path p → Reclaims path old calls
+    → MayHave (Reclaimed p) calls new → Reclaims path old new
+reclaims_more path p old calls new longer reclaims =
+    if_made (Reclaims path old) (Reclaimed p) calls new reclaims (since_more _ (Reclaimed p) old calls _ reclaims refl (p, refl, longer))
+
+reclaims_steps : (to : Spot) (path : List ℕ) (old new : List FileCall) → Reclaims path old new → Since (IsReplacing to path) old new
+reclaims_steps to path old new = since_map _ _ old new (λ calls call is. rw is.1 (is.2, λ free. tt))
+
+-- ---- A file beside the path.
+
+-- right after it was made, where rooms may have been reclaimed before
+pub kept_made : (path from : List ℕ) (n : ℕ) (old mid new : List FileCall) → IsNumbered path from → Reclaims path old mid
+    → new ≡ Made from n ∷ mid → IsKept path from n old new
+kept_made path from n old mid new longer reclaims made = rw made (record {
+  beside = λ to. let steps = reclaims_steps to path old mid reclaims in record {
+    steps = record {
+      since = Made from n ∷ steps.since;
+      are = ap (λ (l : List FileCall). Made from n ∷ l) steps.are;
+      each = ((longer, λ free. tt), steps.each);
+    };
+    made = contains_first (Made from n) steps.since;
+  };
+  apart = longer.2;
+  file = λ disk answers. path_same from (Some n) (after_calls mid disk).file;
+  sound = λ disk. file_same n false (after_calls mid disk).is_lost;
+})
+
+module _ (to : Spot) (path from : List ℕ) (n : ℕ) (old mid new : List FileCall) (first : IsBeside to path from n old mid) where
+  beside_then : (P : List FileCall → FileCall → Type 0) → ((calls : List FileCall) (call : FileCall)
+      → P calls call → IsReplacing to path (calls ++ first.steps.since) call) → Since P mid new → IsBeside to path from n old new
+  beside_then P wider second = record {
+    steps = record {
+      since = second.since ++ first.steps.since;
+      are = rw (second.are, first.steps.are, append_assoc);
+      each = all_then P (IsReplacing to path) first.steps.since second.since wider first.steps.each second.each;
+    };
+    made = Contains-append_right second.since first.steps.since (Made from n) first.made;
   }
 
-  beside_all : (since calls : List FileCall) → AllOf n since → IsBeside path from n old calls → IsBeside path from n old (since ++ calls)
-  beside_all [] calls all beside = beside
-  beside_all (call ∷ since) calls all beside = beside_of call (since ++ calls) all.0 (beside_all since calls all.1 beside)
+  pub beside_about : IsAbout n mid new → IsBeside to path from n old new
+  beside_about = beside_then _ (λ calls call of. step_of to path from n (calls ++ first.steps.since) call of
+      (Contains-append_right calls first.steps.since (Made from n) first.made))
 
-  pub beside_about : (calls new : List FileCall) → IsBeside path from n old calls → IsAbout n calls new → IsBeside path from n old new
-  beside_about calls new beside about = rw about.are (beside_all about.since calls about.all beside)
+  pub beside_names : from ≢ path → Names to path from mid new → IsBeside to path from n old new
+  beside_names apart = beside_then _ (λ calls call. step_naming to path from n first.steps.since calls call apart first.made)
 
-  -- right after it was made, where rooms may have been reclaimed before
-  pub kept_made : (mid new : List FileCall) → IsNumbered path from → Reclaims path old mid → new ≡ Made from n ∷ mid → IsKept path from n old new
-  kept_made mid new longer reclaims made = let seen = sees path old mid reclaims in rw made (record {
-    beside = record {
-      has = record {
-        touches = record {
-          since = Made from n ∷ seen.touches.since;
-          are = ap (λ (l : List FileCall). Made from n ∷ l) seen.touches.are;
-          within = (longer, seen.touches.within);
-        };
-        made = contains_first (Made from n) seen.touches.since;
-      };
-      apart = longer.2;
-      saves = λ bytes. saves_quietly path bytes old (Made from n) mid (seen.saves bytes)
-          (λ disk answers waited. leaves_apart n path (after_calls mid disk) (after_call (Made from n) (after_calls mid disk))
-          (apart_made n path from (after_calls mid disk) longer.2) answers.0.1);
-      spares =
-          spares_quietly path old (Made from n) mid seen.spares (λ disk answers m is.
-          (apart_made n path from (after_calls mid disk) longer.2).file ∙ is);
-      file = λ disk answers. path_same from (Some n) (after_calls mid disk).file;
-      elsewhere = λ disk answers may. let apart = apart_made n path from (after_calls mid disk) longer.2 in
-          answers.0.1 (led _ _ _ _ (Some n) apart.file apart.before may);
-    };
-    sound = λ disk. file_same n false (after_calls mid disk).is_lost;
-  })
+-- where it is, after calls about it
+pub at_about : (path from : List ℕ) (n : ℕ) (old new : List FileCall) → IsAbout n old new → StandsAt path from n old → StandsAt path from n new
+at_about path from n old new about was disk answers =
+    ap (λ (l : List FileCall). (after_calls l disk).file from) about.are ∙ (same about.since about.each
+    ∙ was disk (answers_since _ path old new disk about answers)) where
+      same : (since : List FileCall) → AllSo (λ calls. IsOf n) since → (after_calls (since ++ old) disk).file from ≡ (after_calls old disk).file from
+      same [] all = refl
+      same (call ∷ since) all = ap (λ (f : List ℕ → Option ℕ). f from) (of_file n call (after_calls (since ++ old) disk) all.0) ∙ same since all.1
+
+-- ---- Calls about names.
+
+-- they leave what a file holds, and that it was closed last
+abbrev LeavesFile : ℕ → List FileCall → List FileCall → Type 0
+LeavesFile n old new = (ClosesLast n old → ClosesLast n new) × ((disk : Disk)
+    → ((after_calls new disk).bytes n ≡ (after_calls old disk).bytes n)
+    × ((after_calls new disk).is_lost n ≡ (after_calls old disk).is_lost n))
+
+module _ (to : Spot) (path from : List ℕ) where
+  leaves_one : (n : ℕ) (before calls : List FileCall) (call : FileCall) → IsNaming to path from before call → LeavesFile n calls (call ∷ calls)
+  leaves_one n before calls (Wrote m at part) named = absurd named
+  leaves_one n before calls call named = search rules
+
+  leaves_all : (n : ℕ) (old since : List FileCall) → AllSo (IsNaming to path from) since → LeavesFile n old (since ++ old)
+  leaves_all n old [] all = (λ closed. closed, λ disk. (refl, refl))
+  leaves_all n old (call ∷ since) all =
+      let one = leaves_one n since (since ++ old) call all.0 in let rest = leaves_all n old since all.1 in (
+        λ closed. one.0 (rest.0 closed),
+        λ disk. ((one.1 disk).0 ∙ (rest.1 disk).0, (one.1 disk).1 ∙ (rest.1 disk).1),
+      )
+
+  pub names_leave : (n : ℕ) (old new : List FileCall) → Names to path from old new → LeavesFile n old new
+  names_leave n old new names = rw names.are (leaves_all n old names.since names.each)
+
+  pub names_then : (old mid new : List FileCall) → Names to path from old mid → Names to path from mid new → Names to path from old new
+  names_then old mid new first = since_then _ _ old mid new first (λ calls call named. wider calls first.since call named) where
+    wider : (calls more : List FileCall) (call : FileCall) → IsNaming to path from calls call → IsNaming to path from (calls ++ more) call
+    wider calls more (Renamed f t) named = (named.0, named.1, λ free. sparing_more path (Renamed f t) more calls (named.2 free))
+    wider calls more call named = search rules
+
+  -- it is renamed, where nothing was seen or over what is there
+  pub names_free : (old looked new : List FileCall) → looked ≡ Missing path ∷ old → MayHave (Renamed from path) looked new → Names to path from old new
+  names_free old looked new missing =
+      if_made (Names to path from old) (Renamed from path) looked new (since_one _ (Missing path) old looked missing refl) (record {
+        since = Renamed from path ∷ Missing path ∷ [];
+        are = ap (λ (l : List FileCall). Renamed from path ∷ l) missing;
+        each = ((refl, refl, λ free. ([], refl)), (refl, tt));
+      })
+
+  pub names_named : (old mid new : List FileCall) → Names to path from old mid
+      → (new ≡ mid) ⊎ Waited (SyncedNames path) (UnwaitedNames path) mid new → Names to path from old new
+  names_named old mid new names =
+      ⊎_elim (λ same. subst (Names to path from old) (sym same) names)
+      (λ waited. names_then old mid new names (since_waited _ (SyncedNames path) (UnwaitedNames path) mid new refl refl waited))
+
+module _ (path from : List ℕ) where
+  pub moves_renamed : (old new : List FileCall) → new ≡ Renamed from path ∷ old → TakesOver path from old new
+  moves_renamed old new is n apart at = rw is (λ disk answers. file_renamed n from path (after_calls old disk) apart (at disk answers.1))
+
+  pub moves_linked : (old linked new : List FileCall) → linked ≡ Linked from path ∷ old → MayHave (Removed from) linked new → TakesOver path from old new
+  moves_linked old linked new is may n apart at =
+      if_made (StandsAt path path n) (Removed from) linked new there
+      (λ disk answers. path_other from path None (after_calls linked disk).file apart ∙ there disk answers.1) may where
+        there : StandsAt path path n linked
+        there = rw is (λ disk answers. file_linked n from path (after_calls old disk) apart (at disk answers.1))
+
+  -- after a look, or a link that was tried
+  pub moves_looked : (old looked new : List FileCall) → looked ≡ Missing path ∷ old → TakesOver path from looked new → TakesOver path from old new
+  moves_looked old looked new is moves n apart at = moves n apart (rw is (λ disk answers. at disk answers.1))
+
+  pub moves_tried : (old linked new : List FileCall) → MayHave (Linked from path) old linked → TakesOver path from linked new → TakesOver path from old new
+  moves_tried old linked new may moves n apart at = moves n apart (if_made (StandsAt path from n) (Linked from path) old linked at
+      (λ disk answers. path_other path from _ (after_calls old disk).file (λ same. apart (sym same)) ∙ at disk answers.1) may)
+
+  pub moves_named : (old mid new : List FileCall) → TakesOver path from old mid
+      → (new ≡ mid) ⊎ Waited (SyncedNames path) (UnwaitedNames path) mid new → TakesOver path from old new
+  moves_named old mid new moves either n apart at =
+      let there = moves n apart at in
+      if_either (StandsAt path path n) (SyncedNames path) (UnwaitedNames path) mid new there
+      (λ disk answers. there disk answers.1) (λ disk answers. there disk answers.1) either
 
 -- ---- Bytes that are put to a path.
 
+-- a file was made beside it, filled and put there
+pub there_put : (to : Spot) (path from : List ℕ) (n : ℕ) (bytes : List ℕ) (old calls filled new : List FileCall) → IsKept path from n old calls
+    → IsAbout n calls filled → Gets n bytes calls filled → Names to path from filled new → TakesOver path from filled new
+    → (m : ℕ) × IsThereAs path m bytes new
+there_put to path from n bytes old calls filled new kept about gets names moves =
+    let leaves = names_leave to path from n filled new names in
+    let at = moves n kept.apart (at_about path from n calls filled about kept.file) in (
+      n,
+      (
+        λ disk answers. (
+          at disk answers,
+          (leaves.1 disk).0 ∙ gets.holds path disk (answers_since _ path filled new disk names answers),
+          (leaves.1 disk).1 ∙ (gets.sound disk ∙ kept.sound disk),
+        ),
+        leaves.0 gets.closed,
+      ),
+    )
+
 module _ {E : Type 0} (to : Spot) (path bytes : List ℕ) (wanted : Durability) (old new : List FileCall) where
+  pub replaces_by : (r : Result (Unit {0}) E) → Since (IsReplacing to path) old new → OnOk r ((n : ℕ) × IsThereAs path n bytes new)
+      → Replaces to bytes wanted r old new path
+  replaces_by r steps there = record {
+    puts = record { there = there; touches = since_map _ _ old new (λ calls call step. step.0) steps };
+    steps = steps;
+    spares = spares;
+  } where
+    spares : to ≡ spot.Free → SparesFile path old new
+    spares free = rw steps.are (spares_all path old steps.since (subst (λ (t : Spot). AllSo (IsReplacing t path) steps.since) free steps.each))
+
   -- nothing was done but that rooms were reclaimed
   pub replaces_none : (e : E) → Reclaims path old new → Replaces {E = E} to bytes wanted (Err e) old new path
-  replaces_none e reclaims = let seen = sees path old new reclaims in record {
-    puts = record { whole = λ synced. seen.saves bytes; safe = λ synced. tt; there = tt; touches = seen.touches };
-    spares = λ free. seen.spares;
-  }
+  replaces_none e reclaims = replaces_by (Err e) (reclaims_steps to path old new reclaims) tt
 
-  -- a file beside it got there
-  pub replaces_placed : (from : List ℕ) (n : ℕ) (r : Result (Unit {0}) E) → HasPlaced to wanted path from n bytes (IsSafe path bytes new) r old new
+  -- it was tried once more
+  pub replaces_again : (mid : List FileCall) (r : Result (Unit {0}) E) → Since (IsReplacing to path) old mid → Replaces to bytes wanted r mid new path
       → Replaces to bytes wanted r old new path
-  replaces_placed from n r placed = record {
-    puts = record {
-      whole = placed.tried.saves;
-      safe = placed.done;
-      there = on_ok_weaker r (λ leads. (n, leads)) placed.there;
-      touches = placed.tried.has.touches;
-    };
-    spares = placed.tried.spares;
-  }
-
-  -- another one did, after that was tried
-  pub replaces_again : (mid : List FileCall) (from : List ℕ) (n : ℕ) (r : Result (Unit {0}) E) → HasTried to wanted path from n bytes old mid
-      → Replaces to bytes wanted r mid new path → Replaces to bytes wanted r old new path
-  replaces_again mid from n r tried again = record {
-    puts = record {
-      whole = λ synced. saves_then path bytes old mid new (tried.saves synced) (again.puts.whole synced);
-      safe = again.puts.safe;
-      there = again.puts.there;
-      touches = touches_then path old mid new tried.has.touches again.puts.touches;
-    };
-    spares = λ free. spares_then path old mid new (tried.spares free) (again.spares free);
-  }
+  replaces_again mid r steps again =
+      replaces_by r (since_then _ _ old mid new steps (λ calls call step. (
+        within_more path call steps.since calls step.0,
+        λ free. sparing_more path call steps.since calls (step.1 free),
+      )) again.steps) again.puts.there
 
 -- ---- Calls about one file.
 
@@ -438,30 +449,8 @@ pub on_ok : {X E P : Type 0} (r : Result X E) → P → OnOk r P
 on_ok (Ok x) holds = holds
 on_ok (Err e) holds = tt
 
-pub about_more : (n : ℕ) (call : FileCall) (old new later : List FileCall) → IsAbout n old new
-    → later ≡ call ∷ new → IsOf n call → IsAbout n old later
-about_more n call old new later about are of = record {
-  since = call ∷ about.since;
-  are = are ∙ ap (λ (l : List FileCall). call ∷ l) about.are;
-  all = (of, about.all);
-}
-
-all_append : (n : ℕ) (first second : List FileCall) → AllOf n first → AllOf n second → AllOf n (second ++ first)
-all_append n first [] before after_call = before
-all_append n first (call ∷ second) before after_call = (after_call.0, all_append n first second before after_call.1)
-
 pub about_then : (n : ℕ) (old mid new : List FileCall) → IsAbout n old mid → IsAbout n mid new → IsAbout n old new
-about_then n old mid new first second = grind (arith, common_steps, all_append, append_assoc)
-
-pub about_first : (n : ℕ) (call : FileCall) (old new : List FileCall) → new ≡ call ∷ old → IsOf n call → IsAbout n old new
-about_first n call old new is of = record { since = call ∷ []; are = is; all = (of, tt) }
-
-pub about_none : (n : ℕ) (old new : List FileCall) → new ≡ old → IsAbout n old new
-about_none n old new is = record { since = []; are = is; all = tt }
-
-pub about_waited : (n : ℕ) (waits cant : FileCall) (old new : List FileCall) → IsOf n waits → IsOf n cant → Waited waits cant old new → IsAbout n old new
-about_waited n waits cant old new one other (inl is) = about_first n waits old new is one
-about_waited n waits cant old new one other (inr is) = about_first n cant old new is other
+about_then n old mid new first = since_then _ _ old mid new first (λ calls call of. of)
 
 -- ---- What is written.
 
@@ -515,16 +504,7 @@ gets_all n bytes old wrote cut settled new writes cuts either closed = rw closed
       close : Holding n bytes old settled → Gets n bytes old (Closed n ∷ settled)
       close held = record { sound = held.0; closed = refl; holds = λ path disk answers. held.1 path disk answers.1 }
 
-pub fills_waited : (n : ℕ) (bytes : List ℕ) (old wrote cut waited : List FileCall)
-    → WritesOver n (length bytes) bytes old wrote → CutsOff n (length bytes) wrote cut
-    → Waited (Synced n) (Unwaited n) cut waited → Fills n bytes old waited
-fills_waited n bytes old wrote cut waited writes cuts = grind (arith, common_steps, file_same, if_waited, whole)
-
--- and it is closed
-pub fills_closed : (n : ℕ) (bytes : List ℕ) (old calls : List FileCall) → Fills n bytes old calls → Fills n bytes old (Closed n ∷ calls)
-fills_closed n bytes old calls fills = record { on = λ path disk answers waited. fills.on path disk answers.1 waited.1 }
-
--- ---- How a file that was filled comes to its path.
+-- ---- How a file that was written comes to its path.
 
 pub placed_closed : (path : List ℕ) (n : ℕ) (bytes : List ℕ) (calls : List FileCall) → IsAtPath path n bytes calls
     → IsAtPath path n bytes (Closed n ∷ calls)
@@ -534,184 +514,3 @@ placed_closed path n bytes calls put =
 pub safe_named : (path : List ℕ) (n : ℕ) (bytes : List ℕ) (calls new : List FileCall) → IsAtPath path n bytes calls
     → Waited (SyncedNames path) (UnwaitedNames path) calls new → IsSafe path bytes new
 safe_named path n bytes calls new put = grind (arith, common_steps, if_waited, leaves_only, path_same)
-
-module _ (path from : List ℕ) (n : ℕ) (bytes : List ℕ) (old : List FileCall) (wanted : Durability) where
-  abbrev Ready : List FileCall → Type 0
-  Ready = IsReady wanted path from n bytes old
-
-  abbrev Tried : Spot → List FileCall → Type 0
-  Tried to = HasTried to wanted path from n bytes old
-
-  -- that was tried, but failed
-  pub placed_not : {E Done : Type 0} (r : Result (Unit {0}) E) (to : Spot) (calls : List FileCall) → Tried to calls → OnOk r ⊥
-      → HasPlaced to wanted path from n bytes Done r old calls
-  placed_not r to calls tried failed = record {
-    tried = tried;
-    done = λ synced. on_ok_weaker r (λ no. absurd no) failed;
-    there = on_ok_weaker r (λ no. absurd no) failed;
-  }
-
-  nothing : (m : ℕ) → None ≡ Some m → ⊥
-  nothing m same = cc
-
-  -- nothing was done with it
-  pub tried_ready : (to : Spot) (calls : List FileCall) → Ready calls → Tried to calls
-  tried_ready to calls ready = record { has = ready.tried.has; spares = λ free. ready.tried.spares refl; saves = ready.tried.saves }
-
-  pub tried_beside : (to : Spot) (calls : List FileCall) → IsBeside path from n old calls → Tried to calls
-  tried_beside to calls beside = record { has = beside.has; spares = λ free. beside.spares; saves = λ synced. beside.saves bytes }
-
-  -- it was filled
-  pub ready_filled : (calls new : List FileCall) → IsKept path from n old calls
-      → IsAbout n calls new → Gets n bytes calls new → (wanted ≡ wait.Synced → Fills n bytes calls new) → Ready new
-  ready_filled calls new kept about gets fills =
-      let beside = beside_about path from n old calls new kept.beside about in
-      record {
-        tried = tried_beside spot.Free new beside;
-        apart = beside.apart;
-        closed = gets.closed;
-        file = beside.file;
-        holds = λ disk answers. (gets.holds path disk answers, gets.sound disk ∙ kept.sound disk);
-        has = λ synced disk answers waited. (fills synced).on path disk answers waited (kept.sound disk);
-      }
-
-  -- after one more call, by which the path may come to lead to it
-  tried_more : (to : Spot) (call : FileCall) (calls : List FileCall) → ((since : List FileCall) → Contains since (Made from n) → IsWithin path since call)
-      → (to ≡ spot.Free → (disk : Disk) → AllAnswered path (call ∷ calls) disk → (m : ℕ)
-      → (after_calls calls disk).file path ≡ Some m → (after_calls (call ∷ calls) disk).file path ≡ Some m)
-      → (wanted ≡ wait.Synced → (disk : Disk) → AllAnswered path (call ∷ calls) disk → AllWaited (call ∷ calls) → (left : Option (List ℕ))
-      → MayLeave (after_calls (call ∷ calls) disk) path left → MayLeave (after_calls calls disk) path left ⊎ (left ≡ Some bytes))
-      → Tried to calls → Tried to (call ∷ calls)
-  tried_more to call calls within spares saves tried = record {
-    has = has_more path from n old call calls tried.has within;
-    spares = λ free. spares_quietly path old call calls (tried.spares free) (spares free);
-    saves = λ synced. saves_loudly path bytes old call calls (tried.saves synced) (saves synced);
-  }
-
-  ready_missing : (calls : List FileCall) → Ready calls → Ready (Missing path ∷ calls)
-  ready_missing calls ready = record {
-    tried = tried_more spot.Free (Missing path) calls (λ since made. refl) (λ free disk answers m is. is) (λ synced disk answers waited left leaves. inl leaves) ready.tried;
-    apart = ready.apart;
-    closed = ready.closed;
-    file = λ disk answers. ready.file disk answers.1;
-    holds = λ disk answers. ready.holds disk answers.1;
-    has = λ synced disk answers waited. ready.has synced disk answers.1 waited.1;
-  }
-
-  pub ready_may : (calls linked : List FileCall) → Ready calls → MayHave (Linked from path) calls linked → Ready linked
-  ready_may calls linked ready = if_made Ready (Linked from path) calls linked ready (record {
-    tried = tried_more spot.Free (Linked from path) calls (λ since made. ((n, made), refl)) (λ free disk answers m is. absurd (nothing m (sym answers.0 ∙ is)))
-        (λ synced disk answers waited. leaves_linked n from path (after_calls calls disk) ready.apart (ready.file disk answers.1) bytes
-        (ready.has synced disk answers.1 waited.1)) ready.tried;
-    apart = ready.apart;
-    closed = ready.closed;
-    file = λ disk answers. path_other path from _ (after_calls calls disk).file (λ same. ready.apart (sym same)) ∙ ready.file disk answers.1;
-    holds = λ disk answers. ready.holds disk answers.1;
-    has = λ synced disk answers waited. ready.has synced disk answers.1 waited.1;
-  })
-
-  pub tried_removed : (to : Spot) (calls new : List FileCall) → (from ≡ path → ⊥) → Tried to calls → MayHave (Removed from) calls new → Tried to new
-  tried_removed to calls new apart tried =
-      if_made (Tried to) (Removed from) calls new tried (tried_more to (Removed from) calls (λ since made. (n, made))
-      (λ free disk answers m is. path_other from path None (after_calls calls disk).file apart ∙ is)
-      (λ synced disk answers waited left leaves. inl (leaves_removed path from (after_calls calls disk) apart left leaves)) tried)
-
-  pub tried_named : (to : Spot) (calls new : List FileCall) → Tried to calls
-      → (new ≡ calls) ⊎ Waited (SyncedNames path) (UnwaitedNames path) calls new → Tried to new
-  tried_named to calls new tried =
-      if_either (Tried to) (SyncedNames path) (UnwaitedNames path) calls new tried
-      (tried_more to (SyncedNames path) calls (λ since made. refl) (λ free disk answers m is. is)
-      (λ synced disk answers waited left leaves. inl (leaves_synced path (after_calls calls disk) left leaves)) tried)
-      (tried_more to (UnwaitedNames path) calls (λ since made. refl) (λ free disk answers m is. is) (λ synced disk answers waited left leaves. inl leaves) tried)
-
-  -- it is renamed
-  renamed : (to : Spot) (calls : List FileCall) → Ready calls
-      → (to ≡ spot.Free → (disk : Disk) → AllAnswered path calls disk → (after_calls calls disk).file path ≡ None) → Tried to (Renamed from path ∷ calls)
-  renamed to calls ready none = tried_more to (Renamed from path) calls (λ since made. ((n, made), refl))
-      (λ free disk answers m is. absurd (nothing m (sym (none free disk answers.1) ∙ is)))
-      (λ synced disk answers waited. leaves_renamed n from path (after_calls calls disk) ready.apart (ready.file disk answers.1) bytes
-      (ready.has synced disk answers.1 waited.1)) (tried_ready to calls ready)
-
-  -- where it is then
-  put_renamed : (calls new : List FileCall) → Ready calls → wanted ≡ wait.Synced → new ≡ Renamed from path ∷ calls → IsAtPath path n bytes new
-  put_renamed calls new ready synced is = grind (arith, common_steps, file_renamed)
-
-  there_renamed : (calls new : List FileCall) → Ready calls → new ≡ Renamed from path ∷ calls → IsThereAs path n bytes new
-  there_renamed calls new ready is = rw is (
-    λ disk answers.
-        let holds = ready.holds disk answers.1 in
-        (file_renamed n from path (after_calls calls disk) ready.apart (ready.file disk answers.1), holds.0, holds.1),
-    ready.closed,
-  )
-
-  there_linked : (calls linked new : List FileCall) → Ready calls → linked ≡ Linked from path ∷ calls
-      → MayHave (Removed from) linked new → IsThereAs path n bytes new
-  there_linked calls linked new ready is =
-      if_made (IsThereAs path n bytes) (Removed from) linked new there (
-        λ disk answers.
-            let led = there.0 disk answers.1 in (path_other from path None (after_calls linked disk).file ready.apart ∙ led.0, led.1, led.2),
-        there.1,
-      ) where
-        there : IsThereAs path n bytes linked
-        there = rw is (
-          λ disk answers.
-              let holds = ready.holds disk answers.1 in
-              (file_linked n from path (after_calls calls disk) ready.apart (ready.file disk answers.1), holds.0, holds.1),
-          ready.closed,
-        )
-
-  module _ {E : Type 0} where
-    abbrev Placed : Spot → Result (Unit {0}) E → List FileCall → Type 0
-    Placed to r new = HasPlaced to wanted path from n bytes (IsAtPath path n bytes new) r old new
-
-    -- over what is there
-    pub placed_taken : (r : Result (Unit {0}) E) (calls new : List FileCall) → Ready calls → MayHave (Renamed from path) calls new
-        → OnOk r (new ≡ Renamed from path ∷ calls) → Placed spot.Taken r new
-    placed_taken r calls new ready may is = record {
-      tried =
-          if_made (Tried spot.Taken) (Renamed from path) calls new (tried_ready spot.Taken calls ready)
-          (renamed spot.Taken calls ready (λ free. cc)) may;
-      done = λ synced. on_ok_weaker r (put_renamed calls new ready synced) is;
-      there = on_ok_weaker r (there_renamed calls new ready) is;
-    }
-
-    -- where nothing was seen
-    pub placed_looked : (r : Result (Unit {0}) E) (calls looked new : List FileCall) → Ready calls → looked ≡ Missing path ∷ calls
-        → MayHave (Renamed from path) looked new → OnOk r (new ≡ Renamed from path ∷ looked) → Placed spot.Free r new
-    placed_looked r calls looked new ready missing may is =
-        let seen : Ready looked = rw missing (ready_missing calls ready) in
-        record {
-          tried = if_made (Tried spot.Free) (Renamed from path) looked new (tried_ready spot.Free looked seen)
-              (renamed spot.Free looked seen (rw missing (λ free disk answers. answers.0))) may;
-          done = λ synced. on_ok_weaker r (put_renamed looked new seen synced) is;
-          there = on_ok_weaker r (there_renamed looked new seen) is;
-        }
-
-    -- it is linked where nothing is
-    pub placed_linked : (calls linked new : List FileCall) → Ready calls → linked ≡ Linked from path ∷ calls
-        → MayHave (Removed from) linked new → Placed spot.Free (Ok tt) new
-    placed_linked calls linked new ready is may = record {
-      tried = tried_removed spot.Free linked new ready.apart (tried_ready spot.Free linked (ready_may calls linked ready (inr is))) may;
-      done = λ synced. let put : IsAtPath path n bytes linked = rw is (record {
-        file = λ disk answers. file_linked n from path (after_calls calls disk) ready.apart (ready.file disk answers.1);
-        has = λ disk answers waited. ready.has synced disk answers.1 waited.1;
-      }) in
-          if_made (IsAtPath path n bytes) (Removed from) linked new put (record {
-            file = λ disk answers. path_other from path None (after_calls linked disk).file ready.apart ∙ put.file disk answers.1;
-            has = λ disk answers waited. put.has disk answers.1 waited.1;
-          }) may;
-      there = there_linked calls linked new ready is may;
-    }
-
-    -- and its name is waited for
-    pub placed_named : {F : Type 0} (to : Spot) (r : Result (Unit {0}) F) (calls new : List FileCall) → Placed to (Ok tt) calls
-        → (new ≡ calls) ⊎ Waited (SyncedNames path) (UnwaitedNames path) calls new
-        → OnOk r (wanted ≡ wait.Synced → Waited (SyncedNames path) (UnwaitedNames path) calls new)
-        → HasPlaced to wanted path from n bytes (IsSafe path bytes new) r old new
-    placed_named to r calls new placed either waited = record {
-      tried = tried_named to calls new placed.tried either;
-      done = λ synced. on_ok_weaker r (λ waits. safe_named path n bytes calls new (placed.done synced) (waits synced)) waited;
-      there = on_ok r (if_either (IsThereAs path n bytes) (SyncedNames path) (UnwaitedNames path) calls new placed.there
-          (λ disk answers. placed.there.0 disk answers.1, placed.there.1)
-          (λ disk answers. placed.there.0 disk answers.1, placed.there.1) either);
-    }

@@ -1,37 +1,40 @@
 -- What is known of a file that was made beside a path, to be put there later.
-use Rattle.std.specs.Prelude.{◌≡◌, ◌≢◌, ℕ, List, [], ◌∷◌, ◌++◌, false, Some, Contains}
-use Rattle.age_machine.specs.Calls.{FileCall, Made, Reclaimed}
-use Rattle.age_machine.specs.Disk.{Disk, after_calls, MayLead}
-use Rattle.age_machine.specs.Saves.{AllAnswered, SavesWhole, SparesFile, IsNumbered, Touches}
+use Rattle.std.specs.Prelude.{◌≡◌, ◌≢◌, ℕ, List, ◌∷◌, false, Some, Contains}
+use Rattle.age_machine.specs.Calls.{FileCall, Made, Missing, Renamed, Removed, Reclaimed}
+use Rattle.age_machine.specs.Disk.{Disk, after_calls}
+use Rattle.age_machine.specs.Saves.{AllAnswered, IsNumbered, IsWithin, Since}
+use Rattle.age_machine.specs.declared.replacing.Spot.{Spot}
+use Rattle.age_machine.specs.declared.replacing.Spot.TheVariants.{Free}
 
--- at this path was made this file, and no other path is touched but the one that it is to have
-pub record HasBeside (path from : List ℕ) (n : ℕ) (old calls : List FileCall) : Type 0 where
-  pub touches : Touches path old calls
-  pub made : Contains touches.since (Made from n)
+-- After these calls, this one takes nothing away from a path: what is renamed to it comes right after
+-- nothing was seen there.
+abbrev pub IsSparing : List ℕ → List FileCall → FileCall → Type 0
+IsSparing path calls (Renamed from to) = (rest : List FileCall) × (calls ≡ Missing path ∷ rest)
+IsSparing path calls (Removed p) = p ≢ path
+IsSparing path calls call = Unit {0}
 
--- It is there since the old calls, and nothing is seen of it at the path.
-pub record IsBeside (path from : List ℕ) (n : ℕ) (old calls : List FileCall) : Type 0 where
-  pub has : HasBeside path from n old calls
-  pub apart : from ≢ path
-  pub saves : (bytes : List ℕ) → SavesWhole path bytes old calls
-  pub spares : SparesFile path old calls
-  pub file : (disk : Disk) → AllAnswered path calls disk → (after_calls calls disk).file from ≡ Some n
-  pub elsewhere : (disk : Disk) → AllAnswered path calls disk
-      → MayLead (after_calls calls disk) path (Some n) → ⊥
+-- it touches only what a replacement may, and takes nothing away where nothing was
+abbrev pub IsReplacing : Spot → List ℕ → List FileCall → FileCall → Type 0
+IsReplacing to path calls call = IsWithin path calls call × (to ≡ Free → IsSparing path calls call)
 
--- and no call about it has failed
+-- since the old calls a file was made at this path, to be put to the other
+pub record IsBeside (to : Spot) (path from : List ℕ) (n : ℕ) (old calls : List FileCall)
+    : Type 0 where
+  pub steps : Since (IsReplacing to path) old calls
+  pub made : Contains steps.since (Made from n)
+
+-- on each disk that answers for one path, a path leads to this file
+abbrev pub StandsAt : (path at : List ℕ) → ℕ → List FileCall → Type 0
+StandsAt path at n calls =
+    (disk : Disk) → AllAnswered path calls disk → (after_calls calls disk).file at ≡ Some n
+
+-- it is there, nothing was put in its place, and no call about it has failed
 pub record IsKept (path from : List ℕ) (n : ℕ) (old calls : List FileCall) : Type 0 where
-  pub beside : IsBeside path from n old calls
+  pub beside : (to : Spot) → IsBeside to path from n old calls
+  pub apart : from ≢ path
+  pub file : StandsAt path from n calls
   pub sound : (disk : Disk) → (after_calls calls disk).is_lost n ≡ false
 
--- each of these calls removed a room that a stopped run had left beside a path
-abbrev pub AllReclaimed : List ℕ → List FileCall → Type 0
-AllReclaimed path [] = Unit {0}
-AllReclaimed path (call ∷ calls) =
-    ((p : List ℕ) × (call ≡ Reclaimed p) × IsNumbered path p) × AllReclaimed path calls
-
--- and no others were made since the old ones
-pub record Reclaims (path : List ℕ) (old new : List FileCall) : Type 0 where
-  pub since : List FileCall
-  pub are : new ≡ since ++ old
-  pub all : AllReclaimed path since
+-- nothing was done since the old calls but that rooms were removed which stopped runs left there
+abbrev pub Reclaims : List ℕ → List FileCall → List FileCall → Type 0
+Reclaims path = Since (λ calls call. (p : List ℕ) × (call ≡ Reclaimed p) × IsNumbered path p)

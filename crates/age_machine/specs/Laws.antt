@@ -6,7 +6,7 @@ use Rattle.age_machine.specs.Calls.{FileCall, Made, Opened, Wrote, Cut, Measured
 use Rattle.age_machine.specs.Calls.{Locked, Unlockable, Linked, Renamed, Removed, SyncedNames}
 use Rattle.age_machine.specs.declared.machine.Kind.TheVariants.{Regular}
 use Rattle.age_machine.specs.Disk.{Disk, at_path, after_calls, MayLeave}
-use Rattle.age_machine.specs.Saves.{AllAnswered, AllWaited, SavesWhole, IsSafe, HasMade}
+use Rattle.age_machine.specs.Saves.{AllAnswered, AllWaited, IsSafe, HasMade}
 use Rattle.age_machine.specs.Outs.{OutFile, AllOn, is_waited, MayChange, LocksFirst, TouchesFile}
 use Rattle.age_machine.specs.Numbers.{number_of}
 use Rattle.age_machine.specs.declared.node.Node.{Node}
@@ -39,23 +39,9 @@ pub record CanLeave (path bytes : List ℕ) (calls : List FileCall) (disk : Disk
   pub waited : AllWaited calls
   pub leaves : MayLeave (after_calls calls disk) path (Some bytes)
 
-abbrev pub WaitsAreAnswered : Type 0
-WaitsAreAnswered = (n : ℕ) (from path bytes : List ℕ) → from ≢ path
-    → CanLeave path bytes (renamed n from path bytes) bare
-    × CanLeave path bytes (linked n from path bytes) bare
-
-abbrev pub TornIfUnwaited : Type 0
-TornIfUnwaited = (n : ℕ) (from path bytes : List ℕ) → from ≢ path
-    → SavesWhole path bytes [] (SyncedNames path ∷ Renamed from path ∷ filled n from bytes) → ⊥
-
-abbrev pub TornIfRenamedFirst : Type 0
-TornIfRenamedFirst = (n : ℕ) (from path bytes : List ℕ) → from ≢ path
-    → SavesWhole path bytes []
-    (SyncedNames path ∷ Synced n ∷ Renamed from path ∷ filled n from bytes) → ⊥
-
-abbrev pub LostIfNamesUnwaited : Type 0
-LostIfNamesUnwaited = (n : ℕ) (from path bytes : List ℕ) → from ≢ path
-    → IsSafe path bytes (Renamed from path ∷ Synced n ∷ filled n from bytes) → ⊥
+abbrev pub PutsAreAnswered : Type 0
+PutsAreAnswered = (n : ℕ) (from path bytes : List ℕ) → from ≢ path
+    → AllAnswered path (renamed n from path bytes) bare × AllAnswered path (linked n from path bytes) bare
 
 -- ---- A file that is written in place.
 

@@ -1,9 +1,9 @@
 -- What was done for a position that was saved.
 use Rattle.std.specs.Prelude.{◌≡◌, List, [], ℕ, Option, IfSome, Result, OnOk}
 use Rattle.age_io.specs.declared.durability.Durability.{Durability}
-use Rattle.age_io.specs.declared.durability.Durability.TheVariants.{Synced}
+use Rattle.age_machine.specs.Beside.{IsReplacing}
 use Rattle.age_machine.specs.Calls.{FileCall}
-use Rattle.age_machine.specs.Saves.{IsSafe, IsThereAs, SavesWhole, SparesFile, Touches}
+use Rattle.age_machine.specs.Saves.{IsThereAs, Since, SparesFile, Touches}
 use Rattle.age_machine.specs.declared.replacing.Spot.{Spot}
 use Rattle.age_machine.specs.declared.replacing.Spot.TheVariants.{Free}
 
@@ -14,14 +14,10 @@ pub record SavedFile : Type 0 where
   -- the calls that were made for it, the newest first
   pub calls : List FileCall
 
--- these bytes were put to a path at once since the old calls, or that was tried
+-- these bytes were put to a path since the old calls, or that was tried
 pub record PutsAtOnce {E : Type 0} (bytes : List ℕ) (durability : Durability)
     (result : Result (Unit {0}) E) (old calls : List FileCall) (path : List ℕ) : Type 0 where
-  -- Whenever the power is cut, what is there is what there might have been before, or these bytes.
-  pub whole : durability ≡ Synced → SavesWhole path bytes old calls
-  -- After success it is these bytes. The path leads to them, also if nothing was waited for, and their
-  -- file was closed.
-  pub safe : durability ≡ Synced → OnOk result (IsSafe path bytes calls)
+  -- After success the path leads to a file of these bytes, which was closed once it had them.
   pub there : OnOk result ((n : ℕ) × IsThereAs path n bytes calls)
   -- Only the path, new files beside it and rooms that stopped runs left there are touched.
   pub touches : Touches path old calls
@@ -30,9 +26,11 @@ pub record PutsAtOnce {E : Type 0} (bytes : List ℕ) (durability : Durability)
 pub record Replaces {E : Type 0} (to : Spot) (bytes : List ℕ) (durability : Durability)
     (result : Result (Unit {0}) E) (old calls : List FileCall) (path : List ℕ) : Type 0 where
   pub puts : PutsAtOnce bytes durability result old calls path
+  pub steps : Since (IsReplacing to path) old calls
   pub spares : to ≡ Free → SparesFile path old calls
 
--- The bytes of a position were put there at once, unless they were written directly.
+-- The bytes of a position were put there at once, unless they were written directly. What a power cut
+-- leaves of it is tested, whether the disk was waited for or not: nothing here depends on that.
 abbrev pub Saves : {E : Type 0} → List ℕ → Durability → Result (Unit {0}) E → SavedFile → Type 0
 Saves bytes durability result saved =
     IfSome saved.path (PutsAtOnce bytes durability result [] saved.calls)

@@ -1,4 +1,4 @@
--- What it means that a file is put to a path at once, whatever fails and whenever the power is cut.
+-- What it means that a file is at a path, also after a power cut, and what is touched for it.
 use Rattle.std.specs.Prelude.{◌≡◌, ◌≢◌, ◌⊎◌, ℕ, List, [], ◌∷◌, ◌++◌, length, Option, Some, None}
 use Rattle.std.specs.Prelude.{true, false, codes, decimal, Contains}
 use Rattle.age_machine.specs.Calls.{FileCall, Made, Opened, Wrote, Cut, Broke, Measured, Synced}
@@ -109,12 +109,17 @@ IsWithin path calls (Reclaimed p) = IsNumbered path p
 IsWithin path calls (SyncedNames p) = p ≡ path
 IsWithin path calls (UnwaitedNames p) = p ≡ path
 
-abbrev pub AllWithin : List ℕ → List FileCall → Type 0
-AllWithin path [] = Unit {0}
-AllWithin path (call ∷ calls) = IsWithin path calls call × AllWithin path calls
+-- each of these calls is so, after those before it
+abbrev pub AllSo : (List FileCall → FileCall → Type 0) → List FileCall → Type 0
+AllSo P [] = Unit {0}
+AllSo P (call ∷ calls) = P calls call × AllSo P calls
 
--- Nothing else was touched since the old calls.
-pub record Touches (path : List ℕ) (old new : List FileCall) : Type 0 where
+-- and so is each one since the old calls, after those since then
+pub record Since (P : List FileCall → FileCall → Type 0) (old new : List FileCall) : Type 0 where
   pub since : List FileCall
   pub are : new ≡ since ++ old
-  pub within : AllWithin path since
+  pub each : AllSo P since
+
+-- Nothing else was touched since the old calls.
+abbrev pub Touches : List ℕ → List FileCall → List FileCall → Type 0
+Touches path = Since (IsWithin path)

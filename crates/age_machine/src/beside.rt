@@ -99,6 +99,7 @@ pub(crate) fn write_all<M: Machine>(machine: &mut M, file: &M::File, bytes: &[u8
 }
 
 /// Waits until what a file holds has reached the disk, if it is to.
+#[tactic(auto, using(crate::proofs::since_waited, crate::proofs::since_one))]
 pub(crate) fn settle<M: Machine>(
     machine: &mut M,
     file: &M::File,

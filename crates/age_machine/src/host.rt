@@ -1,10 +1,8 @@
 //! The machine's calls, each of which is noted: what no proof sees.
 
-ghost use Rattle.std.specs.Prelude.{◌≡◌, ◌⊎◌, ◌+◌, ◌<◌, [], ◌∷◌, length, true, false, IsOk, IfOk};
+ghost use Rattle.std.specs.Prelude.{◌≡◌, ◌+◌, ◌<◌, [], ◌∷◌, length, true, false, IsOk, IfOk};
 ghost use Rattle.std.specs.Prelude.{IfErr, OnOk, OnErr};
 ghost use Rattle.std.specs.Io.{WritesAtMost};
-ghost use Rattle.std_io.specs.IoError.{error_kind};
-ghost use Rattle.std_io.specs.declared.io.kind.ErrorKind.TheVariants.{InvalidInput, Unsupported};
 ghost use Rattle.age_machine.specs.{Made, Opened, Broke, Waited, CountsFailure, number_of};
 ghost use Rattle.age_machine.specs.inner.Locks.{SaysNoLocks, HasNoLocks};
 
@@ -15,6 +13,7 @@ use crate::node::{Node, found_at, is_at};
 use crate::notes::{Calls, FailedCalls, Word};
 use crate::retry::{TRIES, is_to_retry, too_many_tries};
 use crate::room::reclaim;
+use crate::waiting::{sync, wait_for};
 use std::fs::{self, File, Metadata, TryLockError};
 use std::io;
 use std::os::fd::AsRawFd;
@@ -52,27 +51,6 @@ pub fn kept_above(rt: &HostRuntime, made: File, path: &str) -> io::Result<File> 
         let _ = calls::remove(rt, path);
     }
     moved
-}
-
-/// Whether the system has waited, by what it answered; `false` if it has no way to wait here. A file
-/// system that became read-only after a file was written says something else: that its disk failed.
-fn has_waited(answer: io::Result<()>) -> io::Result<bool>
-    ensures waited { IfOk result (λ it. it ≡ true → IsOk answer) }
-    ensures cant { IfOk result (λ it. it ≡ false → IfErr answer
-        (λ e. (error_kind e ≡ InvalidInput) ⊎ (error_kind e ≡ Unsupported))) }
-{
-    match answer {
-        Ok(()) => Ok(true),
-        Err(error) => match error.kind() {
-            io::ErrorKind::InvalidInput | io::ErrorKind::Unsupported => Ok(false),
-            _ => Err(error),
-        },
-    }
-}
-
-/// Waits until a file has reached the disk; `false` if the machine has no way to wait here.
-pub fn sync(file: &File) -> io::Result<bool> {
-    has_waited(calls::sync_whole(file))
 }
 
 /// Waits until the names in the folder of a path have reached the disk; `false` if the machine has
@@ -494,13 +472,13 @@ impl Machine for HostMachine {
     }
 
     fn sync(&mut self, file: &HostFile) -> io::Result<()> {
-        match sync(&file.file) {
-            Ok(true) => {
+        match wait_for(&file.file) {
+            Ok(None) => {
                 self.calls.note(&Word::Synced(file.node));
                 Ok(())
             }
-            Ok(false) => {
-                self.calls.note(&Word::Unwaited(file.node));
+            Ok(Some(cant)) => {
+                self.calls.note(&Word::Unwaited(file.node, &cant));
                 self.is_unwaited = true;
                 Ok(())
             }

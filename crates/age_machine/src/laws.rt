@@ -1,31 +1,13 @@
 //! Laws of disks: that the calls of a replacement and of an output can be answered, and what none may
 //! leave out.
 
-ghost use Rattle.age_machine.specs.{WaitsAreAnswered, TornIfUnwaited, TornIfRenamedFirst};
-ghost use Rattle.age_machine.specs.{LostIfNamesUnwaited, OutsAreAnswered, TornIfUnsynced};
+ghost use Rattle.age_machine.specs.{PutsAreAnswered, OutsAreAnswered, TornIfUnsynced};
 ghost use Rattle.age_machine.specs.{CallsAreAnswered, TornIfCutLast, SecondRunIsHarmless};
 ghost use Rattle.age_machine.specs.{ChangedIfLockedLate, OthersAreKept, NumbersAreApart};
 
-/// There is a disk that answers the calls of a replacement, by a link or by a rename, and on which a
-/// power cut may leave the new file.
-pub fn waits_are_answered()
-    ensures { WaitsAreAnswered }
-{}
-
-/// A file that is renamed though it wasn't waited for may be torn.
-pub fn torn_if_unwaited()
-    ensures { TornIfUnwaited }
-{}
-
-/// A file that is renamed before it is waited for may be torn meanwhile.
-pub fn torn_if_renamed_first()
-    ensures { TornIfRenamedFirst }
-{}
-
-/// A file whose name wasn't waited for may be lost.
-#[tactic(auto, using(crate::proofs::LawLemmas::names_unwaited))]
-pub fn lost_if_names_unwaited()
-    ensures { LostIfNamesUnwaited }
+/// There is a disk that answers the calls of a replacement, by a rename or by a link.
+pub fn puts_are_answered()
+    ensures { PutsAreAnswered }
 {}
 
 /// There are disks that answer the calls of an output, whether it was there or is made. It has the only

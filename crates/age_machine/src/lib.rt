@@ -19,20 +19,22 @@ mod notes;
 mod replacing;
 mod retry;
 mod room;
+mod waiting;
 
 pub use beside::{Beside, Unplaced, prepare_beside};
 pub use folder::{Folder, check_same, folder_of};
 pub use host::{
-    HostFile, HostMachine, POSITION_MODE, above_streams, kept_above, lock, open_to_write, sync,
+    HostFile, HostMachine, POSITION_MODE, above_streams, kept_above, lock, open_to_write,
     sync_folder,
 };
 pub use in_place::{Ended, Opening, Out};
 pub use laws::{
-    calls_are_answered, changed_if_locked_late, lost_if_names_unwaited, numbers_are_apart,
-    others_are_kept, outs_are_answered, second_run_changes_nothing, torn_if_cut_last,
-    torn_if_renamed_first, torn_if_unsynced, torn_if_unwaited, waits_are_answered,
+    calls_are_answered, changed_if_locked_late, numbers_are_apart, others_are_kept,
+    outs_are_answered, puts_are_answered, second_run_changes_nothing, torn_if_cut_last,
+    torn_if_unsynced,
 };
 pub use machine::{Kind, Machine, Shape, Sight};
 pub use node::{Node, found_at, is_at};
 pub use replacing::{Spot, made_meanwhile, replace_by_kept, replace_by_new};
 pub use retry::{TRIES, is_to_retry, too_many_tries};
+pub use waiting::sync;

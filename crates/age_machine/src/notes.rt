@@ -9,6 +9,7 @@ ghost use Rattle.age_machine.specs.inner.Calls.{coded_call};
 use crate::machine::Kind;
 use crate::node::Node;
 use crate::room::EmptyRoom;
+use crate::waiting::CantWait;
 use age_io::Tape;
 use std::marker::Model;
 
@@ -22,7 +23,7 @@ pub(crate) enum Word<'a> {
     Broke(Node),
     Measured(Node, u64),
     Synced(Node),
-    Unwaited(Node),
+    Unwaited(Node, &'a CantWait),
     Closed(Node),
     Locked(Node),
     Unlockable(Node),

@@ -1,19 +1,16 @@
 //! Puts a whole file to a path.
 
-ghost use Rattle.std.specs.Prelude.{◌≡◌, ◌≢◌, ◌⊎◌, ◌≤◌, ◌<◌, ◌∷◌, ℕ, List, string_bytes, OnOk};
+ghost use Rattle.std.specs.Prelude.{◌≡◌, ◌≢◌, ◌⊎◌, ◌≤◌, ◌<◌, ◌∷◌, List, string_bytes, OnOk};
 ghost use Rattle.std.specs.Prelude.{OnErr, Err};
 ghost use Rattle.age_io.specs.declared.durability.Durability.TheVariants as wait;
 ghost use Rattle.age_machine.specs.Calls.{FileCall, Renamed, SyncedNames, UnwaitedNames, MayHave};
 ghost use Rattle.age_machine.specs.Calls.{Waited};
-ghost use Rattle.age_machine.specs.Saves.{IsSafe};
 ghost use Rattle.age_machine.specs.Saved.{Replaces};
 ghost use Rattle.age_machine.specs.Beside.{IsKept};
 ghost use Rattle.age_machine.specs.declared.beside.Unplaced.{Unplaced};
 ghost use Rattle.age_machine.specs.declared.beside.Unplaced.TheVariants.{Memory};
 ghost use Rattle.age_machine.specs.declared.replacing.Spot.TheVariants as spot;
-ghost use Rattle.age_machine.specs.inner.Steps.{IsAbout, CutsOff, Gets, Fills, IsReady, HasPlaced};
-ghost use Rattle.age_machine.specs.inner.Steps.{Places};
-ghost use Rattle.age_io.specs.declared.durability.Durability.{Durability};
+ghost use Rattle.age_machine.specs.inner.Steps.{IsAbout, CutsOff, Gets, Names, TakesOver};
 
 use crate::beside::{Beside, Unplaced, make_beside, settle, write_all};
 use crate::machine::Machine;
@@ -74,8 +71,6 @@ fn fill<M: Machine>(
     ensures about { IsAbout (M.number file.now) (M.calls machine.old) (M.calls machine.new) }
     ensures gets { OnOk result
         (Gets (M.number file.now) bytes.now (M.calls machine.old) (M.calls machine.new)) }
-    ensures filled { OnOk result (durability ≡ wait.Synced
-        → Fills (M.number file.now) bytes.now (M.calls machine.old) (M.calls machine.new)) }
     ensures counted { M.failed machine.old ≤ M.failed machine.new }
     ensures caused { OnErr result (M.failed machine.old < M.failed machine.new) }
 {
@@ -100,9 +95,11 @@ fn take_place<M: Machine>(machine: &mut M, beside: &str, path: &str) -> Result<(
 }
 
 /// Renames a new file to a path where nothing is seen.
+#[tactic(auto, using(crate::proofs::names_free, crate::proofs::moves_looked, crate::proofs::moves_renamed))]
 fn take_free<M: Machine>(machine: &mut M, beside: &str, path: &str) -> Result<(), Unplaced>
-    ensures placed { (n : ℕ) → Places spot.Free path.now beside.now n result
-        (M.calls machine.old) (M.calls machine.new) }
+    ensures names { Names spot.Free path.now beside.now (M.calls machine.old) (M.calls machine.new) }
+    ensures moves { OnOk result
+        (TakesOver path.now beside.now (M.calls machine.old) (M.calls machine.new)) }
     ensures counted { M.failed machine.old ≤ M.failed machine.new }
 {
     match machine.is_free(path) {
@@ -120,8 +117,9 @@ fn publish<M: Machine>(
     beside: &str,
     path: &str,
 ) -> Result<(), Unplaced>
-    ensures placed { Places spot.Free path.now beside.now (M.number file.now) result
-        (M.calls machine.old) (M.calls machine.new) }
+    ensures names { Names spot.Free path.now beside.now (M.calls machine.old) (M.calls machine.new) }
+    ensures moves { OnOk result
+        (TakesOver path.now beside.now (M.calls machine.old) (M.calls machine.new)) }
     ensures counted { M.failed machine.old ≤ M.failed machine.new }
     ensures caused { OnErr result (M.failed machine.old < M.failed machine.new) }
 {
@@ -138,6 +136,7 @@ fn publish<M: Machine>(
 }
 
 /// Puts a new file to a path.
+#[tactic(auto, using(crate::proofs::moves_renamed))]
 fn put<M: Machine>(
     machine: &mut M,
     file: &M::File,
@@ -145,8 +144,9 @@ fn put<M: Machine>(
     path: &str,
     to: Spot,
 ) -> Result<(), Unplaced>
-    ensures placed { Places to path.now beside.now (M.number file.now) result
-        (M.calls machine.old) (M.calls machine.new) }
+    ensures names { Names to path.now beside.now (M.calls machine.old) (M.calls machine.new) }
+    ensures moves { OnOk result
+        (TakesOver path.now beside.now (M.calls machine.old) (M.calls machine.new)) }
     ensures counted { M.failed machine.old ≤ M.failed machine.new }
     ensures caused { OnErr result (M.failed machine.old < M.failed machine.new) }
 {
@@ -177,6 +177,7 @@ pub(crate) fn settle_names<M: Machine>(
 
 /// Puts a new file that was filled to a path. Fails if it isn't in the folder that was judged, as
 /// when its path has come to lead elsewhere before it was made.
+#[tactic(auto, using(crate::proofs::since_none, crate::proofs::names_named))]
 fn place<M: Machine>(
     machine: &mut M,
     folder: Option<&M::Folder>,
@@ -185,11 +186,10 @@ fn place<M: Machine>(
     to: Spot,
     durability: Durability,
 ) -> Result<(), Unplaced>
-    ensures placed { (bytes : List ℕ) (old : List FileCall)
-        → IsReady durability path.now (string_bytes new.now.path) (M.number new.now.file) bytes old
-        (M.calls machine.old)
-        → HasPlaced to durability path.now (string_bytes new.now.path) (M.number new.now.file) bytes
-        (IsSafe path.now bytes (M.calls machine.new)) result old (M.calls machine.new) }
+    ensures names { Names to path.now (string_bytes new.now.path) (M.calls machine.old)
+        (M.calls machine.new) }
+    ensures moves { OnOk result (TakesOver path.now (string_bytes new.now.path) (M.calls machine.old)
+        (M.calls machine.new)) }
     ensures counted { M.failed machine.old ≤ M.failed machine.new }
     ensures caused { OnErr result (M.failed machine.old < M.failed machine.new) }
 {

@@ -4,11 +4,12 @@ use Rattle.std.specs.Prelude.{slice_index}
 use Rattle.std.specs.List.{concat}
 use Rattle.base64.specs.GeneralPurpose.{IsBytes, engine_symbols}
 use Rattle.base64.specs.Engines.{standard_no_pad}
-use Rattle.age_stanza.specs.Parsing.{Parsing, reading, complete, refused, memory_fault, HasHeader}
+use Rattle.age_stanza.specs.Parsing.{Parsing, reading, complete, refused, HasHeader}
 use Rattle.age_stanza.specs.Parsing.{IsFault, IsOpen, FeedsParser}
 use Rattle.age_stanza.specs.Text.{base64_text}
 use Rattle.age_stanza.specs.Grammar.{Spells, HeadText, mac_text}
-use Rattle.age_stanza.specs.declared.fault.HeadFault.{HeadFault}
+use Rattle.age_fault.specs.{memory_fault}
+use Rattle.age_fault.specs.declared.head.HeadFault.{HeadFault}
 use Rattle.age_stanza.specs.declared.head_step.HeadStep.{HeadStep}
 use Rattle.age_stanza.specs.declared.header.Header.{Header}
 use Rattle.age_stanza.specs.declared.parser.State.{State}

@@ -10,15 +10,15 @@ pub use Grammar.{head_text, header_limit, line, mac_text, stanza_text, version}
 unfoldable pub use Grammar.{in_lines}
 pub use Parsing.{AreLines, Begins, FeedsParser, FirstFault, HasHeader, IsEndLine, IsFault, IsLine}
 pub use Parsing.{IsLineFault, IsOpen, IsParsing, NoFault, RefusesBetween, RefusesLine, armor, complete}
-pub use Parsing.{head_fault_number, head_fault_place, line_after, memory_fault, reading, refused}
-pub use Parsing.{stanzas_text}
+pub use Parsing.{line_after, reading, refused, stanzas_text}
 pub use Laws.{Alphabet, AnyPieces, FaultsStay, Fed, IsBase64, MacTextIsFront, OneFault, OneHeader, StandsFor}
 pub use Laws.{character, more, none, parsing_of}
-pub use Rattle.age_stanza.specs.declared.fault.HeadFault.{HeadFault}
-pub use Rattle.age_stanza.specs.declared.fault.HeadKind.{HeadKind}
-pub use Rattle.age_stanza.specs.declared.fault.HeadKind.TheVariants.{Armored, BadBody, BadEndLine}
-pub use Rattle.age_stanza.specs.declared.fault.HeadKind.TheVariants.{BadStanzaLine, HeadCut, HeadTooLong}
-pub use Rattle.age_stanza.specs.declared.fault.HeadKind.TheVariants.{Memory, NoStanza, NotAge}
+pub use Rattle.age_fault.specs.HeadFaults.{head_fault_number, head_fault_place, memory_fault}
+pub use Rattle.age_fault.specs.declared.head.HeadFault.{HeadFault}
+pub use Rattle.age_fault.specs.declared.head.HeadKind.{HeadKind}
+pub use Rattle.age_fault.specs.declared.head.HeadKind.TheVariants.{Armored, BadBody, BadEndLine}
+pub use Rattle.age_fault.specs.declared.head.HeadKind.TheVariants.{BadStanzaLine, HeadCut, HeadTooLong}
+pub use Rattle.age_fault.specs.declared.head.HeadKind.TheVariants.{Memory, NoStanza, NotAge}
 pub use Rattle.age_stanza.specs.declared.head_step.HeadStep.{HeadStep}
 pub use Rattle.age_stanza.specs.declared.head_step.HeadStep.TheVariants.{More, Ready}
 pub use Rattle.age_stanza.specs.declared.header.Header.{Header}

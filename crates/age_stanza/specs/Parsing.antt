@@ -1,5 +1,5 @@
 -- Which fault is reported of bytes that are no header, and what a parser says of pieces of bytes.
-use Rattle.std.specs.Prelude.{ℕ, Option, Some, None, ◌≡◌, ◌≢◌, ◌⊎◌, ◌+◌, ◌-◌, ◌==◌, nat_eq, ◌||◌}
+use Rattle.std.specs.Prelude.{ℕ, ◌≡◌, ◌≢◌, ◌⊎◌, ◌+◌, ◌-◌, ◌==◌, nat_eq, ◌||◌}
 use Rattle.std.specs.Prelude.{true, false, if◌then◌else◌, List, [], ◌∷◌, ◌++◌, length, take, codes}
 use Rattle.std.specs.Prelude.{count_by, ◌<◌, ◌≤◌, Result, Ok, Err}
 use Rattle.std.specs.List.{flat_map, AllByRecursion, starts_with}
@@ -7,11 +7,11 @@ use Rattle.std.specs.Str.{bytes_eq}
 use Rattle.base64.specs.GeneralPurpose.{IsBytes}
 use Rattle.age_stanza.specs.Grammar.{line, version, stanza_text, end_line, IsStanza, Spells, HeadText}
 use Rattle.age_stanza.specs.Grammar.{header_limit}
-use Rattle.age_stanza.specs.declared.fault.HeadFault.{HeadFault}
-use Rattle.age_stanza.specs.declared.fault.HeadKind.{HeadKind}
-use Rattle.age_stanza.specs.declared.fault.HeadKind.TheVariants.{NotAge, Armored, BadStanzaLine, BadBody}
-use Rattle.age_stanza.specs.declared.fault.HeadKind.TheVariants.{BadEndLine, NoStanza, HeadTooLong, HeadCut}
-use Rattle.age_stanza.specs.declared.fault.HeadKind.TheVariants.{Memory}
+use Rattle.age_fault.specs.{memory_fault}
+use Rattle.age_fault.specs.declared.head.HeadFault.{HeadFault}
+use Rattle.age_fault.specs.declared.head.HeadKind.{HeadKind}
+use Rattle.age_fault.specs.declared.head.HeadKind.TheVariants.{NotAge, Armored, BadStanzaLine, BadBody}
+use Rattle.age_fault.specs.declared.head.HeadKind.TheVariants.{BadEndLine, NoStanza, HeadTooLong, HeadCut}
 use Rattle.age_stanza.specs.declared.head_step.HeadStep.{HeadStep}
 use Rattle.age_stanza.specs.declared.head_step.HeadStep.TheVariants.{More, Ready}
 use Rattle.age_stanza.specs.declared.header.Header.{Header}
@@ -107,10 +107,6 @@ IsFault bytes fault = IsLineFault (take header_limit bytes) fault
     ⊎ (NoFault (take header_limit bytes) × (length (take header_limit bytes) ≡ header_limit)
     × (fault ≡ record { kind = HeadTooLong; line = line_after (take (header_limit - 1) bytes) }))
 
--- running out of memory belongs to no line
-abbrev pub memory_fault : HeadFault
-memory_fault = record { kind = Memory; line = 0 }
-
 -- ---- What a parser of headers has come to, and what a call does to it.
 
 -- the joined bytes so far, or a header was found, or it was refused
@@ -152,24 +148,3 @@ Cuts (reading held) fault new = (fault ≡ record { kind = HeadCut; line = line_
     × (new ≡ refused fault) × (¬ HasHeader held) × NoFault held
 Cuts complete fault new = Unit {0}
 Cuts (refused earlier) fault new = (fault ≡ earlier) × (new ≡ refused earlier)
-
--- ---- How a fault is numbered among all faults, and the line that it reports.
-
-abbrev pub head_fault_number : HeadKind → ℕ
-head_fault_number NotAge = 1
-head_fault_number Armored = 2
-head_fault_number BadStanzaLine = 3
-head_fault_number BadBody = 4
-head_fault_number BadEndLine = 5
-head_fault_number NoStanza = 6
-head_fault_number HeadTooLong = 7
-head_fault_number HeadCut = 8
-head_fault_number Memory = 28
-
--- running out of memory has no line
-abbrev pub line_of : HeadKind → ℕ → Option ℕ
-line_of Memory n = None
-line_of kind n = Some n
-
-abbrev pub head_fault_place : HeadFault → Option ℕ
-head_fault_place fault = line_of fault.kind fault.line

@@ -6,10 +6,10 @@ ghost use Rattle.age_stanza.specs.{base64_text, line, in_lines, stanza_text, hea
 ghost use Rattle.age_stanza.specs.{mac_text, memory_fault};
 
 use crate::argument::Argument;
-use crate::fault::HeadFault;
 use crate::header::{Header, Stanza};
 use crate::lengths::{COLUMNS, LINE_BYTES, MAC_CHARACTERS, VERSION};
 use crate::valid::text_len;
+use age_fault::HeadFault;
 use base64::engine::general_purpose::STANDARD_NO_PAD;
 use std::alloc::{AllocError, Global};
 

@@ -3,7 +3,7 @@
 use crate::header::Header;
 
 /// What a piece led to, if not to a fault.
-#[derive(Debug, Drop)]
+#[derive(Drop)]
 pub enum HeadStep {
     /// The bytes so far are the beginning of a header; the whole piece was taken.
     More,

@@ -19,7 +19,6 @@
 mod argument;
 mod argument_line;
 mod encode;
-mod fault;
 mod head_step;
 mod header;
 mod laws;
@@ -31,9 +30,9 @@ mod place;
 mod text;
 mod valid;
 
+pub use age_fault::{HeadFault, HeadKind};
 pub use argument::{Argument, Arguments};
 pub use encode::{encode_head, mac_text};
-pub use fault::{HeadFault, HeadKind};
 pub use head_step::HeadStep;
 pub use header::{Header, Stanza, Stanzas};
 pub use laws::{

@@ -2,13 +2,14 @@
 
 ghost use Rattle.std.specs.Prelude.{◌≡◌, ◌++◌, ◌+◌, ◌<◌, ◌≤◌, [], length, OnOk, IfErr, OnErr};
 ghost use Rattle.age_stanza.specs.Grammar.{header_limit};
-ghost use Rattle.age_stanza.specs.Parsing.{line_after, memory_fault, IsLine};
+ghost use Rattle.age_fault.specs.{memory_fault};
+ghost use Rattle.age_stanza.specs.Parsing.{line_after, IsLine};
 ghost use Rattle.age_stanza.specs.inner.LineMachine.{fault_at as spec_fault_at, Gives, step as step_of};
 ghost use Rattle.age_stanza.specs.inner.LineMachine.{IsUnfinished};
 
-use crate::fault::{HeadFault, HeadKind, MEMORY};
 use crate::header::Header;
 use crate::place::{Next, Place, step};
+use age_fault::{HeadFault, HeadKind};
 use std::alloc::Global;
 use std::marker::Model;
 use std::mem;
@@ -40,7 +41,7 @@ fn fault_at(kind: HeadKind, line: u64) -> HeadFault
     ensures { result ≡ spec_fault_at kind line }
 {
     match kind {
-        HeadKind::Memory => MEMORY,
+        HeadKind::Memory => HeadFault { kind, line: 0 },
         _ => HeadFault { kind, line },
     }
 }

@@ -6,9 +6,9 @@ ghost use Rattle.age_stanza.specs.{header_limit};
 ghost use Rattle.age_stanza.specs.inner.{ReadsLines, TakesPiece};
 
 use crate::HEAD_MAX;
-use crate::fault::HeadFault;
 use crate::head_step::HeadStep;
 use crate::partial::PartialHeader;
+use age_fault::HeadFault;
 
 /// Where the first line ends.
 fn line_end(bytes: &[u8]) -> Option<usize>

@@ -7,8 +7,7 @@ pub(crate) fn row_of(number: u8) -> Option<&'static str> {
 The file doesn't begin with the version line (if the first 1,048,576 bytes have
 no newline, 7 is reported, or 8 if the file is shorter).
 OUT: unchanged.
-What to do: an age file begins with the line age-encryption.org/v1: check the
-name.",
+What to do: its first line isn't age-encryption.org/v1: check the name.",
         2 => "2 Armored
 The file is armored: text that begins with -----BEGIN AGE ENCRYPTED FILE-----.
 OUT: unchanged.
@@ -43,8 +42,8 @@ file: its first line has no newline.",
 The file ends inside its header; at line 1, it is empty or has no newline, and
 is probably no age file.
 OUT: unchanged.
-What to do: fetch all of it: the file was cut off. At line 1: it is empty: check
-where it comes from; or it may not be an age file: its first line has no
+What to do: fetch all of it: the file was truncated. At line 1: it is empty:
+check where it comes from; or it may not be an age file: its first line has no
 newline.",
         9 => "9 ScryptNotAlone
 The header has a passphrase stanza and another stanza.
@@ -72,14 +71,14 @@ and --file-key any file.",
 The passphrase, or the shared secret, doesn't open the stanza; or the stanza is
 damaged.
 OUT: unchanged.
-What to do: check the passphrase: only one trailing newline in its file is
-ignored, not a second one, a carriage return or a BOM. With --shared: check the
-shared secret. If it is right, fetch the file again.",
+What to do: check the passphrase, whose file may end with one newline, not two,
+and has no carriage return or BOM. With --shared: check the shared secret. If it
+is right, fetch the file again.",
         14 => "14 MacMismatch
 The MAC of the header doesn't match the file key.
 OUT: unchanged.
-What to do: the header was altered, or --file-key is the key of another file.
-Fetch the file again.",
+What to do: the header was altered, or --file-key belongs to another file. Fetch
+the file again.",
         15 => "15 BadX25519
 An X25519 stanza is malformed, or the shared secret is zero.
 OUT: unchanged.
@@ -109,15 +108,15 @@ What to do: fetch it again; if this happens again, don't trust the file.",
 The file ends before this chunk (or in it, if resume passes over it), so the
 file's last chunk is missing.
 OUT: the chunks before it, if any; after resume, if this chunk comes before the
-position, the old text up to the position.
+position, the earlier output up to the position.
 What to do: fetch the rest; age_tool resume continues from a position that
 --save saved.",
         21 => "21 Trailing
 Bytes follow the last chunk, which is full (after a shorter last chunk, what is
 appended shows up as 17).
 OUT: all chunks.
-What to do: OUT has the whole text, but the file isn't as its writer left it:
-something was appended to it.",
+What to do: OUT has the complete plaintext, but the file isn't as its writer
+left it: something was appended to it.",
         22 => "22 TooManyChunks
 More than 2^48 chunks.
 OUT: the chunks before that.
@@ -133,7 +132,7 @@ OUT: unchanged.
 What to do: IN must be the file that was being decrypted when the position was
 saved.",
         25 => "25 ShortText
-The old text is shorter than the position says.
+The earlier output is shorter than the position says.
 OUT: a copy of all of it; unchanged, if it is empty.
 What to do: --old takes the output of the run that saved the position.",
         26 => "26 Read
@@ -166,7 +165,7 @@ The position was altered, or wasn't made under this file's key.
 OUT: unchanged.
 What to do: use the position file exactly as --save wrote it.",
         31 => "31 OldTextDiffers
-The old text isn't the one that the position was saved for.
+The earlier output isn't the one that the position was saved for.
 OUT: a copy of it, as far as the position says.
 What to do: --old takes the output of the run that saved the position. If it is
 lost, decrypt from the start.",

@@ -3,8 +3,7 @@
 use Rattle.std.specs.Prelude.{◌≡◌, ◌⊎◌, ℕ, List, take, Some}
 use Rattle.age_stanza.specs.{HeadText, head_fault_number, head_fault_place, HasHeader, NoFault, IsFault}
 use Rattle.age_stanza.specs.{line_after, memory_fault}
-use Rattle.age_stanza.specs.declared.fault.HeadFault.{HeadFault}
-use Rattle.age_stanza.specs.declared.fault.HeadKind.TheVariants.{HeadCut}
+use Rattle.age_stanza.specs.{HeadFault, HeadCut}
 use Rattle.age_stanza.specs.declared.header.Header.{Header}
 use Rattle.age_keys.specs.{Opens}
 use Rattle.age_vectors.specs.declared.header.TheConstants.{SMALLEST, SMALLEST_AND_ONE, FULL_LINE}

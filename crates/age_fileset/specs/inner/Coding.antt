@@ -4,8 +4,8 @@ use Rattle.std.specs.Prelude.{get_or, unwrap_or}
 use Rattle.std.specs.Coded.{Coded, coded_ℕ, coded_bool, coded_list, coded_option, coded×, code_by}
 use Rattle.age_io.specs.declared.durability.Durability.TheVariants.{Synced, Buffered}
 use Rattle.age_fileset.specs.FileSet.{Event, Open, Prepare, Create, Make, Replace, Close, Reading}
-use Rattle.age_fileset.specs.FileSet.{Doings, Outcome, Found, FoundOrEmpty, Unread, Unwritten, Absent, Gave}
-use Rattle.age_fileset.specs.FileSet.{Settled, Put, Alike, OneStream, InUse, Terminal}
+use Rattle.age_fileset.specs.FileSet.{Doings, Outcome, Found, FoundOrEmpty, Unread, Unwritten, Absent, Present}
+use Rattle.age_fileset.specs.FileSet.{Gave, Settled, Put, Alike, OneStream, InUse, Terminal}
 
 abbrev coded_bytes : Coded (List ℕ)
 coded_bytes = coded_list coded_ℕ
@@ -61,6 +61,7 @@ cut (Unwritten name) = texts 9 name []
 cut (Absent name) = texts 10 name []
 cut (InUse name) = texts 11 name []
 cut (Terminal name) = texts 12 name []
+cut (Present name) = texts 13 name []
 
 abbrev glue : Pieces → Outcome
 glue (which, ((one, other), ((left, size), (names, (is_at_end, failing))))) =
@@ -69,7 +70,7 @@ glue (which, ((one, other), ((left, size), (names, (is_at_end, failing))))) =
     get_or {A = Outcome} (Found one left size ∷ FoundOrEmpty one left size ∷ Gave read
     ∷ Settled Synced one (unwrap_or size 0) ∷ Settled Buffered one (unwrap_or size 0) ∷ OneStream names
     ∷ Put one other ∷ Alike one other ∷ Unread one ∷ Unwritten one ∷ Absent one ∷ InUse one
-    ∷ Terminal one ∷ []) which (Unread one)
+    ∷ Terminal one ∷ Present one ∷ []) which (Unread one)
 
 pub glue-cut : (o : Outcome) → glue (cut o) ≡ o
 glue-cut (Settled Synced took size) = refl

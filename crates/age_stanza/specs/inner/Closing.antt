@@ -1,7 +1,7 @@
 -- What a step leaves of a parser that isn't open any more. Private: no public contract cites this
 -- module.
 use Rattle.std.specs.Prelude.{Option, Some, None, Result, Ok, Err}
-use Rattle.age_stanza.specs.declared.fault.HeadFault.{HeadFault}
+use Rattle.age_fault.specs.declared.head.HeadFault.{HeadFault}
 use Rattle.age_stanza.specs.declared.head_step.HeadStep.{HeadStep}
 use Rattle.age_stanza.specs.declared.head_step.HeadStep.TheVariants.{More, Ready}
 use Rattle.age_stanza.specs.declared.parser.State.{State}

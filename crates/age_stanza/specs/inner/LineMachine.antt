@@ -11,13 +11,14 @@ use Rattle.base64.specs.GeneralPurpose.{decode_of, IsBytes}
 use Rattle.base64.specs.Engines.{standard_no_pad}
 use Rattle.age_stanza.specs.Grammar.{version, line, IsArgument, argument_line, IsStanza}
 use Rattle.age_stanza.specs.Grammar.{header_limit, HeadText, Spells}
-use Rattle.age_stanza.specs.Parsing.{armor, memory_fault, IsLine, AreLines, stanzas_text}
+use Rattle.age_stanza.specs.Parsing.{armor, IsLine, AreLines, stanzas_text}
 use Rattle.age_stanza.specs.Parsing.{line_after, HasHeader, IsFault}
 use Rattle.age_stanza.specs.Text.{base64_text}
-use Rattle.age_stanza.specs.declared.fault.HeadFault.{HeadFault}
-use Rattle.age_stanza.specs.declared.fault.HeadKind.{HeadKind}
-use Rattle.age_stanza.specs.declared.fault.HeadKind.TheVariants.{NotAge, Armored, BadStanzaLine, BadBody}
-use Rattle.age_stanza.specs.declared.fault.HeadKind.TheVariants.{BadEndLine, NoStanza, Memory}
+use Rattle.age_fault.specs.{memory_fault}
+use Rattle.age_fault.specs.declared.head.HeadFault.{HeadFault}
+use Rattle.age_fault.specs.declared.head.HeadKind.{HeadKind}
+use Rattle.age_fault.specs.declared.head.HeadKind.TheVariants.{NotAge, Armored, BadStanzaLine, BadBody}
+use Rattle.age_fault.specs.declared.head.HeadKind.TheVariants.{BadEndLine, NoStanza, Memory}
 use Rattle.age_stanza.specs.declared.head_step.HeadStep.{HeadStep}
 use Rattle.age_stanza.specs.declared.head_step.HeadStep.TheVariants.{More, Ready}
 use Rattle.age_stanza.specs.declared.header.Header.{Header}

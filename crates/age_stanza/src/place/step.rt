@@ -6,10 +6,10 @@ ghost use Rattle.age_stanza.specs.inner.{mac_of as spec_mac_of, AddsLine, argume
 use super::{ARMOR, ARMOR_CR, Next, Place};
 use crate::argument::Arguments;
 use crate::argument_line::arguments_of;
-use crate::fault::HeadKind;
 use crate::header::{Header, Stanza, Stanzas};
 use crate::lengths::{COLUMNS, LINE_BYTES, VERSION};
 use crate::text::{decode_line, mac_of};
+use age_fault::HeadKind;
 use age_io::Bytes;
 use std::alloc::Global;
 

@@ -1,5 +1,5 @@
 use Rattle.std.proofs.Common.{◌++◌, ◌∷◌, [], List, refl, None}
-use Rattle.age_file.specs.{ports}
+use Rattle.age_intake.specs.{ports}
 use Rattle.age_fileset.specs.{Event, Open, Outcome, CameSince}
 use Rattle.age_fileset.proofs.{came_then, does_then}
 use Rattle.age_cli_args.specs.{option_text}
@@ -33,7 +33,7 @@ returns-clause-acts g c =
     let before = ports (g.F.In.Source.view source) (g.F.Out.Sink.view c.in_ok-source.out) in
     let did = does_then xs (ys ++ creating d.paths.clobber d.paths.to.now ∷ []) _ _ _ judged.1 both.1 in
     let run = c.decrypt_ready.ensures.runs old (did_came did) tt in
-    let grows = concluded (option_text d.save) d.paths.durability run.after.sink run.end mid new c.decrypt_ready.result run.concludes in
+    let grows = concluded (option_text d.save) d.paths.durability run.after.sink run.end run.place mid new c.decrypt_ready.result run.concludes in
     let last : (o : Outcome) → CameSince old mid o → CameSince old new o = came_then grows.puts old mid new grows.grows in
     acts_engine _ (Decrypt d) old mid new _ _ _ _ d.paths before c.decrypt_ready.result xs ys (g.F.FileSet.size source)
     (record { source = source; sink = c.in_ok-source.out; is = refl }) both.0.0 (last _ (did_came judged.1 _ both.0.3)) (λ refused. last _ (did_came judged.1 _ (both.0.4 refused)))

@@ -1,6 +1,6 @@
-use Rattle.std.proofs.Common.{◌≡◌, ◌∙◌, ap, [], ◌∷◌, refl}
+use Rattle.std.proofs.Common.{◌≡◌, ◌∙◌, ap, sym, [], ◌∷◌, refl}
 use Rattle.std.specs.Prelude.{option_map}
-use Rattle.age_file.specs.{ports}
+use Rattle.age_intake.specs.{ports}
 use Rattle.age_fileset.specs.{CameSince, Gave, Outcome, reading_of}
 use Rattle.age_fileset.proofs.{came_one, came_then, does_only, does_then, gave_puts}
 use Rattle.age_cli_args.specs.{option_text}
@@ -21,7 +21,8 @@ returns-clause-runs g c = λ begin later fresh.
     let w = c.args.writing.now in
     let sink = Out once.result.out in
     let settle = c.settle_end-settled in
-    let engine = c.placed_end-engine.result in
+    let place = c.place_of-place in
+    let engine = c.end_of-engine.result in
     let old = view c.args.files.now in
     let told = view c.finish_old.new.files in
     let first = view c.finish.new.self in
@@ -34,7 +35,7 @@ returns-clause-runs g c = λ begin later fresh.
     let did = does_only told first (gave ∷ []) is (gave_puts (reading_of w.paths.from.now (In once.result.source))) in
     let read = does_then [] [] old told first c.finish_old.ensures.does did in
     let ended = rw settle.ensures.same at c.end_output.ensures.concludes in
-    let grows = concluded (option_text w.save) w.paths.durability sink engine mid new c.end_output.result ended in
+    let grows = concluded (option_text w.save) w.paths.durability sink engine place.result mid new c.end_output.result ended in
     let last : (o : Outcome) → CameSince old mid o → CameSince old new o = came_then grows.puts old mid new grows.grows in
     let since : (o : Outcome) → CameSince first mid o → CameSince old new o = λ o came. last o (did_came read o came) in
     let fresher : (o : Outcome) → CameSince begin old o → CameSince begin new o = λ o came.
@@ -46,6 +47,7 @@ returns-clause-runs g c = λ begin later fresh.
     (In ready.source) (In once.result.source)) old new later
     (last gave (came_did settle.ensures.does gave (did_came c.finish_old.ensures.does gave (came_one told first gave (ap (λ v. v.outcomes) is))))) (now ≡ was)
     (λ coming left. ShowsRun (size ready.source) coming left (shown was) (shown now)) once.ensures.silent once.ensures.shown once.result.end once.result.marks
-    settle.result engine c.end_output.result once.ensures.decrypts (rw c.start_of-start.ensures at c.placed_end-engine.ensures)
-    (λ failed there. since _ (settle.ensures.certain (c.is_err.ensures.value ∙ failed) there))
-    (concludes_from (option_text w.save) w.paths.durability sink old mid new (does_then [] [] old first mid read settle.ensures.does) engine c.end_output.result ended)
+    place.result c.end_output.result once.ensures.decrypts (rw (c.start_of-start.ensures, sym place.ensures.settled) at place.ensures.placed)
+    (λ saves. since _ (rw (sym place.ensures.settled) at (settle.ensures.certain saves)))
+    (rw c.end_of-engine.ensures at (concludes_from (option_text w.save) w.paths.durability sink place.result old mid new
+    (does_then [] [] old first mid read settle.ensures.does) engine c.end_output.result ended))

@@ -1,6 +1,6 @@
-use Rattle.std.proofs.Common.{◌≡◌, ◌⊎◌, ◌++◌, ◌∷◌, [], ap, inl, inr, refl, subst, None, Some, List, Result}
+use Rattle.std.proofs.Common.{◌≡◌, ◌⊎◌, ◌++◌, ◌∷◌, [], ap, inl, inr, refl, subst, None, Some, List}
 use Rattle.clap.specs.Words.{Text}
-use Rattle.age_file.specs.{ports}
+use Rattle.age_intake.specs.{ports}
 use Rattle.age_fileset.specs.{Event, FilesView, Open, Outcome, CameSince, Does, Gave, reading_of}
 use Rattle.age_fileset.proofs.{all_as, came_one, came_then, does_only, does_then, gave_puts, given_as}
 use Rattle.age_cli_args.specs.{option_text}
@@ -11,10 +11,10 @@ use Rattle.age_command.specs.declared.ending.Ending.{Ending}
 use Rattle.age_command.specs.declared.ending.Usage.TheVariants.{SameFile}
 use Rattle.age_command.specs.Orders.{writing_order}
 use Rattle.age_command.specs.declared.ending.Ending.TheVariants.{Usage}
-use Rattle.age_cli.specs.{IsUnusable, NamesOne, encrypt_engine, Interruption}
-use Rattle.age_cli.specs.inner.{Concludes, EndsBy, FailsEarly, IsMaterialGiven, LacksMaterial, sealing_end, secret_of}
+use Rattle.age_cli.specs.{IsUnusable, NamesOne, encrypt_engine}
+use Rattle.age_cli.specs.inner.{EndsBy, FailsEarly, IsMaterialGiven, LacksMaterial, sealing_end, secret_of}
 use Rattle.age_cli.specs.declared.encrypt_command.Material.{Material}
-use Rattle.age_cli.proofs.{acts_judged, acts_unopened, came_did, concluded, acts_engine, did_came, fails_then, runs_sealed, unopened_as}
+use Rattle.age_cli.proofs.{acts_judged, acts_unopened, came_did, concluded, acts_engine, did_came, fails_then, nowhere, runs_sealed, unopened_as}
 use Rattle.age_cli.proofs.encrypt_command.encrypt_file.Goals as goal
 
 -- by the name of the random bytes
@@ -65,8 +65,8 @@ returns-clause-acts g c =
     let over = c.finish.ensures.over a.paths.from.now (run.ensures.began a.paths.from.now both.0.1.1) in
     let ended : Does [] opened mid = does_only opened mid (gave ∷ []) over (gave_puts (reading_of a.paths.from.now (In run.result.source))) in
     let all = does_then xs (ys ++ creating a.paths.clobber a.paths.to.now ∷ []) _ _ _ made.1 both.1 in
-    let concludes = subst (λ (n : Result (Unit {0}) Interruption). Concludes None a.paths.durability after.sink n mid new c.end_output.result) c.sealing_end.ensures did in
-    let grows = concluded None a.paths.durability after.sink (sealing_end run.result.end) mid new c.end_output.result concludes in
+    let concludes = rw (c.sealing_end.ensures, c.nowhere.ensures) at did in
+    let grows = concluded None a.paths.durability after.sink (sealing_end run.result.end) nowhere mid new c.end_output.result concludes in
     let last : (o : Outcome) → CameSince old mid o → CameSince old new o = came_then grows.puts old mid new grows.grows in
     let then : (o : Outcome) → CameSince old opened o → CameSince old new o = λ o came. last o (came_did ended o came) in
     let given : (o : Outcome) → CameSince old _ o → CameSince old new o = λ o came. then o (came_did both.1 o came) in

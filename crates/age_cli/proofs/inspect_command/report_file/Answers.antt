@@ -4,7 +4,7 @@ use Rattle.age_io.specs.{Named}
 use Rattle.age_fileset.specs.{Open, Found}
 use Rattle.age_fileset.proofs.{opened_does, opened_came, found_plain}
 use Rattle.age_cli.proofs.{over_does, was_read, fails_as, whole_report}
-use Rattle.age_file.specs.{HeadFails, NoHeadFault}
+use Rattle.age_intake.specs.{HeadFails, NoHeadFault}
 use Rattle.age_cli.specs.{FailsFile}
 use Rattle.age_cli.proofs.inspect_command.report_file.Goals as goal
 

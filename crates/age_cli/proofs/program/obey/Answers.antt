@@ -5,7 +5,7 @@ use Rattle.age_cli_args.specs.declared.request.Request.TheVariants.{Inspect, Enc
 use Rattle.age_fileset.specs.{CameSince}
 use Rattle.age_fileset.proofs.{does_none}
 use Rattle.age_command.specs.{IsUnreadable}
-use Rattle.age_file.specs.{HeadFails, NoHeadFault}
+use Rattle.age_intake.specs.{HeadFails, NoHeadFault}
 use Rattle.age_cli.specs.{FailsFile}
 use Rattle.age_cli.proofs.{some_words, no_words, obeyed, obeyed_none, asked_fails, for_help, help_done, help_fails, both_done, drill_acts, inspect_acts}
 use Rattle.age_cli.proofs.program.obey.Goals as goal

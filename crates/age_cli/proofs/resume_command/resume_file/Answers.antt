@@ -1,6 +1,7 @@
 use Rattle.std.proofs.Common.{None, ◌++◌, ◌∷◌, [], refl, Some, List, subst}
 use Rattle.clap.specs.Words.{Text}
-use Rattle.age_file.specs.{ports, position_text}
+use Rattle.age_intake.specs.{ports}
+use Rattle.age_position.specs.{position_text}
 use Rattle.age_fileset.specs.{Event, Open, Outcome, CameSince}
 use Rattle.age_fileset.proofs.{all_as, came_then, does_then, grows_by, grows_then}
 use Rattle.age_cli_args.specs.{option_text}
@@ -57,7 +58,7 @@ returns-clause-acts g c =
     let did = does_then xs (two ++ rest) _ _ _ judged.1 opened in
     let position = c.in_ok-old.old.position in
     let run = c.decrypt_ready.ensures.runs old (did_came did) (earlier.0.3.0, did_came judged.1 _ (came_did both.1 _ earlier.0.3.1)) in
-    let grows = concluded (option_text d.save) d.paths.durability run.after.sink run.end mid new c.decrypt_ready.result run.concludes in
+    let grows = concluded (option_text d.save) d.paths.durability run.after.sink run.end run.place mid new c.decrypt_ready.result run.concludes in
     let last : (o : Outcome) → CameSince old mid o → CameSince old new o = came_then grows.puts old mid new grows.grows in
     let later : (o : Outcome) → CameSince then mid o → CameSince old new o = λ o came. last o (did_came judged.1 o (did_came earlier.1 o came)) in
     acts_engine _ (Resume r) old mid new _ _ _ _ d.paths before c.decrypt_ready.result xs ys (g.F.FileSet.size source)

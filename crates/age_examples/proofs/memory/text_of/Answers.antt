@@ -1,6 +1,6 @@
 use Rattle.std.proofs.Common.{◌++◌, ap, ◌∙◌, None}
 use Rattle.age_io.specs.{Holding}
-use Rattle.age_file.specs.declared.position.PositionPolicy.TheVariants.{Kept}
+use Rattle.age_file.specs.{Kept}
 use Rattle.age_examples.proofs.memory.text_of.Goals as goal
 
 pub returns-in-Ok : goal.returns-in-Ok

@@ -1,4 +1,4 @@
-use Rattle.age_file.proofs.{whole}
+use Rattle.age_file.proofs.ThereAndBackLemmas.{whole}
 use Rattle.age_file.proofs.laws.age_file_is_whole.Goals as goal
 
 pub returns : goal.returns

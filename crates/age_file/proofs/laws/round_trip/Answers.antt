@@ -1,4 +1,4 @@
-use Rattle.age_file.proofs.{there_and_back}
+use Rattle.age_file.proofs.ThereAndBackLemmas.{there_and_back}
 use Rattle.age_file.proofs.laws.round_trip.Goals as goal
 
 pub returns : goal.returns

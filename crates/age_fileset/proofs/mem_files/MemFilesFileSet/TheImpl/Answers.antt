@@ -39,6 +39,9 @@ is_terminal-tells g x c = record { noted = grind (arith, common_steps); device =
 pub settle-tells : goal.settle-tells
 settle-tells g x c = record { noted = search rules; same = search rules; most = grind (arith, common_steps) }
 
+pub settled_so_far-tells : goal.settled_so_far-tells
+settled_so_far-tells g x c = record { noted = search rules; most = grind (arith, common_steps) }
+
 pub close-tells : goal.close-tells
 close-tells g x c = record { noted = grind (arith, common_steps); closed = grind (arith, common_steps); faults = search rules }
 

@@ -1,0 +1,3 @@
+pub mod Reports
+pub mod inner
+pub use Reports.{Inspects, IsReport}

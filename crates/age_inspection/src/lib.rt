@@ -1,0 +1,8 @@
+//! Reports what a file holds, without opening it.
+#![tactic(auto)]
+
+mod inspection;
+mod report;
+
+pub use inspection::{inspect, inspect_sized};
+pub use report::{Report, StanzaReport, StanzaReports};

@@ -1,0 +1,96 @@
+//! Reads the header at the beginning of a source.
+
+ghost use Rattle.std.specs.Prelude.{◌≡◌, ℕ, List, [], IfOk, IfErr};
+ghost use Rattle.age_intake.specs.Headers.{HeadFails, InHeader};
+ghost use Rattle.age_intake.specs.Pulls.{view_of_reader, SameReader, ReadsHead};
+ghost use Rattle.age_intake.specs.inner.{IsReading, IsFront, TakesFront, head_of};
+
+use crate::intake::Intake;
+use crate::reader::Reader;
+use age_fault::FileFault;
+use age_io::Source;
+use age_stanza::{HeadFault, HeadParser, HeadStep, Header};
+use sha2::{Digest, Sha256};
+use std::alloc::Global;
+
+/// A header that was read, the length of its text in bytes, and the digest that was fed the text.
+#[derive(Drop)]
+pub struct Head {
+    pub header: Header,
+    pub len: u64,
+    pub digest: Sha256,
+}
+
+/// The text of a header that is being read: what parses it, its length so far in bytes, and the
+/// digest that was fed it.
+#[derive(Drop)]
+struct HeadReader {
+    parser: HeadParser,
+    len: u64,
+    digest: Sha256,
+}
+
+impl HeadReader {
+    /// Nothing was read yet.
+    fn new(alloc: Global) -> HeadReader
+        ensures { IsFront result [] }
+    {
+        HeadReader {
+            parser: HeadParser::new(alloc),
+            len: 0,
+            digest: Sha256::new(),
+        }
+    }
+
+    /// The header of this text, with what was counted and hashed.
+    fn head(self, header: Header) -> Head
+        ensures { result ≡ head_of header self }
+    {
+        Head {
+            header,
+            len: self.len,
+            digest: self.digest,
+        }
+    }
+
+    /// Takes the bytes that were pulled, up to the header's end. Those after it stay.
+    fn take(&mut self, intake: &mut Intake) -> Result<Option<Header>, HeadFault>
+        requires { IsReading self.old }
+        ensures { (held : List ℕ) → IsFront self.old held
+            → TakesFront held intake.old intake.new self.new result }
+    {
+        let piece = intake.bytes();
+        match self.parser.feed(piece)? {
+            HeadStep::More => {
+                self.len += piece.len() as u64;
+                self.digest.update(piece);
+                intake.use_all();
+                Ok(None)
+            }
+            HeadStep::Ready { taken, header } => {
+                self.len += taken as u64;
+                self.digest.update(&piece[..taken]);
+                intake.use_front(taken);
+                Ok(Some(header))
+            }
+        }
+    }
+}
+
+/// Reads a header. The bytes that follow it and were pulled with it are left in the intake.
+pub fn read_head<S: Source>(alloc: Global, reader: &mut Reader<'_, S>) -> Result<Head, FileFault>
+    requires { (reader.old.intake.now.bytes ≡ []) × (reader.old.intake.now.pulls ≡ 0) }
+    ensures found { IfOk result (ReadsHead (S.view reader.old.source.now)
+        (view_of_reader S.view reader.new)) }
+    ensures fails { IfErr result (HeadFails InHeader (S.view reader.old.source.now)
+        (S.view reader.new.source.now)) }
+    ensures same { SameReader S.began reader.old reader.new }
+{
+    let mut front = HeadReader::new(alloc);
+    'pieces: while reader.intake.refill(reader.source)? {
+        if let Some(header) = front.take(reader.intake)? {
+            return Ok(front.head(header));
+        }
+    }
+    Err(FileFault::from(front.parser.end()))
+}

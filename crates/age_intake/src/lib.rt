@@ -1,0 +1,11 @@
+//! What the engines of age files read: the bytes that were pulled from a source and not used yet, and
+//! the header with which a file begins.
+#![tactic(auto)]
+
+mod head;
+mod intake;
+mod reader;
+
+pub use head::{Head, read_head};
+pub use intake::Intake;
+pub use reader::Reader;

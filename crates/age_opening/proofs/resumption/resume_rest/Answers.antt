@@ -1,0 +1,7 @@
+use Rattle.age_intake.specs.{view_of_reader}
+use Rattle.age_opening.proofs.resumption.resume_rest.Goals as goal
+
+pub open_payload-requires-clause-room : goal.open_payload-requires-clause-room
+open_payload-requires-clause-room g c =
+    let skipped = c.in_ok-skip_blocks.ensures.skipped in
+    c.requires.room (view_of_reader g.S.Source.view c.skip_blocks.new.reader) skipped.0 skipped.1 skipped.2

@@ -1,0 +1,183 @@
+//! Decrypts a file.
+
+ghost use Rattle.std.specs.Prelude.{◌≡◌, ◌<◌, None};
+ghost use Rattle.age_chunk.specs.{chunk_limit};
+ghost use Rattle.age_io.specs.{Origin};
+ghost use Rattle.age_intake.specs.{ports, SameReader};
+ghost use Rattle.age_position.specs.declared.position.PositionPolicy.TheVariants.{Kept};
+ghost use Rattle.age_opening.specs.Decrypts.{Decrypts, DecryptsMarked, from_start};
+ghost use Rattle.age_opening.specs.inner.{PositionAt, EndsAs, OpensPayload, HasPlace, stage_of};
+ghost use Rattle.age_position.specs.inner.{SameWriter};
+
+use crate::marks::Marks;
+use crate::payload::decrypt_payload;
+use crate::start::{Lent, Unlocked, start};
+use age_fault::FileFault;
+use age_intake::{Intake, Reader};
+use age_io::{Sink, Source};
+use age_keys::{Unlock, payload_key, position_key};
+use age_position::{Position, PositionPolicy, Tally, Writer};
+use std::alloc::Global;
+use thiserror::Error;
+
+/// A file was decrypted to its end, into this many bytes.
+#[derive(Clone, Copy, Debug, PartialEq, Eq)]
+pub struct Done {
+    /// How many bytes were written.
+    pub written: u128,
+}
+
+/// Why a decryption stopped, and how far it got.
+#[derive(Clone, Copy, Debug, PartialEq, Eq, Error)]
+#[error("stopped after {written} bytes: {fault}")]
+pub struct Stopped {
+    /// Why it stopped.
+    pub fault: FileFault,
+    /// How many bytes were written.
+    pub written: u128,
+    /// Where a reader may continue, once the payload nonce was read, and the old text of a resumed
+    /// decryption was found to be the position's: after the whole chunks before the last that were
+    /// written. `None` if positions are dropped.
+    pub position: Option<Position>,
+}
+
+impl Stopped {
+    /// A stop before anything was written.
+    pub(crate) fn early(fault: FileFault) -> Stopped
+        ensures { result ≡ record { fault = fault; written = 0; position = None } }
+    {
+        Stopped {
+            fault,
+            written: 0,
+            position: None,
+        }
+    }
+
+    /// A stop after what was written.
+    pub(crate) fn after(fault: FileFault, tally: &Tally, position: Option<Position>) -> Stopped
+        ensures { result ≡ record {
+          fault = fault;
+          written = tally.now.written;
+          position = position;
+        } }
+    {
+        Stopped {
+            fault,
+            written: tally.written,
+            position,
+        }
+    }
+}
+
+/// Where a reader of this file may continue, if a chain was kept.
+fn position_of(unlocked: &Unlocked, tally: &Tally) -> Option<Position>
+    ensures { PositionAt unlocked.now tally.now.index tally.now.chain result }
+{
+    match &tally.chain {
+        Some(links) => {
+            let key = position_key(&unlocked.key, &unlocked.nonce);
+            let chain = links.chain();
+            Some(Position::tagged(&key, tally.index, unlocked.id, chain))
+        }
+        None => None,
+    }
+}
+
+/// How a run ended: with what it wrote, and with the position of a stop, if a chain was kept.
+pub(crate) fn ended(
+    run: Result<(), FileFault>,
+    unlocked: &Unlocked,
+    tally: &Tally,
+) -> Result<Done, Stopped>
+    ensures { EndsAs unlocked.now tally.now run result }
+{
+    match run {
+        Ok(()) => Ok(Done {
+            written: tally.written,
+        }),
+        Err(fault) => {
+            let next = position_of(unlocked, tally);
+            Err(Stopped::after(fault, tally, next))
+        }
+    }
+}
+
+/// Opens the payload of a file from a chunk on, and returns how the run ended.
+pub(crate) fn open_payload<S: Source, O: Sink>(
+    unlocked: &Unlocked,
+    index: u64,
+    reader: &mut Reader<'_, S>,
+    writer: &mut Writer<'_, O>,
+) -> Result<Done, Stopped>
+    requires limit { index < chunk_limit }
+    requires room { HasPlace (stage_of S.view O.view reader.old writer.old) }
+    ensures opened { OpensPayload unlocked.now index
+        (stage_of S.view O.view reader.old writer.old)
+        (stage_of S.view O.view reader.new writer.new) result }
+    ensures same_reader { SameReader S.began reader.old reader.new }
+    ensures same_writer { SameWriter writer.old writer.new }
+{
+    let key = payload_key(&unlocked.key, &unlocked.nonce);
+    let run = decrypt_payload(&key, index, reader, writer);
+    ended(run, unlocked, &writer.tally)
+}
+
+/// Decrypts a file: opens its header, and writes each chunk of the text once the tag of its block
+/// was checked (<https://c2sp.org/age>). It reads to the end of the source, and flushes before it
+/// returns `Ok`. The position of a stop is handed out; [`decrypt_marked`] can do without.
+/// docs/LIBRARY.md has an example, `text_of`.
+///
+/// It stops with the header's fault (1 to 8), the unlocker's or a wrong header MAC (9 to 15),
+/// `NonceCut` (16), a fault of the payload (17 to 22), `Read` (26), `Write` (27), `Memory` (28) and
+/// `ReadNeverEnds` (29). If the bytes that it read have a fault of 1 to 22, it stops with that, not
+/// with 26 or 29. All memory is taken before the payload nonce is read, so if it is refused,
+/// nothing was written.
+pub fn decrypt<U: Unlock, S: Source, O: Sink>(
+    alloc: Global,
+    unlock: &U,
+    reader: &mut S,
+    writer: &mut O,
+) -> Result<Done, Stopped>
+    ensures decrypts { Decrypts Kept (U.allows unlock.now)
+        (from_start (U.allows unlock.now) (U.refuses unlock.now))
+        (ports (S.view reader.old) (O.view writer.old))
+        (ports (S.view reader.new) (O.view writer.new)) result }
+    ensures began { (from : Origin) → S.began reader.old from → S.began reader.new from }
+{
+    decrypt_marked(alloc, PositionPolicy::Kept, Lent { unlock }, reader, writer).0
+}
+
+/// Decrypts as [`decrypt`] does, and also returns the marks of the run, if it came to its payload and
+/// positions are kept. What opens the file is dropped before its payload is read.
+pub fn decrypt_marked<U: Unlock + Drop, S: Source, O: Sink>(
+    alloc: Global,
+    positions: PositionPolicy,
+    unlock: U,
+    reader: &mut S,
+    writer: &mut O,
+) -> (Result<Done, Stopped>, Option<Marks>)
+    ensures decrypts { DecryptsMarked positions (U.allows unlock)
+        (from_start (U.allows unlock) (U.refuses unlock))
+        (ports (S.view reader.old) (O.view writer.old))
+        (ports (S.view reader.new) (O.view writer.new)) result.0 result.1 }
+    ensures began { (from : Origin) → S.began reader.old from → S.began reader.new from }
+{
+    let Ok(mut intake) = Intake::new(alloc) else {
+        return (Err(Stopped::early(FileFault::Memory)), None);
+    };
+    let mut reader = Reader {
+        source: reader,
+        intake: &mut intake,
+    };
+    let unlocked = match start(alloc, unlock, &mut reader) {
+        Ok(unlocked) => unlocked,
+        Err(fault) => return (Err(Stopped::early(fault)), None),
+    };
+    let tally = Tally::new(positions);
+    let mut writer = Writer {
+        sink: writer,
+        tally,
+    };
+    let result = open_payload(&unlocked, 0, &mut reader, &mut writer);
+    (result, Marks::of(&unlocked, &writer.tally))
+}

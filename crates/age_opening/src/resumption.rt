@@ -1,0 +1,202 @@
+//! Continues a decryption that stopped.
+
+ghost use Rattle.std.specs.Prelude.{◌≡◌, ◌<◌, [], IfOk, IfErr};
+ghost use Rattle.age_chunk.specs.{chunk_limit};
+ghost use Rattle.age_io.specs.{Origin};
+ghost use Rattle.age_opening.specs.inner.{VerdictOn, StartsFor, StartForFails, HasRoomAfter};
+ghost use Rattle.age_opening.specs.inner.{ResumesRest, stage_of, CopiesOld};
+ghost use Rattle.age_intake.specs.{view_of_reader, SameReader, ports};
+ghost use Rattle.age_position.specs.inner.{view_of_writer, SameWriter};
+ghost use Rattle.age_position.specs.{chain_if};
+ghost use Rattle.age_opening.specs.Decrypts.{Decrypts, DecryptsMarked};
+ghost use Rattle.age_opening.specs.Resumes.{from_position, resumption};
+ghost use Rattle.age_position.specs.declared.position.PositionPolicy.TheVariants.{Kept};
+
+use crate::copy::copy_chunks;
+use crate::decryption::{Done, Stopped, open_payload};
+use crate::marks::Marks;
+use crate::start::{Lent, Unlocked, skip_blocks, start};
+use age_fault::FileFault;
+use age_intake::{Intake, Reader};
+use age_io::{Sink, Source};
+use age_keys::{Unlock, position_key};
+use age_position::{Position, PositionPolicy, Tally, Writer, tag_of};
+use std::alloc::Global;
+
+/// Whether a position is this file's, and was made under its key.
+fn verify(unlocked: &Unlocked, position: &Position) -> Result<(), FileFault>
+    ensures { VerdictOn position.now unlocked.now.id unlocked.now.key unlocked.now.nonce result }
+{
+    if position.file_id != unlocked.id {
+        return Err(FileFault::OtherFile);
+    }
+    let key = position_key(&unlocked.key, &unlocked.nonce);
+    let tag = tag_of(&key, position.index, &position.file_id, &position.chain);
+    if position.tag != tag {
+        return Err(FileFault::PositionForged);
+    }
+    Ok(())
+}
+
+/// Reads a file up to its payload, drops what opened it, and refuses a position that isn't its.
+fn start_for<U: Unlock + Drop, S: Source>(
+    alloc: Global,
+    unlock: U,
+    position: &Position,
+    reader: &mut Reader<'_, S>,
+) -> Result<Unlocked, FileFault>
+    requires { (reader.old.intake.now.bytes ≡ []) × (reader.old.intake.now.pulls ≡ 0) }
+    ensures found { IfOk result (StartsFor (U.allows unlock) position.now
+        (S.view reader.old.source.now) (view_of_reader S.view reader.new)) }
+    ensures fails { IfErr result (StartForFails (U.allows unlock) (U.refuses unlock)
+        position.now (S.view reader.old.source.now) (view_of_reader S.view reader.new)) }
+    ensures same { SameReader S.began reader.old reader.new }
+{
+    let unlocked = start(alloc, unlock, reader)?;
+    verify(&unlocked, position)?;
+    Ok(unlocked)
+}
+
+/// Copies the old text that a position was made for, before a file is read on: the pulls of both
+/// count together.
+fn copy_old<L: Source, O: Sink>(
+    positions: PositionPolicy,
+    position: &Position,
+    source: &mut L,
+    mut old_intake: Intake,
+    intake: &mut Intake,
+    writer: &mut Writer<'_, O>,
+) -> Result<(), FileFault>
+    requires unread { old_intake.bytes ≡ [] }
+    requires fresh { (writer.old.tally.written ≡ 0) × (writer.old.tally.index ≡ 0)
+        × (writer.old.tally.chain ≡ chain_if Kept []) }
+    ensures copied { CopiesOld positions position.now (L.view source.old) (L.view source.new)
+        intake.old intake.new (view_of_writer O.view writer.old) (view_of_writer O.view writer.new)
+        result }
+    ensures began { (from : Origin) → L.began source.old from → L.began source.new from }
+    ensures same_writer { SameWriter writer.old writer.new }
+{
+    old_intake.count_on(intake);
+    let mut reader = Reader {
+        source,
+        intake: &mut old_intake,
+    };
+    copy_chunks(&mut reader, position.index, writer)?;
+    intake.count_on(reader.intake);
+    if writer.tally.chain_now() != Some(position.chain) {
+        return Err(FileFault::OldTextDiffers);
+    }
+    writer.tally.keep(positions);
+    Ok(())
+}
+
+/// Skips the blocks of the old text, and decrypts the payload from there on.
+fn resume_rest<S: Source, O: Sink>(
+    unlocked: &Unlocked,
+    index: u64,
+    reader: &mut Reader<'_, S>,
+    writer: &mut Writer<'_, O>,
+) -> Result<Result<Done, Stopped>, FileFault>
+    requires limit { index < chunk_limit }
+    requires room { HasRoomAfter index (stage_of S.view O.view reader.old writer.old) }
+    ensures resumes { ResumesRest unlocked.now index
+        (stage_of S.view O.view reader.old writer.old)
+        (stage_of S.view O.view reader.new writer.new) result }
+    ensures same_reader { SameReader S.began reader.old reader.new }
+    ensures same_writer { SameWriter writer.old writer.new }
+{
+    skip_blocks(reader, index)?;
+    Ok(open_payload(unlocked, index, reader, writer))
+}
+
+/// Continues a decryption that stopped: opens the file's header, copies the earlier output up to
+/// the position, skips the blocks of that text, and writes each later chunk once the tag of its
+/// block was checked. What was written in the end is the whole text, not only its rest.
+///
+/// Up to the payload nonce it stops as [`decrypt`](crate::decrypt) does. Then it stops with
+/// `OtherFile` (24) if the position belongs to another file, and with `PositionForged` (30) if its
+/// tag wasn't made under the file's key; nothing was written. `ShortText` (25) means that the
+/// earlier output ended before the position, and `OldTextDiffers` (31) that its chunks aren't those
+/// that the position was made for; what was copied stays. `Truncated` (20), with its chunk, means
+/// that the source ends in the blocks that are skipped. Otherwise it stops as `decrypt` does. A
+/// position is handed out once the earlier output was found to be the position's; of a stop in the
+/// blocks that are skipped it is `position`. All memory is taken before the payload nonce is read.
+pub fn resume<U: Unlock, S: Source, L: Source, O: Sink>(
+    alloc: Global,
+    unlock: &U,
+    position: &Position,
+    reader: &mut S,
+    old_reader: &mut L,
+    writer: &mut O,
+) -> Result<Done, Stopped>
+    ensures resumes { Decrypts Kept (U.allows unlock.now)
+        (from_position (U.allows unlock.now) (U.refuses unlock.now) (resumption position.now
+        (L.view old_reader.old) (L.view old_reader.new)))
+        (ports (S.view reader.old) (O.view writer.old))
+        (ports (S.view reader.new) (O.view writer.new)) result }
+    ensures began { (from : Origin) → S.began reader.old from → S.began reader.new from }
+    ensures old_began { (from : Origin) → L.began old_reader.old from
+        → L.began old_reader.new from }
+{
+    let (keep, unlock) = (PositionPolicy::Kept, Lent { unlock });
+    resume_marked(alloc, keep, unlock, position, reader, old_reader, writer).0
+}
+
+/// Resumes as [`resume`] does, and also returns the marks of the run, if it came to its payload and
+/// positions are kept. What opens the file is dropped before the earlier output is copied.
+pub fn resume_marked<U: Unlock + Drop, S: Source, L: Source, O: Sink>(
+    alloc: Global,
+    positions: PositionPolicy,
+    unlock: U,
+    position: &Position,
+    reader: &mut S,
+    old_reader: &mut L,
+    writer: &mut O,
+) -> (Result<Done, Stopped>, Option<Marks>)
+    ensures resumes { DecryptsMarked positions (U.allows unlock)
+        (from_position (U.allows unlock) (U.refuses unlock) (resumption position.now
+        (L.view old_reader.old) (L.view old_reader.new)))
+        (ports (S.view reader.old) (O.view writer.old))
+        (ports (S.view reader.new) (O.view writer.new)) result.0 result.1 }
+    ensures began { (from : Origin) → S.began reader.old from → S.began reader.new from }
+    ensures old_began { (from : Origin) → L.began old_reader.old from
+        → L.began old_reader.new from }
+{
+    let (Ok(mut intake), Ok(old_intake)) = (Intake::new(alloc), Intake::new(alloc)) else {
+        return (Err(Stopped::early(FileFault::Memory)), None);
+    };
+    let mut reader = Reader {
+        source: reader,
+        intake: &mut intake,
+    };
+    let unlocked = match start_for(alloc, unlock, position, &mut reader) {
+        Ok(unlocked) => unlocked,
+        Err(fault) => return (Err(Stopped::early(fault)), None),
+    };
+    let tally = Tally::new(PositionPolicy::Kept);
+    let mut writer = Writer {
+        sink: writer,
+        tally,
+    };
+    match copy_old(
+        positions,
+        position,
+        old_reader,
+        old_intake,
+        reader.intake,
+        &mut writer,
+    ) {
+        Ok(()) => {}
+        Err(fault) => {
+            let stopped = Stopped::after(fault, &writer.tally, None);
+            return (Err(stopped), None);
+        }
+    }
+    match resume_rest(&unlocked, position.index, &mut reader, &mut writer) {
+        Ok(result) => { (result, Marks::of(&unlocked, &writer.tally)) }
+        Err(fault) => {
+            let stopped = Stopped::after(fault, &writer.tally, Some(*position));
+            (Err(stopped), None)
+        }
+    }
+}

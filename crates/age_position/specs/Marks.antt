@@ -1,0 +1,28 @@
+-- The marks of a chain.
+use Rattle.std.specs.Prelude.{◌≡◌, ◌⊎◌, ◌≤◌, ◌<◌, ◌+◌, ◌*◌, ◌^◌, ℕ, List, length, take}
+use Rattle.std.specs.Prelude.{slice_index_or}
+use Rattle.age_chunk.specs.{chunk_length}
+use Rattle.age_position.specs.Bindings.{chain}
+use Rattle.age_position.specs.declared.links.Mark.{Mark}
+use Rattle.age_position.specs.declared.links.Pair.{Pair}
+
+-- a mark has the chain over the first of these chunks
+pub record IsMark (chunks : List (List ℕ)) (m : Mark) : Type 0 where
+  pub few : m.index ≤ length chunks
+  pub chain_is : m.chain ≡ chain (take m.index chunks)
+
+-- and these are no more than this many bytes
+abbrev pub IsMarkWithin : List (List ℕ) → ℕ → Mark → Type 0
+IsMarkWithin chunks bytes m = IsMark chunks m × (m.index * chunk_length ≤ bytes)
+
+-- a pair has the last two marks at its distance
+pub record IsPair (chunks : List (List ℕ)) (p : Pair) : Type 0 where
+  pub last : IsMark chunks p.last
+  pub before : IsMark chunks p.before
+  pub recent : length chunks < p.last.index + p.distance
+  pub apart : (p.before.index + p.distance ≡ p.last.index) ⊎ ((p.last.index ≡ 0) × (p.before.index ≡ 0))
+
+-- the distances of these pairs are the powers of two
+abbrev pub ArePairs : List (List ℕ) → List Pair → Type 0
+ArePairs chunks pairs = (k : ℕ) (d : Pair) → k < length pairs
+    → IsPair chunks (slice_index_or pairs k d) × ((slice_index_or pairs k d).distance ≡ 2 ^ k)

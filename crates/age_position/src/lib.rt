@@ -1,0 +1,17 @@
+//! Positions: how far a run over an age file has come, and where another can continue after a stop.
+//!
+//! A [`Tally`] counts what a [`Writer`]'s sink took, and keeps the chain over the text's chunks. A
+//! [`Position`] stands after some of these, and is bound to the file and to the text before it.
+#![tactic(auto)]
+
+mod chunk_tape;
+mod links;
+mod position;
+mod position_text;
+mod tally;
+mod writer;
+
+pub use links::{Links, Mark};
+pub use position::{Position, PositionPolicy, file_id, tag_of};
+pub use tally::Tally;
+pub use writer::Writer;

@@ -1,0 +1,111 @@
+//! How far a run has come.
+
+ghost use Rattle.std.specs.Prelude.{◌≡◌, ◌<◌, ◌≤◌, ◌++◌, ◌+◌, List, ℕ, [], length, IfSome, option_map};
+ghost use Rattle.std.specs.Option.{ForSome};
+ghost use Rattle.sha2.specs.Hashers.{Holds256};
+ghost use Rattle.age_position.specs.Bindings.{chain};
+ghost use Rattle.age_position.specs.Chains.{chain_if, link_if};
+ghost use Rattle.age_position.specs.declared.position.PositionPolicy.TheVariants.{Kept};
+ghost use Rattle.age_chunk.specs.{chunk_limit};
+
+use crate::links::Links;
+use crate::position::PositionPolicy;
+use age_io::Tape;
+use sha2::{Digest, Sha256};
+
+/// How far a run has come: how many bytes it wrote, how many whole chunks before the last these
+/// make from the start of the text, and the chain over those, if positions are kept.
+#[derive(Drop)]
+pub struct Tally {
+    pub written: u128,
+    pub index: u64,
+    pub chain: Option<Links>,
+    ghost within: { index < chunk_limit },
+    ghost few: { ForSome chain (λ links. length links ≤ index) },
+}
+
+impl Tally {
+    ghost use Rattle.age_position.specs.Tallies.{AdvancesTally};
+
+    /// Nothing was written.
+    pub fn new(positions: PositionPolicy) -> Tally
+        ensures written { result.written ≡ 0 }
+        ensures index { result.index ≡ 0 }
+        ensures chain { result.chain ≡ chain_if positions [] }
+    {
+        let chain = match positions {
+            PositionPolicy::Kept => Some(Links::new()),
+            PositionPolicy::Dropped => None,
+        };
+        Tally {
+            written: 0,
+            index: 0,
+            chain,
+        }
+    }
+
+    /// Drops the chain if positions aren't kept.
+    pub fn keep(&mut self, positions: PositionPolicy)
+        ensures written { self.new.written ≡ self.old.written }
+        ensures index { self.new.index ≡ self.old.index }
+        ensures chain { (chunks : List (List ℕ)) → self.old.chain ≡ chain_if Kept chunks
+            → self.new.chain ≡ chain_if positions chunks }
+    {
+        match positions {
+            PositionPolicy::Kept => {}
+            PositionPolicy::Dropped => self.chain = None,
+        }
+    }
+
+    /// Counts a chunk that was written, unless it was the last of its text: a last chunk doesn't
+    /// raise the opener's index, and isn't linked.
+    pub fn count(&mut self, index: u64, chunk: &[u8])
+        requires { index < chunk_limit }
+        ensures same { self.new.written ≡ self.old.written }
+        ensures counted { AdvancesTally self.old.index self.old.chain index
+            (link_if self.old.chain chunk.now) self.new }
+    {
+        if index <= self.index {
+            return;
+        }
+        self.index = index;
+        if let Some(links) = &mut self.chain {
+            links.add(chunk);
+        }
+    }
+
+    /// The chain, if it is kept.
+    pub fn chain_now(&self) -> Option<[u8; 32]>
+        ensures { result ≡ option_map chain self.now.chain }
+    {
+        match &self.chain {
+            Some(links) => Some(links.chain()),
+            None => None,
+        }
+    }
+
+    /// A digest that was fed the chain, if there is one.
+    pub fn digest(&self) -> Sha256
+        ensures { IfSome self.now.chain (λ links. Holds256 result (chain links)) }
+    {
+        let mut digest = Sha256::new();
+        if let Some(links) = &self.chain {
+            digest.update(&links.chain());
+        }
+        digest
+    }
+
+    /// Counts a chunk, by a digest that was fed the chain and then the chunk.
+    pub fn count_fed(&mut self, digest: Sha256, chunk: &Tape)
+        requires limit { self.old.index + 1 < chunk_limit }
+        requires fed { IfSome self.old.chain (λ links. Holds256 digest (chain links ++ chunk.now)) }
+        ensures same { self.new.written ≡ self.old.written }
+        ensures index { self.new.index ≡ self.old.index + 1 }
+        ensures chain { self.new.chain ≡ link_if self.old.chain chunk.now }
+    {
+        self.index += 1;
+        if let Some(links) = &mut self.chain {
+            links.link(digest, chunk);
+        }
+    }
+}

@@ -1,0 +1,151 @@
+//! Encrypts a file under a passphrase.
+
+ghost use Rattle.std.specs.Prelude.{◌≡◌, IfOk, OnOk, IfErr, true};
+ghost use Rattle.age_io.specs.{Origin};
+ghost use Rattle.age_sealing.specs.Encrypts.{BeginsFile, Encrypts, EncryptFails, EncryptsFront};
+ghost use Rattle.age_sealing.specs.Encrypts.{IsFrontOf, SecretView};
+ghost use Rattle.age_sealing.specs.inner.{WritesFront};
+ghost use Rattle.age_position.specs.inner.{view_of_writer, SameWriter};
+ghost use Rattle.age_intake.specs.{ports};
+ghost use Rattle.age_fault.specs.declared.fault.FileFault.TheVariants.{Memory};
+
+use crate::sealing::seal_all;
+use crate::secret::Secret;
+use age_fault::{FileFault, write_all};
+use age_intake::{Intake, Reader};
+use age_io::{Sink, Source};
+use age_keys::{FileKey, PayloadKey, payload_key, scrypt_header};
+use age_position::{PositionPolicy, Tally, Writer};
+use age_stanza::encode_head;
+use std::alloc::Global;
+use std::marker::Model;
+
+/// How many bytes were read, and how many written.
+#[derive(Clone, Copy, Debug, PartialEq, Eq)]
+pub struct Written {
+    /// The length of the plaintext in bytes.
+    pub plain: u128,
+    /// The length of the age file in bytes.
+    pub file: u128,
+}
+
+/// What stands before the payload: the header's text and the payload nonce. It fails only if memory
+/// is refused.
+fn front_of(alloc: Global, secret: &Secret<'_>) -> Result<Vec<u8>, FileFault>
+    ensures front { IfOk result (λ v. BeginsFile secret.now v.items) }
+    ensures memory { IfErr result (λ fault. fault ≡ Memory) }
+{
+    let key = FileKey::new(secret.file_key);
+    let header = scrypt_header(alloc, secret.pass, secret.log, &secret.salt, &key)?;
+    let mut front = encode_head(alloc, &header)?;
+    front.extend_from_slice(&secret.payload_nonce)?;
+    Ok(front)
+}
+
+/// What the age file of each text begins with for a secret, the key of its payload, and the buffer
+/// for what is read: all that an encryption takes memory for. A contract sees the first two.
+#[derive(Drop)]
+pub struct Front {
+    bytes: Vec<u8>,
+    key: PayloadKey,
+    intake: Intake,
+}
+
+impl Model for Front {
+    ghost use Rattle.std.specs.Prelude.{◌≡◌, []};
+    ghost use Rattle.age_sealing.specs.Encrypts.{FrontView};
+
+    ghost Value = { FrontView };
+
+    ghost view = { λ f. record { bytes = f.bytes.items; key = f.key } };
+
+    ghost invariant = { λ f. (f.intake.bytes ≡ []) × (f.intake.pulls ≡ 0) };
+}
+
+impl Front {
+    /// Runs scrypt and makes the header. It refuses with [`FileFault::Memory`] (28) alone: the
+    /// passphrase's table takes `1,024 * 2^n` bytes for work factor n. The secret isn't needed for
+    /// what follows.
+    pub fn of(alloc: Global, secret: &Secret<'_>) -> Result<Front, FileFault>
+        ensures front { IfOk result (IsFrontOf secret.now) }
+        ensures memory { IfErr result (λ fault. fault ≡ Memory) }
+    {
+        let intake = Intake::new(alloc)?;
+        let bytes = front_of(alloc, secret)?;
+        let key = payload_key(&FileKey::new(secret.file_key), &secret.payload_nonce);
+        Ok(Front { bytes, key, intake })
+    }
+}
+
+/// Writes what stands before the payload.
+fn write_front<O: Sink>(front: &[u8], writer: &mut Writer<'_, O>) -> Result<(), FileFault>
+    requires { writer.old.tally.written ≡ 0 }
+    ensures wrote { WritesFront front.now (view_of_writer O.view writer.old)
+        (view_of_writer O.view writer.new) result }
+    ensures same { SameWriter writer.old writer.new }
+{
+    write_all(writer.sink, front, &mut writer.tally.written)
+}
+
+/// Encrypts all that a source gives, after what the file begins with, as [`encrypt`] does. It takes
+/// no memory, so it doesn't refuse with `Memory`.
+pub fn encrypt_after<S: Source, O: Sink>(
+    front: Front,
+    reader: &mut S,
+    writer: &mut O,
+) -> Result<Written, FileFault>
+    ensures done { (secret : SecretView) → IsFrontOf secret front → IfOk result (Encrypts secret
+        (ports (S.view reader.old) (O.view writer.old))
+        (ports (S.view reader.new) (O.view writer.new))) }
+    ensures fails { (secret : SecretView) → IsFrontOf secret front
+        → IfErr result (EncryptsFront secret (ports (S.view reader.old) (O.view writer.old))
+        (ports (S.view reader.new) (O.view writer.new))) }
+    ensures flushed { OnOk result ((O.view writer.new).flushed ≡ true) }
+    ensures began { (from : Origin) → S.began reader.old from → S.began reader.new from }
+{
+    let Front {
+        bytes,
+        key,
+        mut intake,
+    } = front;
+    let mut reader = Reader {
+        source: reader,
+        intake: &mut intake,
+    };
+    let mut writer = Writer {
+        sink: writer,
+        tally: Tally::new(PositionPolicy::Dropped),
+    };
+    write_front(bytes.as_slice(), &mut writer)?;
+    seal_all(&key, &mut reader, &mut writer)
+}
+
+/// Encrypts all that a source gives under a passphrase, into an age file (<https://c2sp.org/age>):
+/// the header with one scrypt stanza, the payload nonce, and the payload in chunks of 65,536 bytes.
+/// Flushes at the end.
+///
+/// It refuses with [`FileFault::Memory`] (28) before it reads or writes anything, with `Read` (26),
+/// `Write` (27) and `ReadNeverEnds` (29), and with `TooManyChunks` (22) if the source gave more
+/// than 2^64 bytes. What was written by then is a prefix of the age file of what was read. After 26
+/// and 29 its last block is missing, so it is never a whole file of a shorter text.
+///
+/// [`Front::of`] and [`encrypt_after`] do the same in two steps.
+///
+/// `age_vectors/src/stops.rt` encrypts, decrypts and resumes over memory.
+pub fn encrypt<S: Source, O: Sink>(
+    alloc: Global,
+    secret: &Secret<'_>,
+    reader: &mut S,
+    writer: &mut O,
+) -> Result<Written, FileFault>
+    ensures done { IfOk result (Encrypts secret.now (ports (S.view reader.old) (O.view writer.old))
+        (ports (S.view reader.new) (O.view writer.new))) }
+    ensures fails { IfErr result (EncryptFails secret.now
+        (ports (S.view reader.old) (O.view writer.old))
+        (ports (S.view reader.new) (O.view writer.new))) }
+    ensures flushed { OnOk result ((O.view writer.new).flushed ≡ true) }
+    ensures began { (from : Origin) → S.began reader.old from → S.began reader.new from }
+{
+    let front = Front::of(alloc, secret)?;
+    encrypt_after(front, reader, writer)
+}

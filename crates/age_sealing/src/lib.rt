@@ -1,0 +1,9 @@
+//! Encrypts a file under a passphrase, from any source to any sink.
+#![tactic(auto)]
+
+mod encryption;
+mod sealing;
+mod secret;
+
+pub use encryption::{Front, Written, encrypt, encrypt_after};
+pub use secret::Secret;
