@@ -324,6 +324,7 @@ class PythonTest(BindingsCase):
             run = self.command(*words, given=given)
             self.see(f"-m agefile: {what}", (run.returncode, run.stdout) == (want, out), run.returncode, run.stderr.decode()[-300:])
         self.see("-m agefile decrypt", self.path("back").read_bytes() == text)
+        self.inspections(self.read("made.age"))
         self.write("empty", b"\n")
         for words, status in (
             (("encrypt", "--pass", "pw", "--log", "23"), 2), (("encrypt", "--pass", "pw", "--log", "0"), 2), (("encrypt", "--pass", "empty"), 1),
@@ -368,6 +369,18 @@ class PythonTest(BindingsCase):
                 is_said = line.startswith("agefile: no passphrase") and "--pass" in line and line.count("\n") == 1
                 self.see(f"-m agefile {words} without a terminal", run.returncode == 1 and run.stdout == b"" and is_said, line)
         self.see("-m agefile encrypt without a passphrase made a file", not self.path("none.age").exists())
+
+    def inspections(self, file):
+        """python3 -m agefile inspect: what age_tool prints, of a file of 150,000 bytes of plaintext at work factor 1."""
+        head = b"version age-encryption.org/v1\nheader 149\nstanza scrypt 2 32\n"
+        for what, held, status, out in (
+            ("a file", file, 0, head + b"rest 150064\nplain 150000\n"), ("a part", file[:159], 0, head + b"rest 10\nplain none\n"),
+            ("a header", file[:149], 0, head + b"rest 0\nplain none\n"), ("a part of a header", file[:148], 1, b""), ("no age file", b"text\n", 1, b""),
+        ):
+            self.write("seen", held)
+            for name, given in (("seen", None), ("-", held)):
+                run = self.command("inspect", name, given=given)
+                self.see(f"-m agefile inspect {name}: {what}", (run.returncode, run.stdout) == (status, out), run)
 
     def command(self, *words, given=None, env=os.environ, **more):
         more = {"env": {**env, "PYTHONPATH": str(PYTHON)}, **(more or {"input": given})}

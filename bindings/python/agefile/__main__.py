@@ -1,4 +1,4 @@
-"""Encrypts, decrypts, resumes, tests and salvages age files: see `python3 -m agefile --help`."""
+"""Encrypts, decrypts, inspects, resumes, tests and salvages age files: see `python3 -m agefile --help`."""
 from __future__ import annotations
 
 import argparse
@@ -15,6 +15,7 @@ from typing import Any, Iterator
 import agefile
 from agefile import _keys, _library
 from agefile._arguments import WORK_MAX, secret
+from agefile._inspection import report_of
 from agefile._output import new_name, opened_alone, reach_disk, replacing
 from agefile._position import MOST, Position
 from agefile._recipients import beginning_of
@@ -221,6 +222,11 @@ def test(words: argparse.Namespace) -> None:
             pass
 
 
+def inspect(words: argparse.Namespace) -> None:
+    with source(words.input) as file:
+        print(report_of(file), end="", flush=True)
+
+
 def shared(words: argparse.Namespace) -> None:
     with source(words.input) as file:
         front = b""
@@ -251,7 +257,7 @@ def opened(file: Any, words: argparse.Namespace, random_access: bool = False) ->
 
 
 def words_of() -> argparse.Namespace:
-    top = argparse.ArgumentParser("python3 -m agefile", description="Encrypts, decrypts, resumes, tests and salvages age files. Only status 0 means that OUT "
+    top = argparse.ArgumentParser("python3 -m agefile", description="Encrypts, decrypts, inspects, resumes, tests and salvages age files. Only status 0 means that OUT "
                                   "is whole, and on the disk: after a fault it holds a checked beginning. - is standard input or output.")
     top.add_argument("--version", action="version", version=f"agefile {agefile.__version__} {agefile.__build__}")
     commands = top.add_subparsers(required=True, metavar="COMMAND")
@@ -284,6 +290,10 @@ def words_of() -> argparse.Namespace:
         if call is not test:
             command.add_argument("--no-clobber", action="store_true", help="refuse an OUT that is there")
             command.add_argument("output", metavar="OUT")
+    what = "show what the header of IN says, as age_tool inspect does"
+    command = commands.add_parser("inspect", help=what, description=what)
+    command.set_defaults(call=inspect)
+    command.add_argument("input", metavar="IN")
     what = "write the 64 bytes that age_tool's --shared takes, by which a key in KEYFILE opens IN"
     command = commands.add_parser("shared", help=what, description=f"{what}, to standard output")
     command.set_defaults(call=shared)
