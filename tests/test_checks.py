@@ -13,7 +13,7 @@ import unittest.mock
 from tests import counted, test_runs
 from tests.case import Case
 from tools import sources
-from tools.workspace import TOP, loaded
+from tools.workspace import TOP, loaded, with_room
 
 EMPTY = "import unittest\n\nclass EmptyTest(unittest.TestCase):\n    pass\n"
 LEFT_OUT = "import unittest\n\nclass LeftOutTest(unittest.TestCase):\n    @unittest.skip('needs %s')\n    def test_it(self): pass\n"
@@ -29,7 +29,10 @@ class ChecksTest(unittest.TestCase):
                 (folder / name).write_text((TOP / "tests" / name).read_text())
             (folder / "test_it.py").write_text(text)
             words = [sys.executable, "-m", "tests.counted", "test_it"]
-            return subprocess.run(words, cwd=made, capture_output=True, text=True, env=more).stdout.splitlines()[-1]
+            run = subprocess.run(words, cwd=made, capture_output=True, text=True, env=more)
+            last = run.stdout.splitlines()[-1]
+            self.assertEqual(run.returncode != 0, ", 0 failed," not in last)
+            return last
 
     def test_nothing_is_tried(self):
         self.assertEqual(self.said(EMPTY), "0 passed, 1 failed, 0 skipped")
@@ -93,9 +96,15 @@ class ChecksTest(unittest.TestCase):
             with self.subTest(said), contextlib.redirect_stdout(io.StringIO()), unittest.mock.patch.dict("os.environ"), unittest.mock.patch.multiple(check, **patched):
                 self.assertEqual(check.main(), failed != 0)
                 self.assertEqual(sorted(ran), files)
-        with contextlib.redirect_stdout(io.StringIO()), unittest.mock.patch.dict("os.environ"), unittest.mock.patch.multiple(
+        with contextlib.redirect_stdout(io.StringIO()) as shown, unittest.mock.patch.dict("os.environ"), unittest.mock.patch.multiple(
                 check, run_file=lambda it: "1 passed, 0 failed, 0 skipped\n" if it != files[0] else "", program=str, library=str, run_gate=lambda: (crates, edits, 0)):
             self.assertTrue(check.main())
+        # (the file that didn't come to its end, and that one file less ran)
+        self.assertTrue(shown.getvalue().endswith(f"{crates + edits + len(files) - 1} passed, 2 failed\n"), shown.getvalue()[-200:])
+
+    def test_room(self):
+        """A count may grow by 2 % until the next release, and by 1 at least."""
+        self.assertEqual([*map(with_room, (0, 5, 100, 1_000))], [1, 6, 102, 1_020])
 
     def transcript(self, text):
         """The cases of a transcript, with their lines joined."""

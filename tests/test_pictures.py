@@ -1,6 +1,6 @@
-"""The cuts that docs/cut.svg shows, made on a file: what age_tool says of each, and what it leaves in OUT."""
+"""The cuts that docs/cut.svg shows, and the faults that docs/resume.svg shows, made on a file: what age_tool says of each."""
 from tests.case import Case
-from tools.pictures import BLOCK, CHUNK, CUTS, LAST, NONCE, TAG
+from tools.pictures import BLOCK, CHUNK, CUTS, FAULTS, LAST, NONCE, STEPS, TAG
 
 
 class PicturesTest(Case):
@@ -18,3 +18,26 @@ class PicturesTest(Case):
             self.see(f"what is said, {cut.where}", said == f"age_tool: {cut.fault}\n".encode(), said)
             left = self.read("out") if self.is_there("out") else b""
             self.see(f"what is left, {cut.where}", left == text[: cut.left * CHUNK], len(left))
+
+    def test_resume(self):
+        """Each step of `resume` fails in turn, and at last none."""
+        text = bytes(range(256)) * (3 * CHUNK // 256) + b"more"
+        self.write("text", text)
+        self.write("pass", b"resume\n")
+        for name in ("age", "other"):
+            self.tool("encrypt", "--log", "1", "--pass", "pass", "text", name)
+        file, payload = self.read("age"), 149 + NONCE
+        self.write("in", file[: payload + 2 * BLOCK])
+        self.tool("decrypt", "--pass", "pass", "--save", "position", "in", "old")
+        saved, old = self.read("position"), self.read("old")
+        forged = saved[:-3] + bytes([saved[-3] ^ 1]) + saved[-2:]
+        given = {
+            23: ("position", b"no position\n"), 24: ("in", self.read("other")), 30: ("position", forged), 25: ("old", old[:-1]), 31: ("old", b"x" + old[1:]),
+            20: ("in", file[: payload + 2 * BLOCK - 1]), 17: ("in", file[: payload + 2 * BLOCK] + b"x" + file[payload + 2 * BLOCK + 1 :]), None: ("in", file),
+        }
+        self.see("all faults of the picture", {fault for _, fault in STEPS} == {*given} - {None})
+        for fault, (name, held) in given.items():
+            for it, right in (("in", file), ("position", saved), ("old", old)):
+                self.write(it, held if it == name else right)
+            said = self.tool("resume", "--position", "position", "--old", "old", "--pass", "pass", "in", "out").stderr
+            self.see(f"fault {fault}", said.startswith(f"age_tool: {fault} {FAULTS[fault]}".encode()) if fault else said == b"" and self.read("out") == text, said)

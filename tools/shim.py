@@ -21,4 +21,6 @@ def library():
 
 def loaded(**variables):
     """The environment of a program that it is loaded into."""
-    return {**os.environ, "LD_PRELOAD": str(library()), **{name: str(value) for name, value in variables.items()}}
+    # (checks/coverage loads one into all)
+    loads = " ".join(filter(None, (str(library()), os.environ.get("LD_PRELOAD"))))
+    return {**os.environ, "LD_PRELOAD": loads, **{name: str(value) for name, value in variables.items()}}
