@@ -1,9 +1,10 @@
-"""Draws docs/cut.svg, what a cut leaves of an age file, and docs/crates.svg, the crates with the way of a chunk through them.
+"""Draws docs/cut.svg, what a cut leaves of an age file, docs/resume.svg, what `resume` reads, copies and compares, docs/power.svg, what a power cut
+leaves, and docs/crates.svg, the crates with the way of a chunk through them.
 
 usage: python3 -m tools.pictures [--check]
 
 With --check it writes nothing, and fails if a picture isn't what it would write. The layers are those of crates.txt, and each crate has
-a few words here. The cuts are data, too: tests/test_pictures.py makes each of them, and compares what age_tool says and leaves.
+a few words here. The cuts, and the faults of `resume`, are data, too: tests/test_pictures.py makes each, and compares what age_tool says and leaves.
 """
 import sys
 import typing
@@ -116,30 +117,115 @@ def cut_picture():
     return svg(863, row + 34, parts)
 
 
+# What `resume` does, and the fault if that fails. The position is at chunk 2.
+STEPS = [
+    ("the position is read", 23), ("IN's header and nonce are read, and a key opens it; the position has to be of this file", 24), ("and unaltered, by its tag", 30),
+    ("the chunks before the position are copied from the earlier output", 25), ("the copy has to be what the position was saved for", 31),
+    ("the blocks before it are skipped in IN, unread if IN is a regular file", 20), ("each later chunk is opened, checked and written", 17),
+]
+# Where the number of each step stands: x and y.
+STEP_AT = [(744, 132), (180, 58), (744, 160), (290, 195), (430, 195), (360, 58), (570, 195)]
+
+
+def resume_picture():
+    parts = [text(20, 24, "age_tool resume, from a position at chunk 2: what is read, copied and compared", "start", 15, weight="bold")]
+    rows = (("IN", 58), ("--old", 128), ("OUT", 228))
+    for name, y in rows:
+        parts.append(text(20, y + 23, name, "start", weight="bold"))
+    x = 70
+    for width, kind, inside in ((110, "header", "header"), (40, "nonce", "nonce"), (140, "none", "block 0"), (140, "none", "block 1"), (140, "text", "block 2"), (100, "text", "last block")):
+        parts.append(box(x, 58, width, 36, FILL[kind], PALE, 'stroke-dasharray="4 3"' if kind == "none" else ""))
+        parts.append(text(x + width / 2, 80, inside))
+        x += width
+    for y, kinds in ((128, ("chunk 0", "chunk 1")), (228, ("chunk 0", "chunk 1", "chunk 2", "last chunk"))):
+        x = 220
+        for inside in kinds:
+            width = 100 if inside == "last chunk" else 140
+            parts.append(box(x, y, width, 36, FILL["text"]))
+            parts.append(text(x + width / 2, y + 22, inside))
+            x += width
+    # The copy, and what is opened.
+    for x, top in ((290, 164), (430, 164), (570, 94), (690, 94)):
+        parts.append(f'<line x1="{x}" y1="{top + 2}" x2="{x}" y2="222" stroke="#54aeff" stroke-width="5" opacity="0.7"/>')
+        parts.append(f'<path d="M {x - 7} 218 L {x} 227 L {x + 7} 218 Z" fill="#54aeff"/>')
+    parts.append(box(720, 112, 240, 68, "#fff8c5", PALE, 'rx="4"'))
+    parts.append(text(862, 133, "position: 2 chunks", size=12))
+    parts.append(text(862, 150, "id of the file, digest of", size=12))
+    parts.append(text(862, 167, "chunks 0 and 1, and a tag", size=12))
+    row = 300
+    for x, words in ((70, "in this order"), (640, "if that fails")):
+        parts.append(text(x, row, words, "start", 12, PALE))
+    for number, ((words, fault), at) in enumerate(zip(STEPS, STEP_AT), 1):
+        row += 26
+        for x, y in (at, (48, row - 5)):
+            parts.append(f'<circle cx="{x}" cy="{y}" r="10" fill="#0969da"/>')
+            parts.append(text(x, y + 4, number, size=12, fill="#ffffff", weight="bold"))
+        parts.append(text(70, row, words, "start"))
+        parts.append(text(640, row, f"{fault} {FAULTS[fault]}", "start", weight="bold"))
+    row += 26
+    parts.append(text(70, row, "nothing fails: OUT is the complete plaintext", "start"))
+    parts.append(text(640, row, "status 0", "start", weight="bold", fill="#1a7f37"))
+    return svg(980, row + 20, parts)
+
+
+FAULTS = {17: "ChunkDamaged", 20: "Truncated", 23: "BadPosition", 24: "OtherFile", 25: "ShortText", 30: "PositionForged", 31: "OldTextDiffers"}
+# The calls by which OUT is written in place, and a position beside its file, and what a power cut after each leaves: what was there, anything, or
+# all of the new bytes.
+WRITES = [
+    ("OUT", "written in place", [("opened", "old"), ("first bytes written", "any"), ("truncated after them", "any"), ("all written", "any"), ("disk waited for", "new"), ("closed: status 0", "new")]),
+    ("FILE of --save", "written beside, as FILE.new-0", [("room made", "old"), ("room filled", "old"), ("disk waited for", "old"), ("renamed to FILE", "both"), ("names waited for", "new"), ("\u201cposition saved\u201d", "new")]),
+]
+LEFT = {"old": ("what was there", "#ffffff"), "any": ("may hold anything", "#ffebe9"), "both": ("the old or the new one", "#fff8c5"), "new": ("all of the new bytes", "#dafbe1")}
+
+
+def power_picture():
+    parts = [text(20, 24, "What a power cut leaves after each call (without --no-sync, on a disk that answers as expected)", "start", 15, weight="bold")]
+    y, wide = 52, 138
+    for name, how, calls in WRITES:
+        parts.append(text(20, y + 14, name, "start", weight="bold"))
+        parts.append(text(32 + 9 * len(name), y + 14, how, "start", 12, PALE))
+        for number, (call, left) in enumerate(calls):
+            x = 20 + number * (wide + 6)
+            parts.append(box(x, y + 26, wide, 32, "#ddf4ff", PALE, 'rx="4"'))
+            parts.append(text(x + wide / 2, y + 46, call, size=12))
+            parts.append(f'<path d="M {x + wide / 2 + 4} {y + 60} l -10 14 h 6 l -6 14 l 14 -18 h -7 l 7 -10 Z" fill="{CUT}"/>')
+            parts.append(box(x, y + 92, wide, 32, LEFT[left][1]))
+            parts.append(text(x + wide / 2, y + 112, LEFT[left][0], size=10.5))
+        y += 150
+    for words in ("An OUT that may hold anything has no status 0: run the command again.",
+                  "Nothing of OUT is changed before a key was found and the first chunk checked.",
+                  "A position that was torn, as by --no-sync, is refused by its tag (30) or its form (23): decrypt again from the start."):
+        parts.append(text(20, y + 6, words, "start", 12, PALE))
+        y += 18
+    return svg(20 + 6 * (wide + 6) + 14, y + 8, parts)
+
+
 # What each crate is for, in two short lines.
 WORDS = {
     "age_kdf": ("HMAC, HKDF,", "PBKDF2"), "age_cipher": ("ChaCha20-Poly1305", "is RFC 8439's"), "age_stanza": ("one header, or", "one first fault"),
     "age_chunk": ("chunks, nonces,", "the box's law"), "age_io": ("source, sink, meter", ""),
     "age_scrypt": ("the RFC's key, and", "its count of steps"), "age_stream": ("THE HEADLINE:", "a prefix, or all"),
     "age_keys": ("which key opens", "a header; its MAC"),
-    "age_fault": ("one list of faults", ""), "age_c": ("the headline for", "callers in C"), "age_machine": ("what calls leave", "on a disk"),
-    "age_file": ("the headline for", "runs, also resumed"), "age_fileset": ("what became of", "a command's files"), "age_cli_args": ("what the words", "ask for"),
+    "age_fault": ("one list of faults", ""), "age_intake": ("what engines read,", "and the first fault"),
+    "age_position": ("where a run stands,", "and can go on"), "age_sealing": ("the age file", "of a text"), "age_inspection": ("what a file holds", ""),
+    "age_opening": ("the headline for", "runs, also resumed"), "age_c": ("the headline for", "callers in C"), "age_machine": ("what calls leave", "on a disk"),
+    "age_file": ("all engines,", "there and back"), "age_fileset": ("what became of", "a command's files"), "age_cli_args": ("what the words", "ask for"),
     "age_messages": ("what people read", "(tested)"), "age_disk": ("the machine's files", "(partly tested)"), "age_command": ("what the commands", "share"),
     "age_drill": ("drills: the headline", "shown"), "age_hints": ("advice after a run", "(tested)"), "age_cli": ("what status 0 means", "(the clause zero)"), "age_tool": ("main", ""),
 }
 # The way of a chunk, by crate: what happens there to it.
 WAY = [
-    ("age_disk", "bytes of IN are read;"), ("age_file", "they are handed on;"), ("age_stream", "a block is collected;"), ("age_keys", "it gets its key and nonce;"),
+    ("age_disk", "bytes of IN are read;"), ("age_opening", "they are handed on;"), ("age_stream", "a block is collected;"), ("age_keys", "it gets its key and nonce;"),
     ("age_cipher", "its tag is checked, and only then is it decrypted;"), ("age_fault", "all of the text is written,"), ("age_machine", "by calls that leave OUT on the disk."),
 ]
-CARRY = ("age_stream", "age_file", "age_c", "age_cli", "age_machine")
+CARRY = ("age_stream", "age_opening", "age_c", "age_cli", "age_machine")
 # How much of a crate is tested and not proved, as it is drawn.
 TESTED = {"age_hints": 1, "age_messages": 1, "age_disk": 0.4, "age_machine": 0.2}
 # Each crate's column, so that the way passes behind no other.
 COLUMN = {
-    "age_hints": 0, "age_drill": 1, "age_cli": 2, "age_tool": 3, "age_disk": 1, "age_command": 2, "age_messages": 3, "age_cli_args": 0, "age_file": 1, "age_fileset": 2,
-    "age_c": 0, "age_fault": 3, "age_machine": 4, "age_keys": 2, "age_scrypt": 0, "age_stream": 1,
-    "age_kdf": 0, "age_stanza": 1, "age_chunk": 2, "age_cipher": 3, "age_io": 4,
+    "age_hints": 0, "age_drill": 1, "age_cli": 2, "age_tool": 3, "age_disk": 1, "age_command": 2, "age_messages": 3, "age_cli_args": 0, "age_fileset": 2, "age_file": 3,
+    "age_c": 0, "age_opening": 1, "age_sealing": 2, "age_machine": 3, "age_inspection": 4, "age_intake": 0, "age_keys": 2, "age_position": 4,
+    "age_scrypt": 0, "age_stream": 1, "age_fault": 3, "age_stanza": 4, "age_kdf": 0, "age_chunk": 1, "age_cipher": 2, "age_io": 4,
 }
 
 
@@ -204,7 +290,8 @@ def crates_picture():
 
 
 def main():
-    made = {"docs/cut.svg": cut_picture(), "docs/crates.svg": crates_picture()}
+    made = {"cut": cut_picture, "resume": resume_picture, "power": power_picture, "crates": crates_picture}
+    made = {f"docs/{name}.svg": draw() for name, draw in made.items()}
     if "--check" in sys.argv[1:]:
         sys.exit("\n".join(f"{it}: not what tools/pictures.py draws" for it, drawn in made.items() if (TOP / it).read_text() != drawn) or None)
     for name, drawn in made.items():
