@@ -15,13 +15,13 @@ use Rattle.age_cli_args.specs.declared.request.ClobberOption.TheVariants.{Refuse
 use Rattle.age_cli_args.specs.declared.request.Paths.{Paths}
 use Rattle.age_command.specs.{Follows}
 use Rattle.age_command.specs.declared.ending.Ending.{Ending}
-use Rattle.age_machine.specs.{EndedFile, OutFile, TouchesItself, TouchesFile, FileCall, Opened, opening_of, is_waited, AllAnswered}
-use Rattle.age_machine.specs.declared.machine.Kind.TheVariants.{Regular}
-use Rattle.age_machine.specs.declared.in_place.Opening.{Opening}
-use Rattle.age_machine.specs.declared.in_place.Opening.TheVariants as way
-use Rattle.age_machine.specs.Disk.{Disk}
-use Rattle.age_machine.specs.Ends.{OpensDevice}
-use Rattle.age_machine.proofs.LawLemmas.{calls_answered}
+use Rattle.age_calls.specs.{EndedFile, OutFile, TouchesItself, TouchesFile, FileCall, Opened, opening_of, is_waited, AllAnswered}
+use Rattle.age_calls.specs.declared.opening.Kind.TheVariants.{Regular}
+use Rattle.age_calls.specs.declared.opening.Opening.{Opening}
+use Rattle.age_calls.specs.declared.opening.Opening.TheVariants as way
+use Rattle.age_calls.specs.Disk.{Disk}
+use Rattle.age_calls.specs.Ends.{OpensDevice}
+use Rattle.age_calls.proofs.LawLemmas.{calls_answered}
 use Rattle.age_cli.specs.Acts.{IsAnsweredOnce, Stopping, Unended}
 use Rattle.age_cli.specs.{WasRead, Engine, encrypt_engine, Returned, HasEngineEnded, HasEngineStopped, Reached}
 use Rattle.age_cli.specs.inner.{AreNew, sealing_end, Concludes, IsLeft, IsPut, IsUnended, SavesStop}

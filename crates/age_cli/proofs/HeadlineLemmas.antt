@@ -23,7 +23,7 @@ use Rattle.age_sealing.specs.{SecretView, AgeFile}
 use Rattle.age_opening.specs.declared.decryption.Stopped.{Stopped}
 use Rattle.age_position.specs.declared.position.Position.{Position}
 use Rattle.age_fault.specs.declared.fault.FileFault.{FileFault}
-use Rattle.age_machine.specs.{EndedFile, SavedFile}
+use Rattle.age_calls.specs.{EndedFile, SavedFile}
 use Rattle.age_fileset.specs.{Event, FilesView, Files, Entry, entry, entry_of, Outcome, Found, FoundOrEmpty, PutsOnly, CameSince, HasGiven, HasGivenAll, AreTrue}
 use Rattle.age_fileset.specs.{or_empty, puts_in}
 use Rattle.age_fileset.specs.declared.mem_entry.MemEntry.{MemEntry}

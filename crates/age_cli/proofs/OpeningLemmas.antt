@@ -20,7 +20,7 @@ use Rattle.age_command.proofs.{did_came, followed, longer, then_follows, no_valu
 use Rattle.age_cli.specs.{EndsBefore, IsUnusable, CameFirst, SparesOut}
 use Rattle.age_cli.specs.inner.{EndsBy, FailsEarly, IsUnopened, OpensFiles}
 use Rattle.std.proofs.lemmas.List.{append_cancel_left}
-use Rattle.age_machine.specs.{EndedFile, Discards, IsUntouched, OutFile}
+use Rattle.age_calls.specs.{EndedFile, Discards, IsUntouched, OutFile}
 use Rattle.age_fileset.specs.declared.files.OpenFault.TheVariants as refuse
 
 pub some_and : {X : Type 0} {P Q : X → Type 0} (o : Option X) → ((x : X) → P x → Q x) → IsSomeAnd o P → IsSomeAnd o Q

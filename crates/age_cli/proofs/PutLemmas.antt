@@ -12,8 +12,8 @@ use Rattle.age_fault.specs.declared.fault.FileFault.{FileFault}
 use Rattle.age_fault.specs.declared.fault.FileFault.TheVariants.{Memory, Write}
 use Rattle.age_position.specs.{position_text}
 use Rattle.age_position.specs.declared.position.Position.{Position}
-use Rattle.age_machine.specs.{Closes, Discards, EndedFile, OutFile, SavedFile, IsThere, IsOnDisk}
-use Rattle.age_machine.specs.Saved.{Saves}
+use Rattle.age_calls.specs.{Closes, Discards, EndedFile, OutFile, SavedFile, IsThere, IsOnDisk}
+use Rattle.age_calls.specs.Saved.{Saves}
 use Rattle.age_fileset.specs.{Unwritten, Entry, entry, FilesView, Close, Does, PutsOnly, CameSince, IsMemoryOr, Absent, Present, Outcome, Put, refused_as, written_as, puts_in}
 use Rattle.age_fileset.proofs.{came_one, came_then, none_plain, grows_then, grows_by, then_came, did_events, unwritten_puts}
 use Rattle.age_command.proofs.{followed, longer, then_follows}

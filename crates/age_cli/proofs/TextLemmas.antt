@@ -18,7 +18,7 @@ use Rattle.age_fileset.specs.{Event, FilesView, Outcome, CameSince}
 use Rattle.clap.specs.Words.{Text}
 use Rattle.age_fault.specs.declared.head.HeadFault.{HeadFault}
 use Rattle.age_fault.specs.declared.key.KeyFault.{KeyFault}
-use Rattle.age_machine.specs.{EndedFile, TouchesItself, IsUntouched}
+use Rattle.age_calls.specs.{EndedFile, TouchesItself, IsUntouched}
 use Rattle.age_command.specs.{allows_by, refuses_by, order_asked, is_usage, IsUnreadable}
 use Rattle.age_command.specs.declared.ending.Ending.{Ending}
 use Rattle.age_command.specs.declared.identity.Identity.{Identity}

@@ -21,12 +21,12 @@ use Rattle.age_position.specs.declared.position.PositionPolicy.{PositionPolicy}
 use Rattle.age_position.specs.declared.position.PositionPolicy.TheVariants.{Kept, Dropped}
 use Rattle.age_opening.specs.declared.decryption.Stopped.{Stopped}
 use Rattle.age_sealing.specs.Encrypts.{Encrypts}
-use Rattle.age_machine.specs.{EndedFile, TouchesItself, IsThere, IsOnDisk, IsUntouched, SavedFile}
-use Rattle.age_machine.specs.Calls.{Opened}
-use Rattle.age_machine.specs.Saves.{AllAnswered}
-use Rattle.age_machine.specs.declared.machine.Kind.TheVariants.{Regular}
-use Rattle.age_machine.specs.Disk.{Disk}
-use Rattle.age_machine.specs.Saved.{Saves}
+use Rattle.age_calls.specs.{EndedFile, TouchesItself, IsThere, IsOnDisk, IsUntouched, SavedFile}
+use Rattle.age_calls.specs.Calls.{Opened}
+use Rattle.age_calls.specs.Saves.{AllAnswered}
+use Rattle.age_calls.specs.declared.opening.Kind.TheVariants.{Regular}
+use Rattle.age_calls.specs.Disk.{Disk}
+use Rattle.age_calls.specs.Saved.{Saves}
 use Rattle.age_fileset.specs.{Event, FilesView, Outcome, Found, Absent, Present, Unwritten, Settled, Alike}
 use Rattle.age_fileset.specs.{OneStream, InUse, Terminal, CameSince, HasGiven, HasGivenAll, Entry}
 use Rattle.age_fileset.specs.{PutsOnly, entry, puts_in, Put}

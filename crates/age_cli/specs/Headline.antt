@@ -33,7 +33,7 @@ use Rattle.age_fault.specs.declared.fault.FileFault.TheVariants.{OldTextDiffers}
 use Rattle.age_fileset.specs.{Files, FilesView, Outcome, CameSince, HasGiven, HasGivenAll, Shelf, seen_in}
 use Rattle.age_fileset.specs.{entry_of, or_empty}
 use Rattle.age_cli.specs.Commands.{WasRead, old_found, FailsReport, MakesSecret}
-use Rattle.age_machine.specs.{EndedFile}
+use Rattle.age_calls.specs.{EndedFile}
 use Rattle.age_cli.specs.Acts.{Acts, OpensOf, paths_of, LeavesText, ShowsProgress, SparesOut, IsUsage}
 use Rattle.age_cli.specs.Runs.{World, Runs, Declines, Obeys, IsRefusal}
 

@@ -20,7 +20,7 @@ use Rattle.age_command.specs.{without_line_feed}
 use Rattle.age_keys.specs.{IsAllowed, PassphraseIdentity}
 use Rattle.age_command.specs.declared.ending.Ending.{Ending}
 use Rattle.age_command.specs.declared.ending.Ending.TheVariants.{Fault, Usage}
-use Rattle.age_machine.specs.{Closes, EndedFile, OutFile, TouchesItself, IsUntouched}
+use Rattle.age_calls.specs.{Closes, EndedFile, OutFile, TouchesItself, IsUntouched}
 use Rattle.age_cli.specs.Acts.{stop_ending, IsDue, IsSaved, Engine}
 use Rattle.age_cli.specs.Acts.{SparesOut, AreSame, IsUnusable, NamesOne, IsThereUnlessFailed}
 use Rattle.age_cli.specs.declared.interruption.Reached.{Reached}

@@ -9,7 +9,7 @@ ghost use Rattle.age_cli_args.specs.{option_text};
 ghost use Rattle.age_command.specs.{Announces, Follows, replacing};
 ghost use Rattle.age_cli.specs.Acts.{IsDue};
 ghost use Rattle.age_cli.specs.inner.{IsUnsavable, LacksOne, PutsRest, sealing_end};
-ghost use Rattle.age_machine.specs.Saved.{Saves};
+ghost use Rattle.age_calls.specs.Saved.{Saves};
 ghost use Rattle.age_position.specs.{position_text};
 
 use crate::output::Writing;

@@ -4,9 +4,10 @@ use Rattle.std.specs.Prelude.{Ok, Err, IfOk, IfSome, OnOk, OnErr, MatchResult, i
 use Rattle.age_io.specs.{one_more}
 use Rattle.age_io.specs.declared.durability.Durability.{Durability}
 use Rattle.age_io.specs.declared.durability.Durability.TheVariants.{Synced}
-use Rattle.age_machine.specs.{FileCall, ClosesLast, EndedFile, Closes, OutFile, OutView, TouchesFile, text_of, IsThereAs, IsSafe}
-use Rattle.age_machine.specs.{IsKept, SavedFile, PutsAtOnce}
-use Rattle.age_machine.specs.Saved.{Saves}
+use Rattle.age_calls.specs.{FileCall, ClosesLast, EndedFile, Closes, OutFile, OutView, TouchesFile, text_of, IsThereAs, IsSafe}
+use Rattle.age_calls.specs.{SavedFile, PutsAtOnce}
+use Rattle.age_machine.specs.{IsKept}
+use Rattle.age_calls.specs.Saved.{Saves}
 use Rattle.age_disk.specs.{HasNode, sink_of, IsTaking, FileId}
 use Rattle.age_disk.specs.inner.{TargetPuts}
 

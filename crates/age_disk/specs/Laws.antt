@@ -1,8 +1,9 @@
 -- What follows for the files that are read.
 use Rattle.std.specs.Prelude.{◌≡◌, ◌<◌, ◌^◌, List, Some, Contains}
-use Rattle.age_machine.specs.{FileCall, after_calls, number_of, OutFile, AllOn}
+use Rattle.age_calls.specs.{FileCall, after_calls, OutFile, AllOn}
+use Rattle.age_machine.specs.{number_of}
 use Rattle.age_machine.specs.declared.node.Node.{Node}
-use Rattle.age_machine.specs.Disk.{Disk}
+use Rattle.age_calls.specs.Disk.{Disk}
 use Rattle.age_disk.specs.Outputs.{OutputView, IsApart}
 use Rattle.age_disk.specs.declared.names.FileId.{FileId}
 use Rattle.age_disk.specs.declared.names.FileId.TheVariants.{File}

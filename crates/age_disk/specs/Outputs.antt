@@ -2,7 +2,8 @@
 use Rattle.std.specs.Prelude.{◌≡◌, ◌≢◌, ◌<◌, ◌^◌, ℕ, List, [], Bool, true, false, Option, None, Some, IfSome}
 use Rattle.std.specs.Prelude.{Contains}
 use Rattle.age_io.specs.{SinkView}
-use Rattle.age_machine.specs.{number_of, EndedFile, IsThere, OutFile}
+use Rattle.age_calls.specs.{EndedFile, IsThere, OutFile}
+use Rattle.age_machine.specs.{number_of}
 use Rattle.age_machine.specs.declared.node.Node.{Node}
 use Rattle.age_disk.specs.declared.names.FileId.{FileId}
 use Rattle.age_disk.specs.declared.names.FileId.TheVariants.{File}

@@ -1,6 +1,6 @@
 -- What is known of a file while it is written.
 use Rattle.std.specs.Prelude.{◌≡◌, ◌≤◌, ℕ, List, [], length, Option, Some, None, false}
-use Rattle.age_machine.specs.{OutView, text_of}
+use Rattle.age_calls.specs.{OutView, text_of}
 use Rattle.age_disk.specs.declared.output.Pace.{Pace}
 use Rattle.age_disk.specs.declared.target.Target.{Target}
 use Rattle.age_disk.specs.declared.target.Target.TheVariants as target

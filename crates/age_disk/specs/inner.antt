@@ -4,7 +4,7 @@ pub mod Saving
 use Rattle.std.specs.Prelude.{◌≡◌, ℕ, List, [], ◌++◌, take, Bool, true, false, Option, Some, None, Result, Ok}
 use Rattle.std.specs.Prelude.{Err}
 use Rattle.age_io.specs.Supply.{Supply}
-use Rattle.age_machine.specs.{FileCall, OutView, text_of}
+use Rattle.age_calls.specs.{FileCall, OutView, text_of}
 use Rattle.age_disk.specs.declared.target.Target.{Target}
 use Rattle.age_disk.specs.declared.target.Target.TheVariants as target
 

@@ -12,7 +12,7 @@ ghost use Rattle.age_io.specs.{IsNamed, Named};
 ghost use Rattle.age_io.specs.declared.durability.Durability.TheVariants as wait;
 ghost use Rattle.age_disk.specs.Outputs.{WritesDirectly};
 ghost use Rattle.age_disk.specs.inner.Saving.{SavesBytes};
-ghost use Rattle.age_machine.specs.Saved.{Saves};
+ghost use Rattle.age_calls.specs.Saved.{Saves};
 
 use crate::in_use::{
     admit_out, check_unused, fault_of, find_same, is_for_faults, is_known, keep, keep_stream,

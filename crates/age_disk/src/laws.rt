@@ -2,7 +2,8 @@
 
 ghost use Rattle.age_disk.specs.{NoInputIsChanged};
 
-use age_machine::{numbers_are_apart, others_are_kept};
+use age_calls::others_are_kept;
+use age_machine::numbers_are_apart;
 
 /// An output that is none of the files that were opened changes none of them.
 pub fn no_input_is_changed()

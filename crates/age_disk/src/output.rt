@@ -7,7 +7,8 @@ ghost use Rattle.std.specs.Io.{WritesAtMost};
 ghost use Rattle.age_io.specs.{one_more};
 ghost use Rattle.age_io.specs.declared.durability.Durability.TheVariants as wait;
 ghost use Rattle.age_io.specs.Taken.{WriteAppends, Keeps};
-ghost use Rattle.age_machine.specs.{Opened, Closes, Discards, TouchesItself, number_of, OutView};
+ghost use Rattle.age_calls.specs.{Opened, Closes, Discards, TouchesItself, OutView};
+ghost use Rattle.age_machine.specs.{number_of};
 ghost use Rattle.age_disk.specs.Outputs.{IsNew, IsMadeAt, HasNode, sink_of, as_sink};
 ghost use Rattle.age_disk.specs.Targets.{regular_of, IsTaking, IsPaced};
 ghost use Rattle.age_disk.specs.inner.{opening_calls, part_of, TargetPuts};
@@ -18,8 +19,9 @@ use crate::names::{FileId, Led, Resolved, StandardStream, tape_of};
 use crate::sync::{Witness, close_stream};
 use crate::target::Target;
 use age_io::{Durability, Failed, Failures, Sink, Tape};
+use age_calls::{Kind, Opening};
 use age_machine::calls::close;
-use age_machine::{HostFile, HostMachine, Kind, Machine, Node, Opening, Out};
+use age_machine::{HostFile, HostMachine, Machine, Node, Out};
 use std::alloc::Global;
 use std::fs::File;
 use std::io::{self, IsTerminal};
@@ -174,7 +176,8 @@ struct Which {
 }
 
 impl Model for Which {
-    ghost use Rattle.age_machine.specs.{number_of, OutFile};
+    ghost use Rattle.age_calls.specs.{OutFile};
+    ghost use Rattle.age_machine.specs.{number_of};
 
     ghost Value = { OutFile };
 
@@ -209,7 +212,7 @@ pub struct HostEnded {
 }
 
 impl Model for HostEnded {
-    ghost use Rattle.age_machine.specs.{EndedFile};
+    ghost use Rattle.age_calls.specs.{EndedFile};
 
     ghost Value = { EndedFile };
 
@@ -258,7 +261,7 @@ pub struct HostOut {
 impl Model for HostOut {
     ghost use Rattle.age_disk.specs.Outputs.{OutputView, HasNode};
     ghost use Rattle.std.specs.Prelude.{◌≡◌, None, option_map, IfSome, string_bytes};
-    ghost use Rattle.age_machine.specs.{OutView};
+    ghost use Rattle.age_calls.specs.{OutView};
     ghost use Rattle.age_disk.specs.Targets.{regular_of, IsTaking, IsPaced};
 
     ghost Value = { OutputView };

@@ -1,7 +1,7 @@
 //! Replaces a file of the machine as a whole.
 
 ghost use Rattle.std.specs.Prelude.{◌≡◌, None, Some, IsSomeAnd, IfOk, OnOk, is_some, true};
-ghost use Rattle.age_machine.specs.Saved.{Saves};
+ghost use Rattle.age_calls.specs.Saved.{Saves};
 ghost use Rattle.age_disk.specs.Outputs.{IsNew, WritesDirectly};
 ghost use Rattle.age_disk.specs.inner.Saving.{SavesBytes};
 
@@ -31,7 +31,7 @@ pub struct Placed {
 }
 
 impl Model for Placed {
-    ghost use Rattle.age_machine.specs.{SavedFile};
+    ghost use Rattle.age_calls.specs.{SavedFile};
 
     ghost Value = { SavedFile };
 

@@ -7,7 +7,7 @@ use Rattle.std.specs.Str.{bytes_eq}
 use Rattle.std.specs.Io.KnownBytes.{IsAtEnd, prepend_known}
 use Rattle.age_io.specs.{Feeding, Holding, SourceView, SinkView, holds, memory_supply}
 use Rattle.age_io.specs.declared.durability.Durability.{Durability}
-use Rattle.age_machine.specs.{EndedFile, SavedFile}
+use Rattle.age_calls.specs.{EndedFile, SavedFile}
 use Rattle.age_fault.specs.declared.fault.FileFault.{FileFault}
 use Rattle.age_fault.specs.declared.fault.FileFault.TheVariants.{Read, Write, Memory}
 use Rattle.age_fileset.specs.declared.files.OpenFault.{OpenFault}

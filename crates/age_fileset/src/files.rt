@@ -9,8 +9,8 @@ ghost use Rattle.age_fileset.specs.FileSet.{alike_as, looked_as, noted_if, passe
 ghost use Rattle.age_fileset.specs.FileSet.{InUse, Terminal};
 ghost use Rattle.age_fileset.specs.FileSet.{with_event, with_outcomes};
 ghost use Rattle.age_io.specs.{Named};
-ghost use Rattle.age_machine.specs.{Closes, Discards, OutFile};
-ghost use Rattle.age_machine.specs.Saved.{Saves};
+ghost use Rattle.age_calls.specs.{Closes, Discards, OutFile};
+ghost use Rattle.age_calls.specs.Saved.{Saves};
 ghost use Rattle.age_fileset.specs.declared.files.OpenFault.TheVariants.{Fault};
 
 use age_fault::FileFault;

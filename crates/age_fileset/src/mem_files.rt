@@ -39,7 +39,7 @@ struct MemEnded {
 
 impl Model for MemEnded {
     ghost use Rattle.std.specs.Prelude.{None, []};
-    ghost use Rattle.age_machine.specs.{EndedFile};
+    ghost use Rattle.age_calls.specs.{EndedFile};
 
     ghost Value = { EndedFile };
 

@@ -1,46 +1,26 @@
 -- A file that is written in place, call by call.
 use Rattle.std.proofs.lemmas.Grind.{common_steps}
-use Rattle.std.proofs.Common.{◌≡◌, ◌⊎◌, inl, inr, ⊎_elim, ℕ, zero, suc, ◌+◌, ◌<◌, List, [], ◌∷◌, ◌++◌, Bool, true, false, Option, None, length}
+use Rattle.std.proofs.Common.{◌≡◌, ◌⊎◌, inl, inr, ⊎_elim, ℕ, ◌+◌, ◌<◌, List, [], ◌∷◌, ◌++◌, Bool, true, false, Option, None, length}
 use Rattle.std.proofs.Common.{refl, sym, ◌∙◌, ap, subst, arith, length-append, length-take}
 use Rattle.std.specs.Prelude.{Contains, Result, Ok, Err, OnOk, OnErr, is_ok}
 use Rattle.std.proofs.lemmas.Bool.{cases_Bool}
 use Rattle.std.proofs.lemmas.List.{append-nil, take_at, drop_all}
-use Rattle.age_machine.specs.{FileCall, Made, Opened, Wrote, Broke, Synced, Unwaited, ClosesLast, Locked, Unlockable, Removed, SyncedNames, UnwaitedNames, CountsFailure, Waited}
-use Rattle.age_machine.specs.declared.in_place.Opening.{Opening}
-use Rattle.age_machine.specs.declared.in_place.Opening.TheVariants as way
-use Rattle.age_machine.specs.declared.machine.Kind.{Kind}
-use Rattle.age_machine.specs.{Regular, sized, after_call, after_calls, IsAmong, MayLead, MayLeave, IsAnswered, AllAnswered, HasMade, SavesWhole, LeadsTo}
-use Rattle.age_machine.specs.{OutFile, opening_of, is_making, is_waited, text_of, IsOn, AllOn, MayChange, IsClaimed, LocksFirst, TouchesFile, HasOneLock, IsUnchanged}
+use Rattle.age_calls.specs.{FileCall, Made, Opened, Wrote, Broke, Synced, Unwaited, ClosesLast, Locked, Unlockable, Removed, SyncedNames, UnwaitedNames, CountsFailure, Waited}
+use Rattle.age_calls.specs.declared.opening.Opening.{Opening}
+use Rattle.age_calls.specs.declared.opening.Opening.TheVariants as way
+use Rattle.age_calls.specs.declared.opening.Kind.{Kind}
+use Rattle.age_calls.specs.{Regular, sized, after_call, after_calls, IsAmong, MayLead, MayLeave, IsAnswered, AllAnswered, SavesWhole, LeadsTo}
+use Rattle.age_calls.specs.{OutFile, opening_of, is_making, is_waited, text_of, IsOn, MayChange, IsClaimed, TouchesFile}
 use Rattle.age_machine.specs.{HasWritten, AlwaysHasWritten, IsJustOpened, IsOut}
-use Rattle.age_machine.specs.Disk.{Disk}
+use Rattle.age_calls.specs.Disk.{Disk}
 use Rattle.age_machine.specs.inner.{IsHeld, IsAtPath, StaysHeld, RemovesAt}
-use Rattle.age_machine.proofs.SaveLemmas.{path_same, file_same, file_other, led, leaves_fewer, leaves_new, leaves_synced, contains_first, contains_later}
-use Rattle.age_machine.proofs.SaveLemmas.{if_either, if_made, if_waited, saves_loudly, saves_none, saves_quietly, sized_within}
-
--- ---- What calls contain.
-
-pub contains_none : (call : FileCall) → Contains [] call → ⊥
-contains_none call held = omega (arith, held.1)
-
-pub contains_cases : (call first : FileCall) (calls : List FileCall) → Contains (first ∷ calls) call → (first ≡ call) ⊎ Contains calls call
-contains_cases call first calls (zero, short, is) = inl is
-contains_cases call first calls (suc k, short, is) = inr (k, omega arith, is)
-
-pub claimed_later : (n : ℕ) (call : FileCall) (calls : List FileCall) → IsClaimed n calls → IsClaimed n (call ∷ calls)
-claimed_later n call calls (inl held) = inl (contains_later call (Locked n) calls held)
-claimed_later n call calls (inr held) = inr (contains_later call (Unlockable n) calls held)
+use Rattle.age_calls.proofs.DiskLemmas.{path_same, file_same, file_other, sized_within, contains_first, contains_later, contains_none, contains_cases, claimed_later, no_claim}
+use Rattle.age_machine.proofs.SaveLemmas.{led, leaves_fewer, leaves_new, leaves_synced}
+use Rattle.age_machine.proofs.SaveLemmas.{if_either, if_made, if_waited, saves_loudly, saves_none, saves_quietly}
 
 -- ---- What only opening has done.
 
 module _ (path : List ℕ) (n : ℕ) where
-  no_lock : (opening : Opening) (call : FileCall) → (Made path n ≡ call → ⊥) → ((kind : Kind) → Opened path n kind ≡ call → ⊥)
-      → Contains (opening_of path n opening ∷ []) call → ⊥
-  no_lock opening call h0 h1 h2 = grind (arith, common_steps, contains_cases, contains_none)
-
-  pub no_claim : (opening : Opening) → IsClaimed n (opening_of path n opening ∷ []) → ⊥
-  no_claim opening (inl held) = no_lock opening (Locked n) (λ same. cc) (λ kind same. cc) held
-  no_claim opening (inr held) = no_lock opening (Unlockable n) (λ same. cc) (λ kind same. cc) held
-
   pub no_text : (opening : Opening) → text_of (opening_of path n opening ∷ []) ≡ []
   no_text way.New = refl
   no_text (way.Found named waited) = refl
@@ -113,61 +93,6 @@ module _ (file : OutFile) where
         mid =
             if_made (TouchesFile file) (Removed file.path) calls removes.mid touches
             (touches_more (Removed file.path) calls refl (λ may. may) touches) removes.removed
-
--- ---- Two runs.
-
--- without a lock nothing of a file is changed
-never_changed : (n : ℕ) (calls : List FileCall) → LocksFirst n calls → (IsClaimed n calls → ⊥)
-    → (call : FileCall) → Contains calls call → MayChange n call → ⊥
-never_changed n [] locks none call held may = contains_none call held
-never_changed n (first ∷ calls) locks none call held may =
-    ⊎_elim (λ same. earlier (locks.0 (subst (λ (c : FileCall). MayChange n c) (sym same) may)))
-    (λ later. never_changed n calls locks.1 earlier call later may) (contains_cases call first calls held) where
-      earlier : IsClaimed n calls → ⊥
-      earlier claimed = none (claimed_later n first calls claimed)
-
-kept_by : (n : ℕ) (call : FileCall) (disk : Disk) → (MayChange n call → ⊥)
-    → ((path : List ℕ) → call ≡ Made path n → ⊥) → (after_call call disk).bytes n ≡ disk.bytes n
-kept_by n call disk h0 h1 = grind (arith, common_steps, file_other)
-
-kept_by_all : (n : ℕ) (calls : List FileCall) → ((call : FileCall) → Contains calls call → MayChange n call → ⊥) → (HasMade n calls → ⊥)
-    → (disk : Disk) → (after_calls calls disk).bytes n ≡ disk.bytes n
-kept_by_all n [] none made disk = refl
-kept_by_all n (call ∷ calls) none made disk =
-    kept_by n call (after_calls calls disk) (λ may. none call (contains_first call calls) may)
-    (λ path is. made (
-      path,
-      subst (λ (c : FileCall). Contains (c ∷ calls) (Made path n)) (sym is) (contains_first (Made path n) calls),
-    )) ∙ kept_by_all n calls (λ other held may. none other (contains_later call other calls held) may)
-    (λ has. made (has.0, contains_later call (Made has.0 n) calls has.1)) disk
-
-pub second_unchanged : (n : ℕ) (one other : List FileCall) → HasOneLock n one other → IsUnchanged n other
-second_unchanged n one other lock = record {
-  none = none;
-  same = λ made disk. kept_by_all n other none made disk;
-} where
-  none : (call : FileCall) → Contains other call → MayChange n call → ⊥
-  none = never_changed n other lock.first (⊎_elim (lock.once lock.has) lock.lockable)
-
-pub late : (n : ℕ) (path bytes : List ℕ) → LocksFirst n (Locked n ∷ Wrote n 0 bytes ∷ Opened path n (Regular true) ∷ []) → ⊥
-late n path bytes locks = no_claim path n (way.Found true true) (locks.1.0 refl)
-
--- another run that has only opened the file
-pub opened_beside : (n : ℕ) (path : List ℕ) (one : List FileCall) → Contains one (Locked n) → HasOneLock n one (Opened path n (Regular true) ∷ [])
-opened_beside n path one has = grind (arith, common_steps, no_claim)
-
--- ---- Other files.
-
-module _ (path : List ℕ) (n m : ℕ) (other : m ≡ n → ⊥) where
-  apart_by : (k : ℕ) → k ≡ n → k ≡ m → ⊥
-  apart_by k is same = other (sym same ∙ is)
-
-  other_kept : (before : List FileCall) (call : FileCall) → IsOn path n before call → (disk : Disk) → (after_call call disk).bytes m ≡ disk.bytes m
-  other_kept before call h0 disk = grind (arith, common_steps, apart_by, file_other)
-
-  pub others_kept : (calls : List FileCall) → AllOn path n calls → (disk : Disk) → (after_calls calls disk).bytes m ≡ disk.bytes m
-  others_kept [] on disk = refl
-  others_kept (call ∷ calls) on disk = other_kept calls call on.0 (after_calls calls disk) ∙ others_kept calls on.1 disk
 
 -- ---- What it holds.
 

@@ -1,36 +1,21 @@
 -- What a call leaves as it was, what a power cut leaves after it, and how a replacement goes on, call by call.
 use Rattle.std.proofs.lemmas.Grind.{common_steps}
 use Rattle.std.proofs.lemmas.Bool.Decides.{eqb_tells}
-use Rattle.std.proofs.Common.{◌≡◌, ◌⊎◌, inl, inr, ℕ, List, [], ◌∷◌, Bool, Option, Some, None, refl, sym, ◌∙◌, ap, subst, rules, ⊎_elim, ◌+◌, ◌-◌, ◌≤◌, ◌++◌}
+use Rattle.std.proofs.Common.{◌≡◌, ◌⊎◌, inl, inr, ℕ, List, [], ◌∷◌, Option, Some, None, refl, sym, ◌∙◌, ap, subst, rules, ⊎_elim, ◌+◌, ◌-◌, ◌≤◌, ◌++◌}
 use Rattle.std.proofs.Common.{◌≢◌, false, length, take, drop, arith, append_assoc, length-append, length-drop, take-add}
-use Rattle.std.specs.Prelude.{bytes_eq, if◌then◌else◌, Contains, Result, Ok, Err, OnOk, OnErr, replicate}
-use Rattle.std.proofs.lemmas.Bool.{false_from_ne_true, eq-eqb, ne_eqb}
-use Rattle.std.proofs.lemmas.Slice.Eq.{bytes_eq-Decides}
-use Rattle.age_machine.specs.{FileCall, Made, Wrote, Closed, ClosesLast, IsOf, Linked, Renamed, Removed, Reclaimed, SyncedNames, at_path, for_file, after_call, IsAmong, MayLead}
-use Rattle.age_machine.specs.{MayLeaveFile, MayLeave, Synced, Unwaited, Missing, UnwaitedNames, MayHave, Waited, after_calls, sized, written, AllAnswered, AllWaited}
-use Rattle.age_machine.specs.{AtEachMoment, Throughout, SavesWhole, SparesFile, HasMade, IsNumbered, IsWithin, AllSo, Since, IsSafe, IsThereAs, Replaces}
-use Rattle.age_machine.specs.{IsSparing, IsReplacing, IsBeside, StandsAt, IsKept, Reclaims}
-use Rattle.age_machine.specs.Disk.{Disk}
+use Rattle.std.specs.Prelude.{Contains, Result, Ok, Err, OnOk, OnErr}
+use Rattle.age_calls.specs.{FileCall, Made, Wrote, Closed, ClosesLast, IsOf, Linked, Renamed, Removed, Reclaimed, SyncedNames, at_path, after_call, IsAmong, MayLead}
+use Rattle.age_calls.specs.{MayLeaveFile, MayLeave, Synced, Unwaited, Missing, UnwaitedNames, MayHave, Waited, after_calls, sized, written, AllAnswered, AllWaited}
+use Rattle.age_calls.specs.{AtEachMoment, Throughout, SavesWhole, SparesFile, HasMade, IsNumbered, IsWithin, AllSo, Since, IsSafe, IsThereAs}
+use Rattle.age_machine.specs.{IsSparing, IsReplacing, IsBeside, StandsAt, IsKept, Reclaims, Replaces}
+use Rattle.age_calls.specs.Disk.{Disk}
+use Rattle.age_calls.proofs.DiskLemmas.{path_same, path_other, file_same, sized_within, contains_first}
 use Rattle.age_machine.specs.inner.{Has, IsAbout, Gets, IsAtPath, StaysSound, WritesOver, CutsOff, IsNaming, Names, TakesOver}
-use Rattle.std.proofs.lemmas.List.{append-nil, take_at, drop_at, take_all, drop-drop, length-take-le}
+use Rattle.std.proofs.lemmas.List.{take_at, drop_at, take_all, drop-drop, length-take-le}
 use Rattle.std.proofs.lemmas.List.Elements.{Contains-append_left, Contains-append_right}
 use Rattle.age_io.specs.declared.durability.Durability.{Durability}
 use Rattle.age_machine.specs.declared.replacing.Spot.{Spot}
 use Rattle.age_machine.specs.declared.replacing.Spot.TheVariants as spot
-
--- ---- Values at one path, or for one file.
-
-pub path_same : {X : Type 0} (p : List ℕ) (x : X) (f : List ℕ → X) → at_path p x f p ≡ x
-path_same p x f = ap (λ (b : Bool). if b then x else f p) ((bytes_eq-Decides p p).1 refl)
-
-pub path_other : {X : Type 0} (p q : List ℕ) (x : X) (f : List ℕ → X) → (p ≡ q → ⊥) → at_path p x f q ≡ f q
-path_other p q x f other = ap (λ (b : Bool). if b then x else f q) (false_from_ne_true (bytes_eq p q) (λ h. other ((bytes_eq-Decides p q).0 h)))
-
-pub file_same : {X : Type 0} (n : ℕ) (x : X) (f : ℕ → X) → for_file n x f n ≡ x
-file_same n x f = ap (λ (b : Bool). if b then x else f n) (eq-eqb n n refl)
-
-pub file_other : {X : Type 0} (n m : ℕ) (x : X) (f : ℕ → X) → (n ≡ m → ⊥) → for_file n x f m ≡ f m
-file_other n m x f other = ap (λ (b : Bool). if b then x else f m) (ne_eqb n m other)
 
 -- ---- What stays as it was.
 
@@ -217,12 +202,6 @@ answers_since : (P : List FileCall → FileCall → Type 0) (path : List ℕ) (o
     → AllAnswered path new disk → AllAnswered path old disk
 answers_since P path old new disk calls answers =
     answers_then path calls.since old disk (subst (λ (l : List FileCall). AllAnswered path l disk) calls.are answers)
-
-pub contains_first : (call : FileCall) (calls : List FileCall) → Contains (call ∷ calls) call
-contains_first call calls = Contains-append_left (call ∷ []) calls call (0, omega arith, refl)
-
-pub contains_later : (call other : FileCall) (calls : List FileCall) → Contains calls other → Contains (call ∷ calls) other
-contains_later call other calls held = Contains-append_right (call ∷ []) calls other held
 
 -- ---- The steps of a replacement.
 
@@ -453,13 +432,6 @@ pub about_then : (n : ℕ) (old mid new : List FileCall) → IsAbout n old mid �
 about_then n old mid new first = since_then _ _ old mid new first (λ calls call of. of)
 
 -- ---- What is written.
-
-none_missing : (n : ℕ) → n ≡ 0 → replicate {A = ℕ} n 0 ≡ []
-none_missing n is = ap (λ (k : ℕ). replicate {A = ℕ} k 0) is
-
-pub sized_within : (len : ℕ) (bytes : List ℕ) → len ≤ length bytes → sized len bytes ≡ take len bytes
-sized_within len bytes within =
-    ap (λ (l : List ℕ). take len bytes ++ l) (none_missing (len - length bytes) (omega arith)) ∙ append-nil (take len bytes)
 
 over : (at m : ℕ) (bytes held : List ℕ) → at ≤ length bytes → m ≤ length bytes - at
     → written at (take m (drop at bytes)) (take at bytes ++ drop at held) ≡ take (at + m) bytes ++ drop (at + m) held

@@ -1,8 +1,10 @@
 -- What is known of a file that was made beside a path, to be put there later.
-use Rattle.std.specs.Prelude.{◌≡◌, ◌≢◌, ℕ, List, ◌∷◌, false, Some, Contains}
-use Rattle.age_machine.specs.Calls.{FileCall, Made, Missing, Renamed, Removed, Reclaimed}
-use Rattle.age_machine.specs.Disk.{Disk, after_calls}
-use Rattle.age_machine.specs.Saves.{AllAnswered, IsNumbered, IsWithin, Since}
+use Rattle.std.specs.Prelude.{◌≡◌, ◌≢◌, ℕ, List, ◌∷◌, false, Some, Contains, Result}
+use Rattle.age_io.specs.declared.durability.Durability.{Durability}
+use Rattle.age_calls.specs.Calls.{FileCall, Made, Missing, Renamed, Removed, Reclaimed}
+use Rattle.age_calls.specs.Disk.{Disk, after_calls}
+use Rattle.age_calls.specs.Saved.{PutsAtOnce}
+use Rattle.age_calls.specs.Saves.{AllAnswered, IsNumbered, IsWithin, Since, SparesFile}
 use Rattle.age_machine.specs.declared.replacing.Spot.{Spot}
 use Rattle.age_machine.specs.declared.replacing.Spot.TheVariants.{Free}
 
@@ -38,3 +40,10 @@ pub record IsKept (path from : List ℕ) (n : ℕ) (old calls : List FileCall) :
 -- nothing was done since the old calls but that rooms were removed which stopped runs left there
 abbrev pub Reclaims : List ℕ → List FileCall → List FileCall → Type 0
 Reclaims path = Since (λ calls call. (p : List ℕ) × (call ≡ Reclaimed p) × IsNumbered path p)
+
+-- these bytes were put to a path at once, and what has come there stays, where nothing was
+pub record Replaces {E : Type 0} (to : Spot) (bytes : List ℕ) (durability : Durability)
+    (result : Result (Unit {0}) E) (old calls : List FileCall) (path : List ℕ) : Type 0 where
+  pub puts : PutsAtOnce bytes durability result old calls path
+  pub steps : Since (IsReplacing to path) old calls
+  pub spares : to ≡ Free → SparesFile path old calls

@@ -1,10 +1,10 @@
 -- What holds of a file that is written in place, between the calls of its methods.
 use Rattle.std.specs.Prelude.{◌≡◌, ◌⊎◌, ◌<◌, ℕ, List, [], ◌∷◌, length, take, Bool, true, false}
 use Rattle.std.specs.Prelude.{Some, Contains}
-use Rattle.age_machine.specs.Calls.{FileCall, Locked, Unlockable, Waited}
-use Rattle.age_machine.specs.Disk.{Disk, after_calls}
-use Rattle.age_machine.specs.Saves.{AllAnswered}
-use Rattle.age_machine.specs.Outs.{text_of, has_changed, AllOn, IsClaimed, LocksFirst}
+use Rattle.age_calls.specs.Calls.{FileCall, Locked, Unlockable, Waited}
+use Rattle.age_calls.specs.Disk.{Disk, after_calls}
+use Rattle.age_calls.specs.Saves.{AllAnswered}
+use Rattle.age_calls.specs.Outs.{text_of, has_changed, AllOn, IsClaimed, LocksFirst}
 
 -- it begins with what was written, on a disk
 pub record HasWritten (path : List ℕ) (n : ℕ) (is_stale : Bool) (text : List ℕ) (disk : Disk)

@@ -3,8 +3,8 @@
 ghost use Rattle.std.specs.Prelude.{◌≡◌, ◌≢◌, ◌⊎◌, ◌≤◌, ◌<◌, ◌∷◌, string_bytes, IfOk, IfErr, OnOk};
 ghost use Rattle.std.specs.Prelude.{OnErr, MatchOption, length};
 ghost use Rattle.age_io.specs.declared.durability.Durability.TheVariants as wait;
-ghost use Rattle.age_machine.specs.Calls.{Broke, Synced, Unwaited, Waited};
-ghost use Rattle.age_machine.specs.Saves.{IsNumbered};
+ghost use Rattle.age_calls.specs.Calls.{Broke, Synced, Unwaited, Waited};
+ghost use Rattle.age_calls.specs.Saves.{IsNumbered};
 ghost use Rattle.age_machine.specs.Beside.{IsKept, Reclaims};
 ghost use Rattle.age_machine.specs.declared.beside.Unplaced.TheVariants.{Memory};
 ghost use Rattle.age_machine.specs.inner.Steps.{IsAbout, StaysSound, WritesOver};

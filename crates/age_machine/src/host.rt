@@ -3,17 +3,19 @@
 ghost use Rattle.std.specs.Prelude.{◌≡◌, ◌+◌, ◌<◌, [], ◌∷◌, length, true, false, IsOk, IfOk};
 ghost use Rattle.std.specs.Prelude.{IfErr, OnOk, OnErr};
 ghost use Rattle.std.specs.Io.{WritesAtMost};
-ghost use Rattle.age_machine.specs.{Made, Opened, Broke, Waited, CountsFailure, number_of};
+ghost use Rattle.age_calls.specs.{Made, Opened, Broke, Waited, CountsFailure};
+ghost use Rattle.age_machine.specs.{number_of};
 ghost use Rattle.age_machine.specs.inner.Locks.{SaysNoLocks, HasNoLocks};
 
 use crate::calls;
 use crate::folder::{Folder, check_same, folder_of};
-use crate::machine::{Kind, Machine, Shape, Sight};
+use crate::machine::{Machine, Shape, Sight};
 use crate::node::{Node, found_at, is_at};
 use crate::notes::{Calls, FailedCalls, Word};
 use crate::retry::{TRIES, is_to_retry, too_many_tries};
 use crate::room::reclaim;
 use crate::waiting::{sync, wait_for};
+use age_calls::Kind;
 use std::fs::{self, File, Metadata, TryLockError};
 use std::io;
 use std::os::fd::AsRawFd;

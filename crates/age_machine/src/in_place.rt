@@ -5,17 +5,18 @@ ghost use Rattle.std.specs.Prelude.{take, string_bytes, true, false, is_some, If
 ghost use Rattle.std.specs.Prelude.{OnErr};
 ghost use Rattle.std.specs.Io.{WritesAtMost};
 ghost use Rattle.age_io.specs.declared.durability.Durability.TheVariants as wait;
-ghost use Rattle.age_machine.specs.Calls.{FileCall, Synced, Unwaited, Closed, ClosesLast, Locked, Unlockable};
-ghost use Rattle.age_machine.specs.Calls.{SyncedNames, UnwaitedNames, Waited};
-ghost use Rattle.age_machine.specs.Saves.{SavesWhole, IsSafe, IsThereAs};
-ghost use Rattle.age_machine.specs.Outs.{opening_of, is_making, is_waited, text_of, has_changed};
-ghost use Rattle.age_machine.specs.Outs.{IsClaimed, TouchesFile};
+ghost use Rattle.age_calls.specs.Calls.{FileCall, Synced, Unwaited, Closed, ClosesLast, Locked, Unlockable};
+ghost use Rattle.age_calls.specs.Calls.{SyncedNames, UnwaitedNames, Waited};
+ghost use Rattle.age_calls.specs.Saves.{SavesWhole, IsSafe, IsThereAs};
+ghost use Rattle.age_calls.specs.Outs.{opening_of, is_making, is_waited, text_of, has_changed};
+ghost use Rattle.age_calls.specs.Outs.{IsClaimed, TouchesFile};
 ghost use Rattle.age_machine.specs.Held.{AlwaysHasWritten};
 ghost use Rattle.age_machine.specs.inner.Steps.{IsAtPath, StaysHeld, RemovesAt};
 
 use crate::beside::settle;
 use crate::machine::{Machine, Shape};
 use crate::replacing::settle_names;
+use age_calls::Opening;
 use age_io::Durability;
 use std::io;
 use std::marker::Model;
@@ -25,36 +26,6 @@ use std::marker::Model;
 const SIGHT_OF_FOUND: u64 = 1 << 24;
 
 const SIGHT_OF_MADE: u64 = 1 << 30;
-
-/// How a file was opened.
-#[derive(Clone, Copy)]
-pub enum Opening {
-    /// It was made.
-    New,
-    /// It was there.
-    Found {
-        /// It had a name then.
-        is_named: bool,
-        /// The path is known to lead to it, so the end waits for that name.
-        is_waited: bool,
-    },
-}
-
-impl Opening {
-    fn is_made(self) -> bool
-        ensures { result ≡ is_making self }
-    {
-        matches!(self, Opening::New)
-    }
-
-    /// Whether it had a name.
-    fn is_named(self) -> bool {
-        match self {
-            Opening::New => true,
-            Opening::Found { is_named, .. } => is_named,
-        }
-    }
-}
 
 /// A regular file that is written in place, from its beginning on, by a machine of its own.
 #[derive(Drop)]
@@ -89,7 +60,7 @@ pub struct Ended<M> {
 
 impl<M: Machine> Model for Out<M> {
     ghost use Rattle.std.specs.Prelude.{◌≡◌, ◌<◌, ℕ, true, string_bytes, is_some};
-    ghost use Rattle.age_machine.specs.Outs.{OutView, opening_of, is_making};
+    ghost use Rattle.age_calls.specs.Outs.{OutView, opening_of, is_making};
     ghost use Rattle.age_machine.specs.Held.{IsOut};
 
     ghost Value = { OutView };

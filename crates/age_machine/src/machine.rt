@@ -2,21 +2,13 @@
 
 ghost use Rattle.std.specs.Prelude.{◌≡◌, ◌≤◌, ◌<◌, ℕ, List, ◌∷◌, take, length, true, false, IfOk};
 ghost use Rattle.std.specs.Prelude.{OnOk, OnErr, MatchOption};
-ghost use Rattle.age_machine.specs.Calls.{FileCall, Made, Opened, Wrote, Cut, Broke, Measured};
-ghost use Rattle.age_machine.specs.Calls.{Synced, Unwaited, Closed, Locked, Unlockable, Missing};
-ghost use Rattle.age_machine.specs.Calls.{Linked, Renamed, Removed, Reclaimed, SyncedNames};
-ghost use Rattle.age_machine.specs.Calls.{UnwaitedNames, MayHave, Waited, CountsFailure};
+ghost use Rattle.age_calls.specs.Calls.{FileCall, Made, Opened, Wrote, Cut, Broke, Measured};
+ghost use Rattle.age_calls.specs.Calls.{Synced, Unwaited, Closed, Locked, Unlockable, Missing};
+ghost use Rattle.age_calls.specs.Calls.{Linked, Renamed, Removed, Reclaimed, SyncedNames};
+ghost use Rattle.age_calls.specs.Calls.{UnwaitedNames, MayHave, Waited, CountsFailure};
 
+use age_calls::Kind;
 use std::io;
-
-/// What was opened.
-#[derive(Clone, Copy)]
-pub enum Kind {
-    /// A regular file; whether the path is known to lead to it.
-    Regular(bool),
-    /// No regular file: a device or a pipe.
-    Device,
-}
 
 /// What a file is now.
 #[derive(Clone, Copy)]

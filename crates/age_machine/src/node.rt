@@ -1,5 +1,7 @@
 //! Which file is which.
 
+ghost use Rattle.age_machine.specs.Numbers.{NumbersAreApart};
+
 use std::fs::{self, File, Metadata};
 use std::io;
 use std::os::unix::fs::MetadataExt;
@@ -38,3 +40,8 @@ pub fn is_at(rt: &HostRuntime, file: &File, path: &str) -> bool {
         _ => false,
     }
 }
+
+/// Two files have one number only if they are one.
+pub fn numbers_are_apart()
+    ensures { NumbersAreApart }
+{}

@@ -3,13 +3,13 @@
 ghost use Rattle.std.specs.Prelude.{◌≡◌, ◌+◌, [], ◌∷◌, List, ℕ};
 ghost use Rattle.std.specs.Borrow.{ftrue};
 ghost use Rattle.std.specs.Coded.{coded_list};
-ghost use Rattle.age_machine.specs.Calls.{FileCall};
+ghost use Rattle.age_calls.specs.Calls.{FileCall};
 ghost use Rattle.age_machine.specs.inner.Calls.{coded_call};
 
-use crate::machine::Kind;
 use crate::node::Node;
 use crate::room::EmptyRoom;
 use crate::waiting::CantWait;
+use age_calls::Kind;
 use age_io::Tape;
 use std::marker::Model;
 

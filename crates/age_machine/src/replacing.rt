@@ -3,9 +3,9 @@
 ghost use Rattle.std.specs.Prelude.{◌≡◌, ◌≢◌, ◌⊎◌, ◌≤◌, ◌<◌, ◌∷◌, List, string_bytes, OnOk};
 ghost use Rattle.std.specs.Prelude.{OnErr, Err};
 ghost use Rattle.age_io.specs.declared.durability.Durability.TheVariants as wait;
-ghost use Rattle.age_machine.specs.Calls.{FileCall, Renamed, SyncedNames, UnwaitedNames, MayHave};
-ghost use Rattle.age_machine.specs.Calls.{Waited};
-ghost use Rattle.age_machine.specs.Saved.{Replaces};
+ghost use Rattle.age_calls.specs.Calls.{FileCall, Renamed, SyncedNames, UnwaitedNames, MayHave};
+ghost use Rattle.age_calls.specs.Calls.{Waited};
+ghost use Rattle.age_machine.specs.Beside.{Replaces};
 ghost use Rattle.age_machine.specs.Beside.{IsKept};
 ghost use Rattle.age_machine.specs.declared.beside.Unplaced.{Unplaced};
 ghost use Rattle.age_machine.specs.declared.beside.Unplaced.TheVariants.{Memory};

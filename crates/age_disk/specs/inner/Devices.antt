@@ -1,7 +1,7 @@
 -- What was opened and is no regular file. Private: no public contract cites this module.
 use Rattle.std.specs.Prelude.{ℕ, List, [], ◌∷◌, Option, Some, None}
-use Rattle.age_machine.specs.{FileCall, Opened}
-use Rattle.age_machine.specs.declared.machine.Kind.TheVariants.{Device}
+use Rattle.age_calls.specs.{FileCall, Opened}
+use Rattle.age_calls.specs.declared.opening.Kind.TheVariants.{Device}
 
 -- which one it is, if these calls only opened it
 abbrev pub device_of : List FileCall → Option ℕ

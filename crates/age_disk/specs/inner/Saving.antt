@@ -1,7 +1,7 @@
 -- What was done for a file that was replaced, at once or directly.
 use Rattle.std.specs.Prelude.{◌≡◌, ℕ, List, None, IsSomeAnd, Result, OnOk}
 use Rattle.age_io.specs.declared.durability.Durability.{Durability}
-use Rattle.age_machine.specs.Saved.{Saves}
+use Rattle.age_calls.specs.Saved.{Saves}
 use Rattle.age_disk.specs.Outputs.{WritesDirectly}
 use Rattle.age_disk.specs.declared.saving.Saved.{Saved}
 

@@ -1,10 +1,10 @@
 -- How calls are kept as ghost state. Private: no public contract cites this module.
 use Rattle.std.specs.Prelude.{◌≡◌, ℕ, List, [], ◌∷◌, true, false, get_or, refl}
 use Rattle.std.specs.Coded.{Coded, coded_ℕ, coded_list, coded×, code_by}
-use Rattle.age_machine.specs.Calls.{FileCall, Made, Opened, Wrote, Cut, Broke, Measured, Synced}
-use Rattle.age_machine.specs.Calls.{Unwaited, Closed, Locked, Unlockable, Missing, Linked, Renamed}
-use Rattle.age_machine.specs.Calls.{Removed, Reclaimed, SyncedNames, UnwaitedNames}
-use Rattle.age_machine.specs.declared.machine.Kind.TheVariants.{Regular, Device}
+use Rattle.age_calls.specs.Calls.{FileCall, Made, Opened, Wrote, Cut, Broke, Measured, Synced}
+use Rattle.age_calls.specs.Calls.{Unwaited, Closed, Locked, Unlockable, Missing, Linked, Renamed}
+use Rattle.age_calls.specs.Calls.{Removed, Reclaimed, SyncedNames, UnwaitedNames}
+use Rattle.age_calls.specs.declared.opening.Kind.TheVariants.{Regular, Device}
 
 -- which call it is, its texts, and its numbers
 abbrev CallParts : Type 0

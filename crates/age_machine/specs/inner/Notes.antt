@@ -1,8 +1,8 @@
 -- Which calls are noted. Private: no public contract cites this module.
 use Rattle.std.specs.Prelude.{List, [], ◌∷◌}
-use Rattle.age_machine.specs.Calls.{FileCall, Made, Opened, Wrote, Cut, Broke, Measured, Synced}
-use Rattle.age_machine.specs.Calls.{Unwaited, Closed, Locked, Unlockable, Missing, Linked, Renamed}
-use Rattle.age_machine.specs.Calls.{Removed, Reclaimed, SyncedNames, UnwaitedNames}
+use Rattle.age_calls.specs.Calls.{FileCall, Made, Opened, Wrote, Cut, Broke, Measured, Synced}
+use Rattle.age_calls.specs.Calls.{Unwaited, Closed, Locked, Unlockable, Missing, Linked, Renamed}
+use Rattle.age_calls.specs.Calls.{Removed, Reclaimed, SyncedNames, UnwaitedNames}
 use Rattle.age_machine.specs.Numbers.{number_of}
 use Rattle.age_machine.specs.declared.notes.Note.{Note}
 use Rattle.age_machine.specs.declared.notes.Note.TheVariants as note

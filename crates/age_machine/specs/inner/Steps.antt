@@ -1,11 +1,11 @@
 -- What the steps of a replacement do. Private: no public contract cites this module.
 use Rattle.std.specs.Prelude.{◌≡◌, ◌≢◌, ◌⊎◌, ℕ, List, ◌++◌, take, drop, true, Contains}
 use Rattle.age_machine.specs.Beside.{IsSparing, StandsAt}
-use Rattle.age_machine.specs.Calls.{FileCall, ClosesLast, Missing, Linked, Renamed, Removed}
-use Rattle.age_machine.specs.Calls.{SyncedNames, UnwaitedNames, IsOf, MayHave, Waited}
-use Rattle.age_machine.specs.Disk.{Disk, after_calls}
-use Rattle.age_machine.specs.Saves.{AllAnswered, AllWaited, Since}
-use Rattle.age_machine.specs.Outs.{AllOn, IsClaimed, LocksFirst}
+use Rattle.age_calls.specs.Calls.{FileCall, ClosesLast, Missing, Linked, Renamed, Removed}
+use Rattle.age_calls.specs.Calls.{SyncedNames, UnwaitedNames, IsOf, MayHave, Waited}
+use Rattle.age_calls.specs.Disk.{Disk, after_calls}
+use Rattle.age_calls.specs.Saves.{AllAnswered, AllWaited, Since}
+use Rattle.age_calls.specs.Outs.{AllOn, IsClaimed, LocksFirst}
 use Rattle.age_machine.specs.declared.replacing.Spot.{Spot}
 use Rattle.age_machine.specs.declared.replacing.Spot.TheVariants.{Free}
 

@@ -1,6 +1,7 @@
 use Rattle.std.proofs.Common.{◌≡◌, ◌<◌, ◌^◌, List, Option, Some, sym, ◌∙◌, ap, subst}
 use Rattle.std.specs.Prelude.{Contains, IfSome}
-use Rattle.age_machine.specs.{NumbersAreApart, number_of, OutFile}
+use Rattle.age_calls.specs.{OutFile}
+use Rattle.age_machine.specs.{NumbersAreApart, number_of}
 use Rattle.age_machine.specs.declared.node.Node.{Node}
 use Rattle.age_disk.specs.{OutputView, HasNode, IsApart, FileId}
 use Rattle.age_disk.specs.declared.names.FileId.TheVariants.{File}

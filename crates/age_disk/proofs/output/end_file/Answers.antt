@@ -1,5 +1,5 @@
 use Rattle.std.proofs.Common.{Some, ap}
-use Rattle.age_machine.specs.{OutFile}
+use Rattle.age_calls.specs.{OutFile}
 use Rattle.age_disk.proofs.{file_closes}
 use Rattle.age_disk.proofs.output.end_file.Goals as goal
 

@@ -1,5 +1,5 @@
 use Rattle.std.proofs.Common.{refl}
-use Rattle.age_machine.specs.{Broke}
+use Rattle.age_calls.specs.{Broke}
 use Rattle.age_machine.proofs.{held_one, held_settled, begun_settled, on_ok, place_waited}
 use Rattle.age_machine.proofs.in_place.finish.Goals as goal
 

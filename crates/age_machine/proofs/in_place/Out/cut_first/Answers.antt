@@ -1,5 +1,5 @@
 use Rattle.std.proofs.Common.{◌<◌, false, length, ap, arith, ◌∙◌, sym}
-use Rattle.age_machine.specs.{text_of}
+use Rattle.age_calls.specs.{text_of}
 use Rattle.age_machine.proofs.{out_after}
 use Rattle.age_machine.proofs.in_place.Out.cut_first.Goals as goal
 

@@ -1,6 +1,6 @@
 use Rattle.std.proofs.Common.{◌∙◌, length, refl, ap, sym, arith}
 use Rattle.std.proofs.lemmas.Result.{on_ok_weaker}
-use Rattle.age_machine.specs.{OutView, text_of}
+use Rattle.age_calls.specs.{OutView, text_of}
 use Rattle.age_machine.proofs.{safe_named, placed_closed, leads_begun, on_ok_both, out_held, touches_held, touches_now, waited_for}
 use Rattle.age_machine.proofs.in_place.Out.end.Goals as goal
 

@@ -1,6 +1,6 @@
 -- The calls of the system by which a file is written, or put in another's place.
 use Rattle.std.specs.Prelude.{◌≡◌, ◌⊎◌, ◌<◌, ℕ, List, [], ◌∷◌, Result, Ok, Err}
-use Rattle.age_machine.specs.declared.machine.Kind.{Kind}
+use Rattle.age_calls.specs.declared.opening.Kind.{Kind}
 
 -- a call that succeeded, or that may have done something although it failed, or what a call showed;
 -- a file goes by its number, a name by its path

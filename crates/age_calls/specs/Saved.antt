@@ -1,11 +1,8 @@
 -- What was done for a position that was saved.
-use Rattle.std.specs.Prelude.{◌≡◌, List, [], ℕ, Option, IfSome, Result, OnOk}
+use Rattle.std.specs.Prelude.{List, [], ℕ, Option, IfSome, Result, OnOk}
 use Rattle.age_io.specs.declared.durability.Durability.{Durability}
-use Rattle.age_machine.specs.Beside.{IsReplacing}
-use Rattle.age_machine.specs.Calls.{FileCall}
-use Rattle.age_machine.specs.Saves.{IsThereAs, Since, SparesFile, Touches}
-use Rattle.age_machine.specs.declared.replacing.Spot.{Spot}
-use Rattle.age_machine.specs.declared.replacing.Spot.TheVariants.{Free}
+use Rattle.age_calls.specs.Calls.{FileCall}
+use Rattle.age_calls.specs.Saves.{IsThereAs, Touches}
 
 -- a file that was replaced
 pub record SavedFile : Type 0 where
@@ -21,13 +18,6 @@ pub record PutsAtOnce {E : Type 0} (bytes : List ℕ) (durability : Durability)
   pub there : OnOk result ((n : ℕ) × IsThereAs path n bytes calls)
   -- Only the path, new files beside it and rooms that stopped runs left there are touched.
   pub touches : Touches path old calls
-
--- and what has come there stays, where nothing was
-pub record Replaces {E : Type 0} (to : Spot) (bytes : List ℕ) (durability : Durability)
-    (result : Result (Unit {0}) E) (old calls : List FileCall) (path : List ℕ) : Type 0 where
-  pub puts : PutsAtOnce bytes durability result old calls path
-  pub steps : Since (IsReplacing to path) old calls
-  pub spares : to ≡ Free → SparesFile path old calls
 
 -- The bytes of a position were put there at once, unless they were written directly. What a power cut
 -- leaves of it is tested, whether the disk was waited for or not: nothing here depends on that.

@@ -1,19 +1,18 @@
 -- A disk, and what a power cut leaves of it, for each law.
 use Rattle.std.proofs.lemmas.Grind.{common_steps}
-use Rattle.std.proofs.Common.{◌≡◌, inl, inr, ⊎_elim, ℕ, List, [], ◌∷◌, ◌++◌, Option, Some, None, true, false, length, refl, sym, ◌∙◌, ap, subst}
-use Rattle.std.proofs.Common.{◌<◌, ◌^◌, arith}
+use Rattle.std.proofs.Common.{◌≡◌, inl, inr, ⊎_elim, ℕ, List, [], ◌∷◌, ◌++◌, Some, None, true, false, length, refl, sym, ◌∙◌, ap, subst, arith}
 use Rattle.std.specs.Prelude.{Contains}
 use Rattle.std.proofs.lemmas.Bool.{false≢true}
 use Rattle.std.proofs.lemmas.List.{append-nil, drop_all, take_all}
-use Rattle.age_machine.specs.Calls.{Measured}
-use Rattle.age_machine.specs.{FileCall, Made, Opened, Wrote, Cut, Synced, Missing, Linked, SyncedNames, Locked, Regular, after_call}
-use Rattle.age_machine.specs.{after_calls, MayLead, MayLeave, IsAnswered, AllAnswered, IsSafe, CanLeave, filled, renamed, linked, bare, bare_but}
-use Rattle.age_machine.specs.{overwritten, put_out, HasOneLock, OutFile, opening_of, is_waited, IsOn, AllOn, TouchesFile, number_of, Node}
-use Rattle.age_machine.specs.declared.in_place.Opening.{Opening}
-use Rattle.age_machine.specs.declared.in_place.Opening.TheVariants as way
-use Rattle.age_machine.specs.Disk.{Disk}
-use Rattle.age_machine.proofs.OutLemmas.{opened_beside, contains_none, contains_cases}
-use Rattle.age_machine.proofs.SaveLemmas.{path_same, path_other, file_same, sized_within}
+use Rattle.age_calls.specs.Calls.{Measured}
+use Rattle.age_calls.specs.{FileCall, Made, Opened, Wrote, Cut, Synced, Missing, Linked, SyncedNames, Locked, Regular, after_call}
+use Rattle.age_calls.specs.{after_calls, MayLead, MayLeave, IsAnswered, AllAnswered, IsSafe, CanLeave, filled, renamed, linked, bare, bare_but}
+use Rattle.age_calls.specs.{overwritten, put_out, HasOneLock, IsUnchanged, OutFile, opening_of, is_waited, IsOn, AllOn, MayChange, IsClaimed, LocksFirst, TouchesFile, HasMade}
+use Rattle.age_calls.specs.declared.opening.Opening.{Opening}
+use Rattle.age_calls.specs.declared.opening.Opening.TheVariants as way
+use Rattle.age_calls.specs.Disk.{Disk}
+use Rattle.age_calls.proofs.DiskLemmas.{path_same, path_other, file_same, file_other, sized_within, contains_first, contains_later, contains_none, contains_cases}
+use Rattle.age_calls.proofs.DiskLemmas.{claimed_later, no_claim}
 
 -- ---- What a power cut may leave.
 
@@ -51,10 +50,60 @@ module _ (n : ℕ) (from path bytes : List ℕ) (apart : from ≡ path → ⊥) 
   pub both_answered : AllAnswered path (renamed n from path bytes) bare × AllAnswered path (linked n from path bytes) bare
   both_answered = ((tt, (tt, (tt, (tt, answered)))), (tt, (tt, (free, (tt, (tt, answered))))))
 
--- ---- Which file has which number.
+-- ---- Two runs.
 
-pub numbers_apart : (one other : Node) → one.inode < 2 ^ 64 → other.inode < 2 ^ 64 → number_of one ≡ number_of other → one ≡ other
-numbers_apart one other first second same = grind (arith, common_steps)
+-- without a lock nothing of a file is changed
+never_changed : (n : ℕ) (calls : List FileCall) → LocksFirst n calls → (IsClaimed n calls → ⊥)
+    → (call : FileCall) → Contains calls call → MayChange n call → ⊥
+never_changed n [] locks none call held may = contains_none call held
+never_changed n (first ∷ calls) locks none call held may =
+    ⊎_elim (λ same. earlier (locks.0 (subst (λ (c : FileCall). MayChange n c) (sym same) may)))
+    (λ later. never_changed n calls locks.1 earlier call later may) (contains_cases call first calls held) where
+      earlier : IsClaimed n calls → ⊥
+      earlier claimed = none (claimed_later n first calls claimed)
+
+kept_by : (n : ℕ) (call : FileCall) (disk : Disk) → (MayChange n call → ⊥)
+    → ((path : List ℕ) → call ≡ Made path n → ⊥) → (after_call call disk).bytes n ≡ disk.bytes n
+kept_by n call disk h0 h1 = grind (arith, common_steps, file_other)
+
+kept_by_all : (n : ℕ) (calls : List FileCall) → ((call : FileCall) → Contains calls call → MayChange n call → ⊥) → (HasMade n calls → ⊥)
+    → (disk : Disk) → (after_calls calls disk).bytes n ≡ disk.bytes n
+kept_by_all n [] none made disk = refl
+kept_by_all n (call ∷ calls) none made disk =
+    kept_by n call (after_calls calls disk) (λ may. none call (contains_first call calls) may)
+    (λ path is. made (
+      path,
+      subst (λ (c : FileCall). Contains (c ∷ calls) (Made path n)) (sym is) (contains_first (Made path n) calls),
+    )) ∙ kept_by_all n calls (λ other held may. none other (contains_later call other calls held) may)
+    (λ has. made (has.0, contains_later call (Made has.0 n) calls has.1)) disk
+
+pub second_unchanged : (n : ℕ) (one other : List FileCall) → HasOneLock n one other → IsUnchanged n other
+second_unchanged n one other lock = record {
+  none = none;
+  same = λ made disk. kept_by_all n other none made disk;
+} where
+  none : (call : FileCall) → Contains other call → MayChange n call → ⊥
+  none = never_changed n other lock.first (⊎_elim (lock.once lock.has) lock.lockable)
+
+pub late : (n : ℕ) (path bytes : List ℕ) → LocksFirst n (Locked n ∷ Wrote n 0 bytes ∷ Opened path n (Regular true) ∷ []) → ⊥
+late n path bytes locks = no_claim path n (way.Found true true) (locks.1.0 refl)
+
+-- another run that has only opened the file
+pub opened_beside : (n : ℕ) (path : List ℕ) (one : List FileCall) → Contains one (Locked n) → HasOneLock n one (Opened path n (Regular true) ∷ [])
+opened_beside n path one has = grind (arith, common_steps, no_claim)
+
+-- ---- Other files.
+
+module _ (path : List ℕ) (n m : ℕ) (other : m ≡ n → ⊥) where
+  apart_by : (k : ℕ) → k ≡ n → k ≡ m → ⊥
+  apart_by k is same = other (sym same ∙ is)
+
+  other_kept : (before : List FileCall) (call : FileCall) → IsOn path n before call → (disk : Disk) → (after_call call disk).bytes m ≡ disk.bytes m
+  other_kept before call h0 disk = grind (arith, common_steps, apart_by, file_other)
+
+  pub others_kept : (calls : List FileCall) → AllOn path n calls → (disk : Disk) → (after_calls calls disk).bytes m ≡ disk.bytes m
+  others_kept [] on disk = refl
+  others_kept (call ∷ calls) on disk = other_kept calls call on.0 (after_calls calls disk) ∙ others_kept calls on.1 disk
 
 -- ---- A file that is written in place.
 

@@ -1,11 +1,11 @@
 -- A file that is written in place, by a machine that makes no other calls.
 use Rattle.std.specs.Prelude.{◌≡◌, ◌⊎◌, ◌≤◌, ℕ, List, [], ◌∷◌, ◌++◌, length, Bool, true, false}
 use Rattle.std.specs.Prelude.{Contains}
-use Rattle.age_machine.specs.Calls.{FileCall, Made, Opened, Wrote, Cut, Broke, Measured, Locked}
-use Rattle.age_machine.specs.Calls.{Unlockable, Removed, SyncedNames, UnwaitedNames, IsOf}
-use Rattle.age_machine.specs.declared.in_place.Opening.{Opening}
-use Rattle.age_machine.specs.declared.in_place.Opening.TheVariants as way
-use Rattle.age_machine.specs.declared.machine.Kind.TheVariants.{Regular}
+use Rattle.age_calls.specs.Calls.{FileCall, Made, Opened, Wrote, Cut, Broke, Measured, Locked}
+use Rattle.age_calls.specs.Calls.{Unlockable, Removed, SyncedNames, UnwaitedNames, IsOf}
+use Rattle.age_calls.specs.declared.opening.Opening.{Opening}
+use Rattle.age_calls.specs.declared.opening.Opening.TheVariants as way
+use Rattle.age_calls.specs.declared.opening.Kind.TheVariants.{Regular}
 
 -- which file it is, and at which path; whether opening made it
 pub record OutFile : Type 0 where

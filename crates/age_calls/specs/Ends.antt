@@ -4,10 +4,10 @@ use Rattle.std.specs.Prelude.{MatchOption, Result, OnOk, OnErr}
 use Rattle.age_io.specs.{SinkView}
 use Rattle.age_io.specs.declared.durability.Durability.{Durability}
 use Rattle.age_io.specs.declared.durability.Durability.TheVariants.{Synced}
-use Rattle.age_machine.specs.Calls.{FileCall, ClosesLast, Opened}
-use Rattle.age_machine.specs.declared.machine.Kind.TheVariants.{Device}
-use Rattle.age_machine.specs.Outs.{OutFile, TouchesFile, has_changed}
-use Rattle.age_machine.specs.Saves.{IsSafe, IsThereAs, SavesWhole}
+use Rattle.age_calls.specs.Calls.{FileCall, ClosesLast, Opened}
+use Rattle.age_calls.specs.declared.opening.Kind.TheVariants.{Device}
+use Rattle.age_calls.specs.Outs.{OutFile, TouchesFile, has_changed}
+use Rattle.age_calls.specs.Saves.{IsSafe, IsThereAs, SavesWhole}
 
 -- an output that was ended
 pub record EndedFile : Type 0 where

@@ -1,15 +1,13 @@
 -- What may become of a file that is put to a path, or written in place, with a call less, or with two
 -- in another order.
-use Rattle.std.specs.Prelude.{◌≡◌, ◌≢◌, ◌<◌, ◌^◌, ℕ, List, [], ◌∷◌, ◌++◌, length, Some, None, true}
+use Rattle.std.specs.Prelude.{◌≡◌, ◌≢◌, ℕ, List, [], ◌∷◌, ◌++◌, length, Some, None, true}
 use Rattle.std.specs.Prelude.{false, Contains}
-use Rattle.age_machine.specs.Calls.{FileCall, Made, Opened, Wrote, Cut, Measured, Synced, Closed}
-use Rattle.age_machine.specs.Calls.{Locked, Unlockable, Linked, Renamed, Removed, SyncedNames}
-use Rattle.age_machine.specs.declared.machine.Kind.TheVariants.{Regular}
-use Rattle.age_machine.specs.Disk.{Disk, at_path, after_calls, MayLeave}
-use Rattle.age_machine.specs.Saves.{AllAnswered, AllWaited, IsSafe, HasMade}
-use Rattle.age_machine.specs.Outs.{OutFile, AllOn, is_waited, MayChange, LocksFirst, TouchesFile}
-use Rattle.age_machine.specs.Numbers.{number_of}
-use Rattle.age_machine.specs.declared.node.Node.{Node}
+use Rattle.age_calls.specs.Calls.{FileCall, Made, Opened, Wrote, Cut, Measured, Synced, Closed}
+use Rattle.age_calls.specs.Calls.{Locked, Unlockable, Linked, Renamed, Removed, SyncedNames}
+use Rattle.age_calls.specs.declared.opening.Kind.TheVariants.{Regular}
+use Rattle.age_calls.specs.Disk.{Disk, at_path, after_calls, MayLeave}
+use Rattle.age_calls.specs.Saves.{AllAnswered, AllWaited, IsSafe, HasMade}
+use Rattle.age_calls.specs.Outs.{OutFile, AllOn, is_waited, MayChange, LocksFirst, TouchesFile}
 
 -- the calls of a replacement, the newest first
 abbrev pub filled : ℕ → List ℕ → List ℕ → List FileCall
@@ -111,8 +109,3 @@ ChangedIfLockedLate = (n : ℕ) (path bytes : List ℕ)
 abbrev pub OthersAreKept : Type 0
 OthersAreKept = (path : List ℕ) (n m : ℕ) (calls : List FileCall) → AllOn path n calls → m ≢ n
     → (disk : Disk) → (after_calls calls disk).bytes m ≡ disk.bytes m
-
--- Two files have one number only if they are one: the inode of each fits into 64 bits.
-abbrev pub NumbersAreApart : Type 0
-NumbersAreApart = (one other : Node) → one.inode < 2 ^ 64 → other.inode < 2 ^ 64
-    → number_of one ≡ number_of other → one ≡ other

@@ -1,9 +1,9 @@
 //! Laws of disks: that the calls of a replacement and of an output can be answered, and what none may
 //! leave out.
 
-ghost use Rattle.age_machine.specs.{PutsAreAnswered, OutsAreAnswered, TornIfUnsynced};
-ghost use Rattle.age_machine.specs.{CallsAreAnswered, TornIfCutLast, SecondRunIsHarmless};
-ghost use Rattle.age_machine.specs.{ChangedIfLockedLate, OthersAreKept, NumbersAreApart};
+ghost use Rattle.age_calls.specs.{PutsAreAnswered, OutsAreAnswered, TornIfUnsynced};
+ghost use Rattle.age_calls.specs.{CallsAreAnswered, TornIfCutLast, SecondRunIsHarmless};
+ghost use Rattle.age_calls.specs.{ChangedIfLockedLate, OthersAreKept};
 
 /// There is a disk that answers the calls of a replacement, by a rename or by a link.
 pub fn puts_are_answered()
@@ -40,19 +40,13 @@ pub fn second_run_changes_nothing()
 {}
 
 /// A run that locks a file after it wrote to it doesn't lock it first.
-#[tactic(auto, using(crate::proofs::OutLemmas::late))]
+#[tactic(auto, using(crate::proofs::LawLemmas::late))]
 pub fn changed_if_locked_late()
     ensures { ChangedIfLockedLate }
 {}
 
 /// An output changes no other file.
-#[tactic(auto, using(crate::proofs::OutLemmas::others_kept))]
+#[tactic(auto, using(crate::proofs::LawLemmas::others_kept))]
 pub fn others_are_kept()
     ensures { OthersAreKept }
-{}
-
-/// Two files have one number only if they are one.
-#[tactic(auto, using(crate::proofs::LawLemmas::numbers_apart))]
-pub fn numbers_are_apart()
-    ensures { NumbersAreApart }
 {}

@@ -1,11 +1,11 @@
 -- What it means that a file is at a path, also after a power cut, and what is touched for it.
 use Rattle.std.specs.Prelude.{◌≡◌, ◌≢◌, ◌⊎◌, ℕ, List, [], ◌∷◌, ◌++◌, length, Option, Some, None}
 use Rattle.std.specs.Prelude.{true, false, codes, decimal, Contains}
-use Rattle.age_machine.specs.Calls.{FileCall, Made, Opened, Wrote, Cut, Broke, Measured, Synced}
-use Rattle.age_machine.specs.Calls.{Unwaited, Closed, ClosesLast, Locked, Unlockable, Missing, Linked, Renamed}
-use Rattle.age_machine.specs.Calls.{Removed, Reclaimed, SyncedNames, UnwaitedNames}
-use Rattle.age_machine.specs.declared.machine.Kind.TheVariants.{Regular}
-use Rattle.age_machine.specs.Disk.{Disk, after_calls, MayLead, MayLeave}
+use Rattle.age_calls.specs.Calls.{FileCall, Made, Opened, Wrote, Cut, Broke, Measured, Synced}
+use Rattle.age_calls.specs.Calls.{Unwaited, Closed, ClosesLast, Locked, Unlockable, Missing, Linked, Renamed}
+use Rattle.age_calls.specs.Calls.{Removed, Reclaimed, SyncedNames, UnwaitedNames}
+use Rattle.age_calls.specs.declared.opening.Kind.TheVariants.{Regular}
+use Rattle.age_calls.specs.Disk.{Disk, after_calls, MayLead, MayLeave}
 
 -- A disk on which this call is the next one answers. A file that is made is a new one, to which the
 -- path may not lead, and comes where nothing is, as a link does. What is opened is the regular file at

@@ -1,0 +1,3 @@
+pub mod DiskLemmas
+pub mod LawLemmas
+unfoldable pub use LawLemmas.*
