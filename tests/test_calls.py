@@ -1,5 +1,5 @@
 """Compares the calls of the built program with the definitions that its contracts cite. It records what each run does to its files, also
-if a call fails (tools/shim.c), and computes what that leaves by `age_machine/specs/Disk.antt` itself (tools/definitions.py):
+if a call fails (tools/shim.c), and computes what that leaves by `age_calls/specs/Disk.antt` itself (tools/definitions.py):
 
 - the disk that the definitions give is the real one, so they say rightly what calls do;
 - after status 0 a power cut leaves OUT as it is, and so a position, once it was said to be saved;
@@ -20,7 +20,7 @@ from tests.case import claim, needs
 from tools import definitions, shim
 from tools.workspace import CRATES
 
-AFTER_CALL = definitions.read(CRATES / "age_machine/specs/Disk.antt")["after_call"]
+AFTER_CALL = definitions.read(CRATES / "age_calls/specs/Disk.antt")["after_call"]
 ANYTHING = "anything"
 NOTHING = ("None",)
 # What a disk has of the paths and files that weren't named.

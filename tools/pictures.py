@@ -208,7 +208,8 @@ WORDS = {
     "age_keys": ("which key opens", "a header; its MAC"),
     "age_fault": ("one list of faults", ""), "age_intake": ("what engines read,", "and the first fault"),
     "age_position": ("where a run stands,", "and can go on"), "age_sealing": ("the age file", "of a text"), "age_inspection": ("what a file holds", ""),
-    "age_opening": ("the headline for", "runs, also resumed"), "age_c": ("the headline for", "callers in C"), "age_machine": ("what calls leave", "on a disk"),
+    "age_opening": ("the headline for", "runs, also resumed"), "age_c": ("the headline for", "callers in C"), "age_machine": ("OUT and positions,", "call by call"),
+    "age_calls": ("what calls leave", "on a disk"),
     "age_file": ("all engines,", "there and back"), "age_fileset": ("what became of", "a command's files"), "age_cli_args": ("what the words", "ask for"),
     "age_messages": ("what people read", "(tested)"), "age_disk": ("the machine's files", "(partly tested)"), "age_command": ("what the commands", "share"),
     "age_drill": ("drills: the headline", "shown"), "age_hints": ("advice after a run", "(tested)"), "age_cli": ("what status 0 means", "(the clause zero)"), "age_tool": ("main", ""),
@@ -224,7 +225,7 @@ TESTED = {"age_hints": 1, "age_messages": 1, "age_disk": 0.4, "age_machine": 0.2
 # Each crate's column, so that the way passes behind no other.
 COLUMN = {
     "age_hints": 0, "age_drill": 1, "age_cli": 2, "age_tool": 3, "age_disk": 1, "age_command": 2, "age_messages": 3, "age_cli_args": 0, "age_fileset": 2, "age_file": 3,
-    "age_c": 0, "age_opening": 1, "age_sealing": 2, "age_machine": 3, "age_inspection": 4, "age_intake": 0, "age_keys": 2, "age_position": 4,
+    "age_c": 4, "age_calls": 0, "age_opening": 1, "age_sealing": 2, "age_machine": 3, "age_inspection": 4, "age_intake": 0, "age_keys": 2, "age_position": 4,
     "age_scrypt": 0, "age_stream": 1, "age_fault": 3, "age_stanza": 4, "age_kdf": 0, "age_chunk": 1, "age_cipher": 2, "age_io": 4,
 }
 

@@ -1,3 +1,2 @@
 pub mod DiskLemmas
 pub mod LawLemmas
-unfoldable pub use LawLemmas.*

@@ -1,9 +1,8 @@
 //! Laws of disks: that the calls of a replacement and of an output can be answered, and what none may
 //! leave out.
 
-ghost use Rattle.age_calls.specs.{PutsAreAnswered, OutsAreAnswered, TornIfUnsynced};
-ghost use Rattle.age_calls.specs.{CallsAreAnswered, TornIfCutLast, SecondRunIsHarmless};
-ghost use Rattle.age_calls.specs.{ChangedIfLockedLate, OthersAreKept};
+ghost use Rattle.age_calls.specs.{PutsAreAnswered, OutsAreAnswered, CallsAreAnswered, OthersAreKept};
+ghost use Rattle.age_calls.specs.{TornIfUnsynced, TornIfCutLast, SecondRunIsHarmless, ChangedIfLockedLate};
 
 /// There is a disk that answers the calls of a replacement, by a rename or by a link.
 pub fn puts_are_answered()

@@ -22,8 +22,7 @@ use Rattle.age_position.specs.declared.position.PositionPolicy.TheVariants.{Kept
 use Rattle.age_opening.specs.declared.decryption.Stopped.{Stopped}
 use Rattle.age_sealing.specs.Encrypts.{Encrypts}
 use Rattle.age_calls.specs.{EndedFile, TouchesItself, IsThere, IsOnDisk, IsUntouched, SavedFile}
-use Rattle.age_calls.specs.Calls.{Opened}
-use Rattle.age_calls.specs.Saves.{AllAnswered}
+use Rattle.age_calls.specs.{Opened, AllAnswered}
 use Rattle.age_calls.specs.declared.opening.Kind.TheVariants.{Regular}
 use Rattle.age_calls.specs.Disk.{Disk}
 use Rattle.age_calls.specs.Saved.{Saves}
