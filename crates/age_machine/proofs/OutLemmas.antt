@@ -9,7 +9,8 @@ use Rattle.age_calls.specs.{FileCall, Made, Opened, Wrote, Broke, Synced, Unwait
 use Rattle.age_calls.specs.declared.opening.Opening.{Opening}
 use Rattle.age_calls.specs.declared.opening.Opening.TheVariants as way
 use Rattle.age_calls.specs.declared.opening.Kind.{Kind}
-use Rattle.age_calls.specs.{Regular, sized, after_call, after_calls, IsAmong, MayLead, MayLeave, IsAnswered, AllAnswered, SavesWhole, LeadsTo}
+use Rattle.age_calls.specs.declared.opening.Kind.TheVariants.{Regular}
+use Rattle.age_calls.specs.{sized, after_call, after_calls, IsAmong, MayLead, MayLeave, IsAnswered, AllAnswered, SavesWhole, LeadsTo}
 use Rattle.age_calls.specs.{OutFile, opening_of, is_making, is_waited, text_of, IsOn, MayChange, IsClaimed, TouchesFile}
 use Rattle.age_machine.specs.{HasWritten, AlwaysHasWritten, IsJustOpened, IsOut}
 use Rattle.age_calls.specs.Disk.{Disk}
