@@ -21,7 +21,8 @@ use Rattle.age_command.specs.{Follows, is_usage, replacing}
 use Rattle.age_command.specs.declared.ending.Ending.{Ending}
 use Rattle.age_command.specs.declared.ending.Ending.TheVariants.{Fault}
 use Rattle.age_cli.specs.{IsDue, IsThereUnlessFailed, IsSaved, Reached, stop_ending}
-use Rattle.age_cli.specs.inner.{Concludes, EndsOut, IsLeft, IsPut, IsUnsavable, LacksOne, LeavesOut, PutsRest, SavesStop}
+use Rattle.age_cli.specs.Acts.{PutsRest}
+use Rattle.age_cli.specs.inner.{Concludes, EndsOut, IsLeft, IsPut, IsUnsavable, LacksOne, LeavesOut, SavesStop}
 use Rattle.age_cli.proofs.OpeningLemmas.{same_events, some_and}
 use Rattle.age_command.proofs.FileLemmas.{did_came}
 use Rattle.age_fileset.specs.declared.files.OpenFault.TheVariants as refusal

@@ -38,7 +38,7 @@ use Rattle.age_cli_args.specs.declared.request.ProgressOption.TheVariants.{Shown
 use Rattle.age_cli_args.specs.declared.request.Request.{Request}
 use Rattle.age_cli_args.specs.declared.request.Request.TheVariants.{Encrypt, Decrypt, Resume, Inspect, Drill}
 use Rattle.age_command.specs.{is_usage, HoldsOnly, IsUnreadable, allows_by, refuses_by, blame_by}
-use Rattle.age_command.specs.{MakesBy, MakesNone, Follows, Order, AreApart}
+use Rattle.age_command.specs.{MakesBy, MakesNone, Follows, Order, AreApart, replacing}
 use Rattle.age_command.specs.{HoldsNoPassphrase, NamesTwice, order_asked, random_name}
 use Rattle.age_command.specs.declared.ending.Ending.{Ending}
 use Rattle.age_command.specs.declared.ending.Ending.TheVariants.{Fault, Unsaved, Usage}
@@ -46,6 +46,10 @@ use Rattle.age_command.specs.declared.ending.Usage.TheVariants.{SameFile, OutIsT
 use Rattle.age_command.specs.declared.ending.Usage.TheVariants.{BadRandomFile}
 use Rattle.age_command.specs.declared.identity.Identity.{Identity}
 use Rattle.age_drill.specs.{RefusesDrill}
+use Rattle.age_cli.specs.declared.interruption.Reached.{Reached}
+use Rattle.age_cli.specs.declared.interruption.Stop.{Stop}
+use Rattle.age_cli.specs.declared.interruption.Unfinished.{Unfinished}
+use Rattle.age_cli.specs.declared.interruption.Unfinished.TheVariants.{Ended, Stopped as StoppedAt}
 use Rattle.age_cli.specs.Commands.{HoldsNoPosition, MakesSecret, WasRead, old_found}
 
 -- ---- How a command or a run ended: with all done, or with an ending.
@@ -257,6 +261,37 @@ IsSaved Came durability settled (Some p) (Some name) save puts saved Untried =
     ⊎ ((p.index * chunk_length ≤ settled) × IsStored Came durability name p save puts saved)
 IsSaved Came durability settled position name save puts saved Untried =
     (save ≡ Ok tt) × (puts ≡ []) × Untried
+
+-- the position was saved, or not, and the ending says how that went
+pub record PutsRest (durability : Durability) (save : Option Text) (fault : FileFault) (place : Reached)
+    (old new : FilesView) (ending : Ending) : Type 0 where
+  pub how : Result (Unit {0}) FileFault
+  pub reported : ending ≡ stop_ending fault how
+  pub rest : List Entry
+  pub puts : PutsOnly rest old new
+  pub due : Option Position
+  pub is_due : IsDue (CameSince old new) place.position save due
+  pub saved : IsSaved (CameSince old new) durability place.settled due save how rest new.saved
+      (new.events ≡ old.events)
+
+-- that of this stop; nothing else was done
+pub record IsConcluded (s : Stop) (old new : FilesView) (ending : Ending) : Type 0 where
+  pub noted : Follows (replacing (option_text s.save) s.durability) old.events new.events
+  pub unended : new.ended ≡ old.ended
+  pub put : PutsRest s.durability (option_text s.save) s.fault s.place old new ending
+
+-- what is unfinished was concluded
+abbrev pub Concluding : Unfinished → (old new : FilesView) → Ending → Type 0
+Concluding (Ended e) old new ending = (ending ≡ e) × (new ≡ old)
+Concluding (StoppedAt s) old new ending = IsConcluded s old new ending
+
+-- This holds of the files and of how a command ended: at once, if all was done, and otherwise however what
+-- is unfinished is concluded.
+pub record Finally (P : FilesView → Result (Unit {0}) Ending → Type 0) (files : FilesView)
+    (result : Result (Unit {0}) Unfinished) : Type 0 where
+  pub done : OnOk result (P files (Ok tt))
+  pub unfinished : IfErr result
+      (λ u. (new : FilesView) (ending : Ending) → Concluding u files new ending → P new (Err ending))
 
 -- what its sink took is at its path, and on the disk, if that was to be waited for; or a call for it has
 -- failed

@@ -22,6 +22,8 @@ use Rattle.age_command.specs.declared.ending.Ending.{Ending}
 use Rattle.age_command.specs.declared.ending.Ending.TheVariants.{Fault, Usage}
 use Rattle.age_calls.specs.{Closes, EndedFile, OutFile, TouchesItself, IsUntouched}
 use Rattle.age_cli.specs.Acts.{stop_ending, IsDue, IsSaved, Engine}
+use Rattle.age_cli.specs.declared.interruption.Unfinished.{Unfinished}
+use Rattle.age_cli.specs.declared.interruption.Unfinished.TheVariants.{Ended}
 use Rattle.age_cli.specs.Acts.{SparesOut, AreSame, IsUnusable, NamesOne, IsThereUnlessFailed}
 use Rattle.age_cli.specs.declared.interruption.Reached.{Reached}
 use Rattle.age_io.specs.Supply.{Supply}
@@ -57,6 +59,11 @@ IsForOutput kind = (kind ≡ DisplayHelp) ⊎ (kind ≡ DisplayVersion)
 abbrev pub sealing_end : Result Written FileFault → Result (Unit {0}) FileFault
 sealing_end (Ok written) = Ok tt
 sealing_end (Err fault) = Err fault
+
+-- how a command without a position ended
+abbrev pub ended_so : Result (Unit {0}) Ending → Result (Unit {0}) Unfinished
+ended_so (Ok done) = Ok done
+ended_so (Err e) = Err (Ended e)
 
 abbrev pub end_of : Result Done Stopped → Result (Unit {0}) FileFault
 end_of (Ok done) = Ok tt
@@ -111,18 +118,6 @@ LacksOne save position = Unit {0}
 abbrev pub IsUnsavable : (settled : ℕ) → Position → (second : FileFault) → Type 0
 IsUnsavable settled p second =
     (second ≡ Memory) ⊎ ((second ≡ Write) × (settled < p.index * chunk_length))
-
--- the position was saved, or not, and the ending says how that went
-pub record PutsRest (durability : Durability) (save : Option Text) (fault : FileFault) (place : Reached)
-    (old new : FilesView) (ending : Ending) : Type 0 where
-  pub how : Result (Unit {0}) FileFault
-  pub reported : ending ≡ stop_ending fault how
-  pub rest : List Entry
-  pub puts : PutsOnly rest old new
-  pub due : Option Position
-  pub is_due : IsDue (CameSince old new) place.position save due
-  pub saved : IsSaved (CameSince old new) durability place.settled due save how rest new.saved
-      (new.events ≡ old.events)
 
 -- OUT was left, whose sink is this, and the position was saved, if there is one and a file for it, and if it
 -- isn't beyond what is certain

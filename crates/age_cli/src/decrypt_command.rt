@@ -6,21 +6,22 @@ ghost use Rattle.age_intake.specs.{ports};
 ghost use Rattle.age_cli_args.specs.{option_text};
 ghost use Rattle.age_cli_args.specs.declared.request.ProgressOption.TheVariants.{Silent, Shown};
 ghost use Rattle.age_cli_args.specs.declared.request.Request.TheVariants.{Decrypt};
-ghost use Rattle.age_command.specs.{NamesTwice, Tells, allows_by, identity_order, refuses_by};
+ghost use Rattle.age_command.specs.{NamesTwice, allows_by, identity_order, refuses_by};
 ghost use Rattle.age_io.specs.{Named, Origin};
 ghost use Rattle.age_fileset.specs.{CameSince, FilesView, Outcome};
-ghost use Rattle.age_cli.specs.Acts.{Acts};
+ghost use Rattle.age_cli.specs.Acts.{Acts, Finally};
 ghost use Rattle.age_cli.specs.{OpensNone, OpensOf, PortsOf, ShowsProgress, decrypt_engine};
 ghost use Rattle.age_cli.specs.{kept_for};
 ghost use Rattle.age_cli.specs.inner.{EndsBy, IsBlamedBy, IsNewOld, IsSameOld, OpensFiles, RunsEngine};
 ghost use Rattle.age_cli.specs.inner.{ShowsRun, earlier_of, goes_on, order_in};
 
 use crate::conclusion::{Decrypted, end_of, finish_old, place_of, positions_for, start_of};
+use crate::interruption::Unfinished;
 use crate::output::{
     Content, Writing, begin_meter, check_names, end_meter, end_output, open_both, settle_end,
 };
 use age_cli_args::{Decrypting, ProgressOption};
-use age_command::{Announcement, Choice, Ending, Identity};
+use age_command::{Choice, Ending, Identity};
 use age_fileset::FileSet;
 use age_io::{Meter, Metered, Sink, Source};
 use age_opening::{Done, Marks, Stopped, decrypt_marked, resume_marked};
@@ -168,32 +169,28 @@ fn decrypt_text<'w, F: FileSet<'w>, P: Meter>(
     }
 }
 
-/// Decrypts the input into the output, ends both, and saves the position if it stops or the output
-/// can't be ended, at no more than what the output holds for certain.
-pub(crate) fn decrypt_ready<'w, F: FileSet<'w>, E: Sink, P: Meter>(
+/// Decrypts the input into the output, and ends both. If it stops, or the output can't be ended, its
+/// position is at no more than what the output holds for certain.
+pub(crate) fn decrypt_ready<'w, F: FileSet<'w>, P: Meter>(
     alloc: Global,
     files: &mut F,
     writing: &Writing<'w>,
     ready: Ready<'w, F::In, F::Out>,
-    faults: &mut E,
-    announced: &mut Announcement,
     progress: &mut P,
-) -> Result<(), Ending>
+) -> Result<(), Unfinished<'w>>
     requires input { F.In.began ready.source (Named writing.now.paths.from.now) }
     requires old { IfSome ready.earlier (λ e. F.In.began e.source (Named e.name.now)) }
-    ensures announced { Tells announced.new result (E.view faults.old) (E.view faults.new)
-        (faults.new ≡ faults.old) }
-    ensures runs { (first : FilesView)
-        → ((o : Outcome) → CameSince (F.view files.old) (F.view files.new) o
-        → CameSince first (F.view files.new) o)
+    ensures { (first : FilesView)
+        → ((after : FilesView) (o : Outcome) → CameSince (F.view files.old) after o
+        → CameSince first after o)
         → IfSome ready.entry.earlier (IsNewOld F.In.view F.size (CameSince first (F.view files.old)))
-        → RunsEngine (PortsOf F.In.view F.Out.view) (CameSince first (F.view files.new))
-        (decrypt_engine (PortsOf F.In.view F.Out.view) (CameSince first (F.view files.new))
+        → Finally (λ after. RunsEngine (PortsOf F.In.view F.Out.view) (CameSince first after)
+        (decrypt_engine (PortsOf F.In.view F.Out.view) (CameSince first after)
         (option_text writing.now.save) ready.entry.identity (option_map earlier_of ready.entry.earlier))
         writing.now.paths (ports (F.In.view ready.entry.source) (F.Out.view ready.entry.out))
-        (F.view files.old) (F.view files.new) (progress.new ≡ progress.old) (λ coming left.
-        ShowsRun (F.size ready.entry.source) coming left (P.shown progress.old) (P.shown progress.new))
-        result }
+        (F.view files.old) after (progress.new ≡ progress.old) (λ coming left.
+        ShowsRun (F.size ready.entry.source) coming left (P.shown progress.old) (P.shown progress.new)))
+        (F.view files.new) result }
 {
     let start = start_of(&ready.earlier);
     let Decrypted {
@@ -208,27 +205,22 @@ pub(crate) fn decrypt_ready<'w, F: FileSet<'w>, E: Sink, P: Meter>(
     let settled = settle_end(files, &mut out, writing, end.is_err());
     let place = place_of(&end, &marks, start, settled);
     let engine = end_of(&end);
-    end_output(alloc, files, out, writing, place, faults, announced, engine)
+    end_output(files, out, writing, place, engine)
 }
 
-/// Decrypts a file as asked. If it stops, the line of its fault is put to `faults`, and then its
-/// position is saved. What `announced` says isn't reported is left to `report_ending`.
-pub fn decrypt_file<'w, F: FileSet<'w>, E: Sink, P: Meter>(
+/// Decrypts a file as asked. If it isn't done, `conclude` reports why, and saves the position of a
+/// stop.
+pub fn decrypt_file<'w, F: FileSet<'w>, P: Meter>(
     alloc: Global,
     files: &mut F,
     asked: &Decrypting<'w>,
-    faults: &mut E,
-    announced: &mut Announcement,
     progress: &mut P,
-) -> Result<(), Ending>
-    ensures announced { Tells announced.new result (E.view faults.old) (E.view faults.new)
-        (faults.new ≡ faults.old) }
-    ensures acts { Acts (PortsOf F.In.view F.Out.view) (Decrypt asked.now) (F.view files.old)
-        (F.view files.new) (progress.new ≡ progress.old)
-        (ShowsProgress (CameSince (F.view files.old) (F.view files.new)) (P.shown progress.old)
-        (P.shown progress.new)) result }
+) -> Result<(), Unfinished<'w>>
+    ensures { Finally (λ after. Acts (PortsOf F.In.view F.Out.view) (Decrypt asked.now)
+        (F.view files.old) after (progress.new ≡ progress.old)
+        (ShowsProgress (CameSince (F.view files.old) after) (P.shown progress.old)
+        (P.shown progress.new))) (F.view files.new) result }
 {
-    *announced = Announcement::Unmade;
     let writing = Writing {
         first: asked.identity.pass,
         second: asked.identity.shared,
@@ -246,5 +238,5 @@ pub fn decrypt_file<'w, F: FileSet<'w>, E: Sink, P: Meter>(
         source,
         out,
     };
-    decrypt_ready(alloc, files, &writing, ready, faults, announced, progress)
+    decrypt_ready(alloc, files, &writing, ready, progress)
 }

@@ -8,28 +8,28 @@ ghost use Rattle.age_fileset.specs.{Open, CameSince, HasGiven};
 ghost use Rattle.age_cli_args.specs.{option_text};
 ghost use Rattle.age_cli_args.specs.declared.request.Request.TheVariants.{Encrypt};
 ghost use Rattle.age_cli_args.specs.declared.request.ProgressOption.TheVariants.{Silent, Shown};
-ghost use Rattle.age_command.specs.{Tells, HoldsNoPassphrase, HoldsOnly, NamesTwice, creating, making};
+ghost use Rattle.age_command.specs.{HoldsNoPassphrase, HoldsOnly, NamesTwice, creating, making};
 ghost use Rattle.age_command.specs.{random_name};
 ghost use Rattle.age_command.specs.declared.ending.Usage.TheVariants.{BadPassphraseFile, BadRandomFile};
 ghost use Rattle.age_sealing.specs.Encrypts.{Encrypts};
 ghost use Rattle.age_sealing.specs.{EncryptsFront, IsFrontOf, SecretView};
 ghost use Rattle.age_intake.specs.{ports};
 ghost use Rattle.age_command.specs.declared.ending.Ending.TheVariants.{Usage as UsageEnding};
-ghost use Rattle.age_cli.specs.Acts.{Acts, IsUnusable, PortsOf, ShowsProgress};
+ghost use Rattle.age_cli.specs.Acts.{Acts, Finally, IsUnusable, PortsOf, ShowsProgress};
 ghost use Rattle.age_cli.specs.inner.{EndsBy, GivesPassphrase, IsBlamedBy, IsMaterialGiven, IsNewBy};
 ghost use Rattle.age_cli.specs.inner.{IsRandom, IsUnopened, LacksMaterial, OpensFiles, age_file_in};
 ghost use Rattle.age_cli.specs.inner.{ShowsRun, order_in, secret_of};
 
-use crate::interruption::{Reached, sealing_end};
+use crate::interruption::{Reached, Unfinished, sealing_end};
 use crate::output::{
     Content, Writing, begin_meter, check_names, check_new, create_out, end_meter, end_output,
     open_in,
 };
 use age_cli_args::{Encrypting, ProgressOption};
-use age_command::{Announcement, Choice, Ending, OwnPassphrase, Usage, passphrase_in, read_first};
+use age_command::{Choice, Ending, OwnPassphrase, Usage, passphrase_in, read_first};
 use age_fault::FileFault;
 use age_fileset::FileSet;
-use age_io::{Meter, Metered, Sink, Source};
+use age_io::{Meter, Metered, Source};
 use age_keys::{FileRandom, RANDOM_LEN};
 use age_sealing::{Front, Secret, Written, encrypt_after};
 use std::alloc::Global;
@@ -222,24 +222,18 @@ fn seal_text<'w, F: FileSet<'w>, P: Meter>(
     }
 }
 
-/// Encrypts a file as asked. If it stops, the line of its fault is put to `faults`. What
-/// `announced` says isn't reported is left to `report_ending`.
-pub fn encrypt_file<'w, F: FileSet<'w>, E: Sink, P: Meter>(
+/// Encrypts a file as asked. If it isn't done, `conclude` reports why.
+pub fn encrypt_file<'w, F: FileSet<'w>, P: Meter>(
     alloc: Global,
     files: &mut F,
     asked: &Encrypting<'w>,
-    faults: &mut E,
-    announced: &mut Announcement,
     progress: &mut P,
-) -> Result<(), Ending>
-    ensures announced { Tells announced.new result (E.view faults.old) (E.view faults.new)
-        (faults.new ≡ faults.old) }
-    ensures acts { Acts (PortsOf F.In.view F.Out.view) (Encrypt asked.now) (F.view files.old)
-        (F.view files.new) (progress.new ≡ progress.old)
-        (ShowsProgress (CameSince (F.view files.old) (F.view files.new)) (P.shown progress.old)
-        (P.shown progress.new)) result }
+) -> Result<(), Unfinished<'w>>
+    ensures { Finally (λ after. Acts (PortsOf F.In.view F.Out.view) (Encrypt asked.now)
+        (F.view files.old) after (progress.new ≡ progress.old)
+        (ShowsProgress (CameSince (F.view files.old) after) (P.shown progress.old)
+        (P.shown progress.new))) (F.view files.new) result }
 {
-    *announced = Announcement::Unmade;
     let random_name = random_name(asked);
     let writing = Writing {
         first: Some(asked.pass),
@@ -254,14 +248,5 @@ pub fn encrypt_file<'w, F: FileSet<'w>, E: Sink, P: Meter>(
     let (source, mut out, front) = open_sealing(alloc, files, &writing, material)?;
     let Sealed { end, source } = seal_text(files, asked, front, source, &mut out, progress);
     files.finish(source);
-    end_output(
-        alloc,
-        files,
-        out,
-        &writing,
-        Reached::nowhere(),
-        faults,
-        announced,
-        sealing_end(end),
-    )
+    end_output(files, out, &writing, Reached::nowhere(), sealing_end(end))
 }

@@ -1,4 +1,4 @@
-//! How a command that writes a text stops, and where its position goes.
+//! How a command that writes a text stops, and where its position goes then.
 
 ghost use Rattle.std.specs.Prelude.{◌≡◌, ◌⊎◌, ◌++◌, ◌≤◌, ◌*◌, [], true, None, OnOk, IfErr};
 ghost use Rattle.std.specs.Prelude.{IsSomeAnd, is_some};
@@ -6,14 +6,14 @@ ghost use Rattle.age_chunk.specs.{chunk_length};
 ghost use Rattle.age_fault.specs.declared.fault.FileFault.TheVariants.{Write};
 ghost use Rattle.age_fileset.specs.{CameSince, Does, IsMemoryOr, written_as};
 ghost use Rattle.age_cli_args.specs.{option_text};
-ghost use Rattle.age_command.specs.{Announces, Follows, replacing};
-ghost use Rattle.age_cli.specs.Acts.{IsDue};
-ghost use Rattle.age_cli.specs.inner.{IsUnsavable, LacksOne, PutsRest, sealing_end};
+ghost use Rattle.age_command.specs.{Follows, ReportsEnding, replacing};
+ghost use Rattle.age_cli.specs.Acts.{Concluding, IsConcluded, IsDue, stop_ending};
+ghost use Rattle.age_cli.specs.inner.{IsUnsavable, LacksOne, sealing_end};
+ghost use Rattle.age_cli.specs.declared.interruption.Unfinished.TheVariants.{Ended};
 ghost use Rattle.age_calls.specs.Saved.{Saves};
 ghost use Rattle.age_position.specs.{position_text};
 
-use crate::output::Writing;
-use age_command::{Announcement, Ending, announce};
+use age_command::{Ending, report_ending, report_fault};
 use age_fault::FileFault;
 use age_fileset::FileSet;
 use age_io::{Durability, Sink};
@@ -106,29 +106,94 @@ pub(crate) fn save<'w, F: FileSet<'w>>(
     files.replace(alloc, name, text.as_slice(), durability)
 }
 
-/// How a command ends that stopped, once its position is saved. The line of its fault is put before
-/// that, since what the position goes to may block.
-pub(crate) fn report_and_save<'w, F: FileSet<'w>, E: Sink>(
+/// A command that stopped, and its position is still to be saved.
+#[derive(Clone, Copy)]
+pub struct Stop<'w> {
+    pub(crate) fault: FileFault,
+    /// How far it came.
+    pub(crate) place: Reached,
+    /// The file of its position.
+    pub(crate) save: Option<&'w str>,
+    /// Whether that is to be on the disk.
+    pub(crate) durability: Durability,
+}
+
+/// Why a command isn't done.
+#[derive(Drop)]
+pub enum Unfinished<'w> {
+    /// It ended so.
+    Ended(Ending),
+    /// It stopped.
+    Stopped(Stop<'w>),
+}
+
+impl<'w> From<Ending> for Unfinished<'w> {
+    ghost from_gives = { λ e u. u ≡ Ended e };
+
+    fn from(ending: Ending) -> Unfinished<'w> {
+        Unfinished::Ended(ending)
+    }
+}
+
+/// Saves the position of a stop.
+fn save_stop<'w, F: FileSet<'w>>(
     alloc: Global,
     files: &mut F,
-    asked: &Writing<'w>,
-    fault: FileFault,
-    place: Reached,
-    faults: &mut E,
-    announced: &mut Announcement,
-) -> Ending
-    ensures announced { Announces announced.new result (E.view faults.old) (E.view faults.new) ⊥ }
-    ensures noted { Follows (replacing (option_text asked.now.save) asked.now.paths.durability)
-        (F.view files.old).events (F.view files.new).events }
-    ensures unended { (F.view files.new).ended ≡ (F.view files.old).ended }
-    ensures put { PutsRest asked.now.paths.durability (option_text asked.now.save) fault
-        place (F.view files.old) (F.view files.new) result }
+    stop: &Stop<'w>,
+) -> Result<(), FileFault>
+    ensures { IsConcluded stop.now (F.view files.old) (F.view files.new)
+        (stop_ending stop.now.fault result) }
 {
-    *announced = announce(faults, fault);
-    let durability = asked.paths.durability;
-    let due = due_position(files, asked.save, place.position);
-    match save(alloc, files, asked.save, due, place.settled, durability) {
-        Ok(()) => Ending::Fault(fault),
-        Err(second) => Ending::Unsaved(fault, second),
+    let due = due_position(files, stop.save, stop.place.position);
+    save(
+        alloc,
+        files,
+        stop.save,
+        due,
+        stop.place.settled,
+        stop.durability,
+    )
+}
+
+/// Reports a stop, and saves its position after that, since what it goes to may block.
+fn conclude_stop<'w, F: FileSet<'w>, E: Sink>(
+    alloc: Global,
+    files: &mut F,
+    stop: &Stop<'w>,
+    faults: &mut E,
+) -> Ending
+    ensures concludes { IsConcluded stop.now (F.view files.old) (F.view files.new) result }
+    ensures reported { ReportsEnding result (E.view faults.old) (E.view faults.new) }
+{
+    let told = report_fault(faults, stop.fault);
+    match save_stop(alloc, files, stop) {
+        Ok(()) => Ending::Fault(stop.fault),
+        Err(second) => {
+            if told.is_err() {
+                return Ending::Unsaved(stop.fault, second);
+            }
+            let _ = report_fault(faults, second);
+            Ending::Unsaved(stop.fault, second)
+        }
+    }
+}
+
+/// Reports to `faults` why a command isn't done. If it stopped, its position is saved then, if it has
+/// one and a file for it, and isn't beyond what the output holds for certain. Returns how it ended.
+pub fn conclude<'w, F: FileSet<'w>, E: Sink>(
+    alloc: Global,
+    files: &mut F,
+    unfinished: Unfinished<'w>,
+    faults: &mut E,
+) -> Ending
+    ensures concludes { Concluding unfinished.entry (F.view files.old) (F.view files.new) result }
+    ensures reported { ReportsEnding result (E.view faults.old) (E.view faults.new) }
+{
+    match unfinished {
+        Unfinished::Ended(ending) => {
+            report_ending(faults, &ending);
+            ending
+        }
+        Unfinished::Stopped(stop) => conclude_stop(alloc, files, &stop, faults),
     }
 }

@@ -26,6 +26,7 @@ mod resume_command;
 pub use age_fileset::{FileSet, MemFiles, OpenFault};
 pub use decrypt_command::decrypt_file;
 pub use encrypt_command::encrypt_file;
+pub use interruption::{Stop, Unfinished, conclude};
 pub use laws::{early_faults_spare_out, refusals_are_silent, runs_keep_out};
 pub use program::run;
 pub use resume_command::resume_file;

@@ -5,21 +5,21 @@ ghost use Rattle.age_io.specs.{Adds, Begins, Ends, Named};
 ghost use Rattle.age_fileset.specs.{Open, Absent, Settled, Terminal, Does, CameSince};
 ghost use Rattle.age_cli_args.specs.{option_text};
 ghost use Rattle.age_cli_args.specs.declared.request.ClobberOption.TheVariants.{Refused};
-ghost use Rattle.age_command.specs.{Tells, AreApart, NamesTwice, creating, preparing, making};
+ghost use Rattle.age_command.specs.{AreApart, NamesTwice, creating, preparing, making};
 ghost use Rattle.age_command.specs.declared.ending.Usage.TheVariants.{SameFile};
 ghost use Rattle.age_command.specs.declared.ending.Ending.TheVariants.{Usage as UsageEnding};
-ghost use Rattle.age_cli.specs.Acts.{IsUnusable, NamesOne};
+ghost use Rattle.age_cli.specs.Acts.{Finally, IsUnusable, NamesOne};
 ghost use Rattle.age_cli.specs.inner.{Concludes, EndsOut, IsLeft, LeavesOut};
 ghost use Rattle.age_cli.specs.inner.{Compares, EndsBy, IsNewBy, IsUnopened, OpensFiles, age_file_in};
 ghost use Rattle.age_cli.specs.inner.{found_by, order_in};
 ghost use Rattle.age_cli.specs.declared.output.Content.TheVariants.{AgeFile};
 
-use crate::interruption::{Reached, report_and_save};
+use crate::interruption::{Reached, Stop, Unfinished};
 use age_cli_args::{ClobberOption, Paths};
-use age_command::{Announcement, Ending, Usage};
+use age_command::{Ending, Usage};
 use age_fault::FileFault;
 use age_fileset::FileSet;
-use age_io::{Durability, Meter, Metered, Sink};
+use age_io::{Durability, Meter, Metered};
 use std::alloc::Global;
 
 /// What an output holds.
@@ -349,25 +349,25 @@ fn end_out<'w, F: FileSet<'w>>(
     }
 }
 
-/// Ends the output, and announces the fault, if there is one. The position is saved then, unless it is
-/// beyond what is certain.
-pub(crate) fn end_output<'w, F: FileSet<'w>, E: Sink>(
-    alloc: Global,
+/// Ends the output. If the engine stopped, or the output couldn't be ended, what `conclude` does
+/// remains: the position isn't saved yet.
+pub(crate) fn end_output<'w, F: FileSet<'w>>(
     files: &mut F,
     out: F::Out,
     asked: &Writing<'w>,
     place: Reached,
-    faults: &mut E,
-    announced: &mut Announcement,
     engine: Result<(), FileFault>,
-) -> Result<(), Ending>
-    ensures announced { Tells announced.new result (E.view faults.old) (E.view faults.new)
-        (faults.new ≡ faults.old) }
-    ensures concludes { Concludes (option_text asked.now.save) asked.now.paths.durability
-        (F.Out.view out) engine place (F.view files.old) (F.view files.new) result }
+) -> Result<(), Unfinished<'w>>
+    ensures { Finally (Concludes (option_text asked.now.save) asked.now.paths.durability
+        (F.Out.view out) engine place (F.view files.old)) (F.view files.new) result }
 {
     match end_out(files, out, asked.paths.durability, engine) {
         Ok(()) => Ok(()),
-        Err(fault) => Err(report_and_save(alloc, files, asked, fault, place, faults, announced)),
+        Err(fault) => Err(Unfinished::Stopped(Stop {
+            fault,
+            place,
+            save: asked.save,
+            durability: asked.paths.durability,
+        })),
     }
 }

@@ -3,23 +3,24 @@
 ghost use Rattle.std.specs.Prelude.{◌≡◌, ◌⊎◌, IfErr, IsErrAnd, IsOk, OnOk, if◌then◌else◌};
 ghost use Rattle.clap.specs.declared.error.kind.ErrorKind.TheVariants.{OutOfMemory};
 ghost use Rattle.age_fault.specs.declared.fault.FileFault.TheVariants.{Memory};
-ghost use Rattle.age_command.specs.{Tells, is_usage};
+ghost use Rattle.age_command.specs.{is_usage};
 ghost use Rattle.age_command.specs.declared.ending.Ending.TheVariants.{Fault};
 ghost use Rattle.clap.specs.Words.{kind_of};
 ghost use Rattle.clap.specs.Walk.{texts};
-ghost use Rattle.age_cli.specs.{PortsOf, ShowsProgress, IsRefusal, Obeys, Prints};
+ghost use Rattle.age_cli.specs.{Finally, PortsOf, ShowsProgress, IsRefusal, Obeys, Prints};
 ghost use Rattle.age_cli.specs.{FailsWriting};
 ghost use Rattle.age_cli.specs.Runs.{Runs};
 ghost use Rattle.age_cli.specs.Headline.{ZeroLeaves};
 ghost use Rattle.age_fileset.specs.{CameSince};
-ghost use Rattle.age_cli.specs.inner.{IsForOutput};
+ghost use Rattle.age_cli.specs.inner.{IsForOutput, ended_so};
 
 use crate::decrypt_command::decrypt_file;
 use crate::encrypt_command::encrypt_file;
 use crate::inspect_command::{report, report_file};
+use crate::interruption::{Unfinished, conclude};
 use crate::resume_command::resume_file;
 use age_cli_args::{Request, Wording, read_request};
-use age_command::{Announcement, Ending, Usage, put_bytes, report_ending};
+use age_command::{Ending, Usage, put_bytes};
 use age_drill::drill_file;
 use age_fault::{FileFault, flush_all};
 use age_fileset::FileSet;
@@ -55,44 +56,49 @@ fn answer_refusal<O: Sink, W: Wording>(
     Ok(flush_all(output)?)
 }
 
+/// How a command without a position ended.
+fn ended<'w>(done: Result<(), Ending>) -> Result<(), Unfinished<'w>>
+    ensures { result ≡ ended_so done }
+{
+    match done {
+        Ok(()) => Ok(()),
+        Err(ending) => Err(Unfinished::Ended(ending)),
+    }
+}
+
 /// Does what the words ask for.
-fn obey<'w, F: FileSet<'w>, I: Source, O: Sink, E: Sink, P: Meter, W: Wording>(
+fn obey<'w, F: FileSet<'w>, I: Source, O: Sink, P: Meter, W: Wording>(
     alloc: Global,
     words: &'w [&'w str],
     files: &mut F,
     input: &mut I,
     output: &mut O,
-    faults: &mut E,
-    announced: &mut Announcement,
     progress: &mut P,
     wording: &W,
-) -> Result<(), Ending>
-    ensures announced { Tells announced.new result (E.view faults.old) (E.view faults.new)
-        (faults.new ≡ faults.old) }
-    ensures obeys { Obeys (texts words.now) (PortsOf F.In.view F.Out.view)
+) -> Result<(), Unfinished<'w>>
+    ensures { Finally (λ after. Obeys (texts words.now) (PortsOf F.In.view F.Out.view)
         (record { files = F.view files.old; input = I.view input.old; output = O.view output.old })
-        (record { files = F.view files.new; input = I.view input.new; output = O.view output.new })
+        (record { files = after; input = I.view input.new; output = O.view output.new })
         (input.new ≡ input.old) (output.new ≡ output.old)
         (progress.new ≡ progress.old)
-        (ShowsProgress (CameSince (F.view files.old) (F.view files.new)) (P.shown progress.old)
-        (P.shown progress.new)) result }
+        (ShowsProgress (CameSince (F.view files.old) after) (P.shown progress.old)
+        (P.shown progress.new))) (F.view files.new) result }
 {
-    *announced = Announcement::Unmade;
     if words.is_empty() {
-        return report(alloc, input, output);
+        return ended(report(alloc, input, output));
     }
     let request = match read_request(alloc, words) {
         Ok(Some(request)) => request,
-        Ok(None) => return Err(Ending::Usage(Usage::Unread)),
-        Err(error) => return answer_refusal(alloc, words, error, output, wording),
+        Ok(None) => return Err(Unfinished::Ended(Ending::Usage(Usage::Unread))),
+        Err(error) => return ended(answer_refusal(alloc, words, error, output, wording)),
     };
     match &request {
-        Request::Inspect(Some(name)) => report_file(alloc, files, name, output),
-        Request::Inspect(None) => report(alloc, input, output),
-        Request::Encrypt(asked) => encrypt_file(alloc, files, asked, faults, announced, progress),
-        Request::Decrypt(asked) => decrypt_file(alloc, files, asked, faults, announced, progress),
-        Request::Resume(asked) => resume_file(alloc, files, asked, faults, announced, progress),
-        Request::Drill(asked) => drill_file(alloc, files, asked, output),
+        Request::Inspect(Some(name)) => ended(report_file(alloc, files, name, output)),
+        Request::Inspect(None) => ended(report(alloc, input, output)),
+        Request::Encrypt(asked) => encrypt_file(alloc, files, asked, progress),
+        Request::Decrypt(asked) => decrypt_file(alloc, files, asked, progress),
+        Request::Resume(asked) => resume_file(alloc, files, asked, progress),
+        Request::Drill(asked) => ended(drill_file(alloc, files, asked, output)),
     }
 }
 
@@ -146,22 +152,8 @@ pub fn run<'w, F: FileSet<'w>, I: Source, O: Sink, E: Sink, P: Meter, W: Wording
         (ShowsProgress (CameSince (F.view files.old) (F.view files.new)) (P.shown progress.old)
         (P.shown progress.new)) result }
 {
-    let mut announced = Announcement::Unmade;
-    match obey(
-        alloc,
-        words,
-        files,
-        input,
-        output,
-        faults,
-        &mut announced,
-        progress,
-        wording,
-    ) {
+    match obey(alloc, words, files, input, output, progress, wording) {
         Ok(()) => 0,
-        Err(ending) => {
-            report_ending(faults, &ending, announced);
-            status(&ending)
-        }
+        Err(unfinished) => status(&conclude(alloc, files, unfinished, faults)),
     }
 }

@@ -5,18 +5,18 @@ ghost use Rattle.age_io.specs.{Named};
 ghost use Rattle.age_fileset.specs.{Open, CameSince, HasGivenAll};
 ghost use Rattle.age_cli_args.specs.declared.request.Request.TheVariants.{Resume};
 ghost use Rattle.age_position.specs.{position_text};
-ghost use Rattle.age_command.specs.{Tells};
-ghost use Rattle.age_cli.specs.Acts.{Acts};
+ghost use Rattle.age_cli.specs.Acts.{Acts, Finally};
 ghost use Rattle.age_cli.specs.{PortsOf, ShowsProgress};
 ghost use Rattle.age_cli.specs.inner.{IsNewOld, IsUnplaced, OpensFiles};
 
 use crate::decrypt_command::{OldText, Ready, decrypt_ready, identify};
+use crate::interruption::Unfinished;
 use crate::output::{Content, Writing, open_both, open_in};
 use age_cli_args::Resuming;
-use age_command::{Announcement, Ending, read_file};
+use age_command::{Ending, read_file};
 use age_fault::FileFault;
 use age_fileset::FileSet;
-use age_io::{Meter, Sink};
+use age_io::Meter;
 use age_position::Position;
 use std::alloc::Global;
 
@@ -65,24 +65,19 @@ fn open_earlier<'w, F: FileSet<'w>>(
     })
 }
 
-/// Continues a decryption as asked. If it stops, the line of its fault is put to `faults`, and then
-/// its position is saved. What `announced` says isn't reported is left to `report_ending`.
-pub fn resume_file<'w, F: FileSet<'w>, E: Sink, P: Meter>(
+/// Continues a decryption as asked. If it isn't done, `conclude` reports why, and saves the position
+/// of a stop.
+pub fn resume_file<'w, F: FileSet<'w>, P: Meter>(
     alloc: Global,
     files: &mut F,
     asked: &Resuming<'w>,
-    faults: &mut E,
-    announced: &mut Announcement,
     progress: &mut P,
-) -> Result<(), Ending>
-    ensures announced { Tells announced.new result (E.view faults.old) (E.view faults.new)
-        (faults.new ≡ faults.old) }
-    ensures acts { Acts (PortsOf F.In.view F.Out.view) (Resume asked.now) (F.view files.old)
-        (F.view files.new) (progress.new ≡ progress.old)
-        (ShowsProgress (CameSince (F.view files.old) (F.view files.new)) (P.shown progress.old)
-        (P.shown progress.new)) result }
+) -> Result<(), Unfinished<'w>>
+    ensures { Finally (λ after. Acts (PortsOf F.In.view F.Out.view) (Resume asked.now)
+        (F.view files.old) after (progress.new ≡ progress.old)
+        (ShowsProgress (CameSince (F.view files.old) after) (P.shown progress.old)
+        (P.shown progress.new))) (F.view files.new) result }
 {
-    *announced = Announcement::Unmade;
     let wanted = &asked.decrypting;
     let writing = Writing {
         first: wanted.identity.pass,
@@ -102,5 +97,5 @@ pub fn resume_file<'w, F: FileSet<'w>, E: Sink, P: Meter>(
         source,
         out,
     };
-    decrypt_ready(alloc, files, &writing, ready, faults, announced, progress)
+    decrypt_ready(alloc, files, &writing, ready, progress)
 }

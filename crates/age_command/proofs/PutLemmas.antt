@@ -5,7 +5,7 @@ use Rattle.age_fault.specs.declared.fault.FileFault.{FileFault}
 use Rattle.age_io.specs.{SinkView}
 use Rattle.age_io.specs.Taken.{Appends}
 use Rattle.age_io.proofs.{Appends-trans}
-use Rattle.age_command.specs.inner.{PutsAll}
+use Rattle.age_command.specs.{PutsAll}
 
 -- what was put, and then the rest
 pub and_then : (a b : List ℕ) (old mid new : SinkView) (r : Result (Unit {0}) FileFault) → Appends old.taken mid.taken a → mid.failed ≡ old.failed

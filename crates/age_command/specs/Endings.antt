@@ -1,14 +1,12 @@
 -- How a run ends if it isn't done, and which lines report it.
 use Rattle.std.specs.Prelude.{◌≡◌, ◌⊎◌, ℕ, Bool, true, false, List, [], ◌++◌, codes, decimal, nat_le, Option}
-use Rattle.std.specs.Prelude.{Some, None, Result, Ok, Err, IsErrAnd, if◌then◌else◌}
+use Rattle.std.specs.Prelude.{Some, None, Result, IsErrAnd, OnOk, OnErr, if◌then◌else◌}
 use Rattle.std.specs.String.{string_bytes}
 use Rattle.age_io.specs.Taken.{Appends}
 use Rattle.age_io.specs.{SinkView}
 use Rattle.age_fault.specs.{fault_number, name_of, fault_place, HasRisen}
 use Rattle.age_fault.specs.declared.fault.FileFault.{FileFault}
 use Rattle.age_fileset.specs.{Event}
-use Rattle.age_command.specs.declared.ending.Announcement.{Announcement}
-use Rattle.age_command.specs.declared.ending.Announcement.TheVariants.{Unmade, Made, Failed}
 use Rattle.age_command.specs.declared.ending.Ending.{Ending}
 use Rattle.age_command.specs.declared.ending.Ending.TheVariants.{Words, Usage as BadLine, Fault, Unsaved}
 use Rattle.age_command.specs.declared.ending.Usage.{Usage}
@@ -66,35 +64,17 @@ ending_text (BadLine usage) = usage_line usage
 ending_text (Fault fault) = fault_line fault
 ending_text (Unsaved fault second) = fault_line fault ++ fault_line second
 
+-- a call was to put these bytes
+pub record PutsAll (bytes : List ℕ) (old new : SinkView) (result : Result (Unit {0}) FileFault)
+    : Type 0 where
+  -- If it succeeds, the sink took them.
+  pub taken : OnOk result (Appends old.taken new.taken bytes)
+  -- If it succeeds, no failure was counted.
+  pub same : OnOk result (new.failed ≡ old.failed)
+  -- If it fails, one was.
+  pub risen : OnErr result (HasRisen old.failed new.failed)
+
 -- a sink took just that, or failed
 abbrev pub ReportsEnding : Ending → (old new : SinkView) → Type 0
 ReportsEnding ending old new = Appends old.taken new.taken (ending_text ending)
     ⊎ HasRisen old.failed new.failed
-
--- a sink took the line of a fault, and counted no failure
-abbrev pub TakesLine : FileFault → (old new : SinkView) → Type 0
-TakesLine fault old new = Appends old.taken new.taken (fault_line fault) × (new.failed ≡ old.failed)
-
--- what an announcement left: nothing, if it wasn't made, which is what `Quiet` says; the line of
--- the fault that ended the run; or a sink that failed
-abbrev pub Announces : Announcement → Ending → (old new : SinkView) → (Quiet : Type 0) → Type 0
-Announces Unmade ending old new Quiet = Quiet
-Announces Made (Fault fault) old new Quiet = TakesLine fault old new
-Announces Made (Unsaved fault second) old new Quiet = TakesLine fault old new
-Announces Made other old new Quiet = ⊥
-Announces Failed ending old new Quiet = HasRisen old.failed new.failed
-
--- what was reported after an announcement: the ending, if none was made; and otherwise the line of
--- a second fault, unless the first couldn't be put
-abbrev pub ReportsRest : Announcement → Ending → (old new : SinkView) → Type 0
-ReportsRest Unmade ending old new = ReportsEnding ending old new
-ReportsRest Made (Unsaved fault second) old new = TakesLine second old new
-    ⊎ HasRisen old.failed new.failed
-ReportsRest Made other old new = new ≡ old
-ReportsRest Failed ending old new = new ≡ old
-
--- what a command announced, by its result
-abbrev pub Tells : {A : Type 0} → Announcement → Result A Ending → (old new : SinkView)
-    → (Quiet : Type 0) → Type 0
-Tells announcement (Ok done) old new Quiet = Quiet
-Tells announcement (Err ending) old new Quiet = Announces announcement ending old new Quiet

@@ -3,7 +3,7 @@ pub mod Files
 pub mod Identities
 pub mod Orders
 pub mod inner
-pub use Endings.{Announces, RefusesAtOnce, ReportsEnding, ReportsRest, TakesLine, Tells}
+pub use Endings.{PutsAll, RefusesAtOnce, ReportsEnding}
 pub use Endings.{ending_text, fault_line, is_usage, place_text, usage_line}
 pub use Files.{AreFirst, HoldsOnly, IsUnreadable, without_line_feed}
 pub use Identities.{Chooses, HoldsBytes, HoldsNoPassphrase, IsEnough, IsIdentity, IsPassphraseIn}

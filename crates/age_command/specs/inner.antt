@@ -1,11 +1,8 @@
--- How runs end, and what calls leave that pull the first bytes of a source or put bytes into a sink.
+-- How runs end, and what calls leave that pull the first bytes of a source.
 -- Private: no public contract cites this module.
-use Rattle.std.specs.Prelude.{◌≡◌, ℕ, ◌≤◌, List, take, Result, OnOk, OnErr}
-use Rattle.age_io.specs.Taken.{Appends}
+use Rattle.std.specs.Prelude.{◌≡◌, ℕ, ◌≤◌, List, take}
 use Rattle.age_io.specs.Supply.{Supply}
-use Rattle.age_io.specs.{Consumes, IsAtEnd, SinkView}
-use Rattle.age_fault.specs.{HasRisen}
-use Rattle.age_fault.specs.declared.fault.FileFault.{FileFault}
+use Rattle.age_io.specs.{Consumes, IsAtEnd}
 use Rattle.age_fileset.specs.declared.files.OpenFault.{OpenFault}
 use Rattle.age_fileset.specs.declared.files.OpenFault.TheVariants as create
 use Rattle.age_command.specs.declared.ending.Ending.{Ending}
@@ -18,18 +15,6 @@ use Rattle.age_command.specs.declared.ending.Usage.TheVariants as usage
 abbrev pub ending_of : OpenFault → Ending
 ending_of create.SameFile = Usage usage.SameFile
 ending_of (create.Fault fault) = Fault fault
-
--- ---- What a call leaves that puts bytes into a sink.
-
--- a call was to put these bytes
-pub record PutsAll (bytes : List ℕ) (old new : SinkView) (result : Result (Unit {0}) FileFault)
-    : Type 0 where
-  -- If it succeeds, the sink took them.
-  pub taken : OnOk result (Appends old.taken new.taken bytes)
-  -- If it succeeds, no failure was counted.
-  pub same : OnOk result (new.failed ≡ old.failed)
-  -- If it fails, one was.
-  pub risen : OnErr result (HasRisen old.failed new.failed)
 
 -- ---- The pieces in which the first bytes of a source come.
 

@@ -49,17 +49,6 @@ pub enum Ending {
     Unsaved(FileFault, FileFault),
 }
 
-/// How much of an ending is reported before a position is saved, which may wait.
-#[derive(Clone, Copy, Debug, PartialEq, Eq)]
-pub enum Announcement {
-    /// Nothing.
-    Unmade,
-    /// The line of its fault.
-    Made,
-    /// Nothing more, since that line couldn't be put.
-    Failed,
-}
-
 impl From<FileFault> for Ending {
     ghost from_gives = { λ f e. e ≡ Fault f };
 

@@ -16,9 +16,9 @@ mod reporting;
 mod secret;
 
 pub use choice::{Choice, passphrase_in};
-pub use ending::{Announcement, Ending, Usage};
+pub use ending::{Ending, Usage};
 pub use first_bytes::{fill_first, read_file, read_first, read_up_to};
 pub use identity::Identity;
 pub use put::put_bytes;
-pub use reporting::{announce, report_ending};
+pub use reporting::{report_ending, report_fault};
 pub use secret::OwnPassphrase;

@@ -4,13 +4,10 @@ ghost use Rattle.std.specs.Prelude.{◌≡◌, ◌++◌, [], decimal, Some, true
 ghost use Rattle.age_io.specs.{holds};
 ghost use Rattle.age_fault.specs.{fault_number, fault_place};
 ghost use Rattle.age_command.specs.{place_text, fault_line, usage_line, ending_text, ReportsEnding};
-ghost use Rattle.age_command.specs.{Announces, ReportsRest};
-ghost use Rattle.age_command.specs.declared.ending.Ending.TheVariants.{Fault};
-ghost use Rattle.age_command.specs.declared.ending.Announcement.TheVariants.{Made};
+ghost use Rattle.age_command.specs.{PutsAll};
 ghost use Rattle.age_command.specs.declared.ending.Usage.TheVariants.{BadScriptLine};
-ghost use Rattle.age_command.specs.inner.{PutsAll};
 
-use crate::ending::{Announcement, Ending, Usage};
+use crate::ending::{Ending, Usage};
 use crate::put::put_bytes;
 use age_fault::{FileFault, flush_all};
 use age_io::{Failed, Failures, Sink};
@@ -171,45 +168,17 @@ fn send_ending<E: Sink>(faults: &mut E, ending: &Ending) -> Result<(), FileFault
     flush_all(faults)
 }
 
-/// One line, sent on.
-fn send_fault<E: Sink>(faults: &mut E, fault: FileFault) -> Result<(), FileFault>
+/// Reports a fault by its line, sent on.
+pub fn report_fault<E: Sink>(faults: &mut E, fault: FileFault) -> Result<(), FileFault>
     ensures { PutsAll (fault_line fault) (E.view faults.old) (E.view faults.new) result }
 {
     put_fault(faults, fault)?;
     flush_all(faults)
 }
 
-/// Puts the line of the fault that ended a run, before a position is saved, which may wait.
-pub fn announce<E: Sink>(faults: &mut E, fault: FileFault) -> Announcement
-    ensures { Announces result (Fault fault) (E.view faults.old) (E.view faults.new) ⊥ }
+/// Reports why a run ended, if the sink takes it.
+pub fn report_ending<E: Sink>(faults: &mut E, ending: &Ending)
+    ensures { ReportsEnding ending.now (E.view faults.old) (E.view faults.new) }
 {
-    match send_fault(faults, fault) {
-        Ok(()) => Announcement::Made,
-        Err(_) => Announcement::Failed,
-    }
-}
-
-/// Reports that a position couldn't be saved, if that is so.
-fn report_second<E: Sink>(faults: &mut E, ending: &Ending)
-    ensures { ReportsRest Made ending.now (E.view faults.old) (E.view faults.new) }
-{
-    match ending {
-        Ending::Words(_) | Ending::Usage(_) | Ending::Fault(_) => {}
-        Ending::Unsaved(_, second) => {
-            let _ = send_fault(faults, *second);
-        }
-    }
-}
-
-/// Reports why a run ended, if the sink takes it, apart from what is announced.
-pub fn report_ending<E: Sink>(faults: &mut E, ending: &Ending, announcement: Announcement)
-    ensures { ReportsRest announcement ending.now (E.view faults.old) (E.view faults.new) }
-{
-    match announcement {
-        Announcement::Unmade => {
-            let _ = send_ending(faults, ending);
-        }
-        Announcement::Made => report_second(faults, ending),
-        Announcement::Failed => {}
-    }
+    let _ = send_ending(faults, ending);
 }

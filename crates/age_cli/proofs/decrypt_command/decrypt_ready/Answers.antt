@@ -6,11 +6,11 @@ use Rattle.age_fileset.proofs.{came_one, came_then, does_only, does_then, gave_p
 use Rattle.age_cli_args.specs.{option_text}
 use Rattle.age_cli.specs.{PortsOf}
 use Rattle.age_cli.specs.inner.{ShowsRun, earlier_of, goes_on}
-use Rattle.age_cli.proofs.{came_did, concluded, concludes_from, did_came, if_some, runs_opened, went_on}
+use Rattle.age_cli.proofs.{came_did, concluded, concludes_from, did_came, finally_as, if_some, runs_opened, went_on}
 use Rattle.age_cli.proofs.decrypt_command.decrypt_ready.Goals as goal
 
-pub returns-clause-runs : goal.returns-clause-runs
-returns-clause-runs g c = λ begin later fresh.
+pub returns : goal.returns
+returns g c = λ begin later fresh. finally_as c.end_output.result (λ new ended concludes.
     let view = g.F.FileSet.view in
     let In = g.F.In.Source.view in
     let Out = g.F.Out.Sink.view in
@@ -27,15 +27,14 @@ returns-clause-runs g c = λ begin later fresh.
     let told = view c.finish_old.new.files in
     let first = view c.finish.new.self in
     let mid = view settle.new.files in
-    let new = view c.end_output.new.files in
     let was = c.args.progress.now in
     let now = once.new.progress in
     let gave = Gave (reading_of w.paths.from.now (In once.result.source)) in
     let is = c.finish.ensures.over w.paths.from.now (once.ensures.began w.paths.from.now c.requires.input) in
     let did = does_only told first (gave ∷ []) is (gave_puts (reading_of w.paths.from.now (In once.result.source))) in
     let read = does_then [] [] old told first c.finish_old.ensures.does did in
-    let ended = rw settle.ensures.same at c.end_output.ensures.concludes in
-    let grows = concluded (option_text w.save) w.paths.durability sink engine place.result mid new c.end_output.result ended in
+    let so = rw settle.ensures.same at concludes in
+    let grows = concluded (option_text w.save) w.paths.durability sink engine place.result mid new ended so in
     let last : (o : Outcome) → CameSince old mid o → CameSince old new o = came_then grows.puts old mid new grows.grows in
     let since : (o : Outcome) → CameSince first mid o → CameSince old new o = λ o came. last o (did_came read o came) in
     let fresher : (o : Outcome) → CameSince begin old o → CameSince begin new o = λ o came.
@@ -43,11 +42,11 @@ returns-clause-runs g c = λ begin later fresh.
     runs_opened (PortsOf In Out) (CameSince begin new) w ready.identity (option_map earlier_of ready.earlier) (goes_on In ready.earlier once.result.earlier)
     (ports (In ready.source) (Out ready.out)) (ports (In once.result.source) sink) (record { source = once.result.source; sink = once.result.out; is = refl })
     (went_on In Out size g.F.In.Source.began (CameSince begin old) (CameSince begin new) fresher ready.earlier once.result.earlier once.ensures.old fresh
-    (if_some once.result.earlier (λ e came. later _ (last _ (came_did settle.ensures.does _ (came_did did _ came)))) c.finish_old.ensures.over) (ready.out, once.result.out)
-    (In ready.source) (In once.result.source)) old new later
+    (if_some once.result.earlier (λ e came. later new _ (last _ (came_did settle.ensures.does _ (came_did did _ came)))) c.finish_old.ensures.over) (ready.out, once.result.out)
+    (In ready.source) (In once.result.source)) old new (later new)
     (last gave (came_did settle.ensures.does gave (did_came c.finish_old.ensures.does gave (came_one told first gave (ap (λ v. v.outcomes) is))))) (now ≡ was)
     (λ coming left. ShowsRun (size ready.source) coming left (shown was) (shown now)) once.ensures.silent once.ensures.shown once.result.end once.result.marks
-    place.result c.end_output.result once.ensures.decrypts (rw (c.start_of-start.ensures, sym place.ensures.settled) at place.ensures.placed)
+    place.result ended once.ensures.decrypts (rw (c.start_of-start.ensures, sym place.ensures.settled) at place.ensures.placed)
     (λ saves. since _ (rw (sym place.ensures.settled) at (settle.ensures.certain saves)))
     (rw c.end_of-engine.ensures at (concludes_from (option_text w.save) w.paths.durability sink place.result old mid new
-    (does_then [] [] old first mid read settle.ensures.does) engine c.end_output.result ended))
+    (does_then [] [] old first mid read settle.ensures.does) engine ended so))) c.end_output.ensures

@@ -1,4 +1,4 @@
-use Rattle.std.proofs.Common.{◌≡◌, ◌⊎◌, ◌++◌, ◌∷◌, [], ap, inl, inr, refl, subst, None, Some, List}
+use Rattle.std.proofs.Common.{Err, ◌≡◌, ◌⊎◌, ◌++◌, ◌∷◌, [], ap, inl, inr, refl, subst, None, Some, List}
 use Rattle.clap.specs.Words.{Text}
 use Rattle.age_intake.specs.{ports}
 use Rattle.age_fileset.specs.{Event, FilesView, Open, Outcome, CameSince, Does, Gave, reading_of}
@@ -14,7 +14,7 @@ use Rattle.age_command.specs.declared.ending.Ending.TheVariants.{Usage}
 use Rattle.age_cli.specs.{IsUnusable, NamesOne, encrypt_engine}
 use Rattle.age_cli.specs.inner.{EndsBy, FailsEarly, IsMaterialGiven, LacksMaterial, sealing_end, secret_of}
 use Rattle.age_cli.specs.declared.encrypt_command.Material.{Material}
-use Rattle.age_cli.proofs.{acts_judged, acts_unopened, came_did, concluded, acts_engine, did_came, fails_then, nowhere, runs_sealed, unopened_as}
+use Rattle.age_cli.proofs.{acts_judged, acts_unopened, came_did, concluded, acts_engine, did_came, ended_finally, fails_then, finally_as, nowhere, runs_sealed, unopened_as}
 use Rattle.age_cli.proofs.encrypt_command.encrypt_file.Goals as goal
 
 -- by the name of the random bytes
@@ -29,20 +29,21 @@ abbrev DoneWith : Encrypting → Material → FilesView → FilesView → Text �
 DoneWith a m old new n =
     IsMaterialGiven (CameSince old new) a n m × Does (Open a.pass.now ∷ Open n ∷ []) old new × (NamesTwice (order_with a n).apart → ⊥)
 
-pub returns-in_err-material-clause-acts : goal.returns-in_err-material-clause-acts
-returns-in_err-material-clause-acts g c =
+pub returns-in_err-material : goal.returns-in_err-material
+returns-in_err-material g c =
     let a = c.args.asked.now in
-    acts_judged _ (Encrypt a) _ _ _ _ _ _ _ c.from_residual.ensures refl (subst (FailsWith a _ _ _) c.random_name-random_name.ensures c.in_err-material.ensures.fails) refl
+    ended_finally _ _ c.from_residual.ensures
+    (acts_judged _ (Encrypt a) _ _ _ _ (Err _) _ _ (refl, refl) refl (subst (FailsWith a _ _ _) c.random_name-random_name.ensures c.in_err-material.ensures.fails) refl)
 
-pub returns-in_err-source-clause-acts : goal.returns-in_err-source-clause-acts
-returns-in_err-source-clause-acts g c =
+pub returns-in_err-source : goal.returns-in_err-source
+returns-in_err-source g c =
     let a = c.args.asked.now in
     let made = subst (DoneWith a c.in_ok-material.material _ _) c.random_name-random_name.ensures c.in_ok-material.ensures.done in
-    acts_unopened _ (Encrypt a) _ _ _ _ _ {Bad = λ Came. ⊥} _ c.from_residual-in_err-source.ensures
-    (fails_then made.1 made.2 (λ so. unopened_as so (Some a.paths.to.now) _) c.in_err-source.ensures.fails) (λ no. absurd no) refl
+    ended_finally _ _ c.from_residual-in_err-source.ensures (acts_unopened _ (Encrypt a) _ _ _ _ (Err _) {Bad = λ Came. ⊥} _ (refl, refl)
+    (fails_then made.1 made.2 (λ so. unopened_as so (Some a.paths.to.now) _) c.in_err-source.ensures.fails) (λ no. absurd no) refl)
 
-pub returns-clause-acts : goal.returns-clause-acts
-returns-clause-acts g c =
+pub returns : goal.returns
+returns g c =
     let a = c.args.asked.now in
     let view = g.F.FileSet.view in
     let In = g.F.In.Source.view in
@@ -50,7 +51,6 @@ returns-clause-acts g c =
     let old = view c.args.files.now in
     let opened = view c.open_sealing.new.files in
     let mid = view c.finish.new.self in
-    let new = view c.end_output.new.files in
     let made = subst (DoneWith a c.in_ok-material.material _ _) c.random_name-random_name.ensures c.in_ok-material.ensures.done in
     let both = c.in_ok-source.ensures.done in
     let secret = secret_of c.in_ok-material.material in
@@ -58,23 +58,23 @@ returns-clause-acts g c =
     let source = c.in_ok-source.source in
     let before = ports (In source) (Out c.in_ok-source.out) in
     let after = ports (In run.result.source) (Out run.new.out) in
-    let did = c.end_output.ensures.concludes in
     let xs : List Event = Open a.pass.now ∷ Open (random_name (option_text a.random)) ∷ [] in
     let ys : List Event = Open a.paths.from.now ∷ [] in
     let gave = Gave (reading_of a.paths.from.now (In run.result.source)) in
     let over = c.finish.ensures.over a.paths.from.now (run.ensures.began a.paths.from.now both.0.1.1) in
     let ended : Does [] opened mid = does_only opened mid (gave ∷ []) over (gave_puts (reading_of a.paths.from.now (In run.result.source))) in
     let all = does_then xs (ys ++ creating a.paths.clobber a.paths.to.now ∷ []) _ _ _ made.1 both.1 in
-    let concludes = rw (c.sealing_end.ensures, c.nowhere.ensures) at did in
-    let grows = concluded None a.paths.durability after.sink (sealing_end run.result.end) nowhere mid new c.end_output.result concludes in
+    finally_as c.end_output.result (λ new done so.
+    let concludes = rw (c.sealing_end.ensures, c.nowhere.ensures) at so in
+    let grows = concluded None a.paths.durability after.sink (sealing_end run.result.end) nowhere mid new done concludes in
     let last : (o : Outcome) → CameSince old mid o → CameSince old new o = came_then grows.puts old mid new grows.grows in
     let then : (o : Outcome) → CameSince old opened o → CameSince old new o = λ o came. last o (came_did ended o came) in
     let given : (o : Outcome) → CameSince old _ o → CameSince old new o = λ o came. then o (came_did both.1 o came) in
     let size = g.F.FileSet.size source in
     acts_engine _ (Encrypt a) old opened new _ _ _ (encrypt_engine secret)
-    a.paths before c.end_output.result xs ys size
+    a.paths before done xs ys size
     (record { source = source; sink = c.in_ok-source.out; is = refl }) both.0.1.0 (then _ (did_came made.1 _ both.0.1.3)) (λ refused. then _ (did_came made.1 _ (both.0.1.4 refused))) both.0.1.2
-    (runs_sealed _ (CameSince old new) a.paths secret before after opened mid new _ _ _ size run.result.end c.end_output.result
+    (runs_sealed _ (CameSince old new) a.paths secret before after opened mid new _ _ _ size run.result.end done
     (record { source = run.result.source; sink = run.new.out; is = refl }) (last gave (did_came all gave (came_one opened mid gave (ap (λ v. v.outcomes) over)))) ended
     (run.ensures.done secret both.0.0) (run.ensures.fails secret both.0.0) concludes run.ensures.silent run.ensures.shown) all refl refl (λ P holds. (
       secret,
@@ -89,4 +89,5 @@ returns-clause-acts g c =
         nonce_length = made.0.nonce_length;
       },
       holds,
-    )) refl made.2
+    )) refl made.2)
+    c.end_output.ensures

@@ -1,4 +1,4 @@
-use Rattle.std.proofs.Common.{None, ◌++◌, ◌∷◌, [], refl, Some, List, subst}
+use Rattle.std.proofs.Common.{Err, None, ◌++◌, ◌∷◌, [], refl, Some, List, subst}
 use Rattle.clap.specs.Words.{Text}
 use Rattle.age_intake.specs.{ports}
 use Rattle.age_position.specs.{position_text}
@@ -9,33 +9,34 @@ use Rattle.age_cli_args.specs.declared.request.Request.TheVariants.{Resume}
 use Rattle.age_command.specs.{HoldsOnly, creating, identity_order, preparing, making}
 use Rattle.age_cli.specs.{CameFirst, HoldsNoPosition, PortsOf, decrypt_engine}
 use Rattle.age_cli.specs.inner.{IsUnopened}
-use Rattle.age_cli.proofs.{acts_judged, acts_unopened, acts_engine, concluded, did_came, came_did, ends_as, fails_longer, fails_then, first_came, holds_as, opens_as}
+use Rattle.age_cli.proofs.{acts_judged, acts_unopened, acts_engine, concluded, did_came, came_did, ended_finally, ends_as, fails_longer, fails_then, finally_as, first_came, holds_as, opens_as}
 use Rattle.age_cli.proofs.{taken_as, then_first, unopened_as}
 use Rattle.age_cli.proofs.resume_command.resume_file.Goals as goal
 
-pub returns-in_err-identity-clause-acts : goal.returns-in_err-identity-clause-acts
-returns-in_err-identity-clause-acts g c =
-    acts_judged _ (Resume c.args.asked.now) _ _ _ _ _ _ _ c.from_residual.ensures refl c.in_err-identity.ensures.fails refl
+pub returns-in_err-identity : goal.returns-in_err-identity
+returns-in_err-identity g c =
+    ended_finally _ _ c.from_residual.ensures
+    (acts_judged _ (Resume c.args.asked.now) _ _ _ _ (Err _) _ _ (refl, refl) refl c.in_err-identity.ensures.fails refl)
 
-pub returns-in_err-old-clause-acts : goal.returns-in_err-old-clause-acts
-returns-in_err-old-clause-acts g c =
+pub returns-in_err-old : goal.returns-in_err-old
+returns-in_err-old g c =
     let r = c.args.asked.now in
     let d = r.decrypting in
     let judged = c.in_ok-identity.ensures.done in
-    acts_unopened _ (Resume r) _ _ _ _ _ {Bad = λ Came. HoldsOnly Came r.position.now HoldsNoPosition} _ c.from_residual-in_err-old.ensures
+    ended_finally _ _ c.from_residual-in_err-old.ensures (acts_unopened _ (Resume r) _ _ _ _ (Err _) {Bad = λ Came. HoldsOnly Came r.position.now HoldsNoPosition} _ (refl, refl)
     (fails_then judged.1 judged.2 (λ so. ends_as so (holds_as so (λ bytes no. no)) (taken_as so None) _)
     (fails_longer (Open d.paths.from.now ∷ (preparing (option_text d.save) (Some r.position.now) ++ making d.paths.clobber d.paths.to.now d.paths.durability)) c.in_err-old.ensures.fails))
-    (λ bad. bad) refl
+    (λ bad. bad) refl)
 
-pub returns-in_err-source-clause-acts : goal.returns-in_err-source-clause-acts
-returns-in_err-source-clause-acts g c =
+pub returns-in_err-source : goal.returns-in_err-source
+returns-in_err-source g c =
     let judged = c.in_ok-identity.ensures.done in
-    acts_unopened _ (Resume c.args.asked.now) _ _ _ _ _ {Bad = λ Came. ⊥} _ c.from_residual-in_err-source.ensures
+    ended_finally _ _ c.from_residual-in_err-source.ensures (acts_unopened _ (Resume c.args.asked.now) _ _ _ _ (Err _) {Bad = λ Came. ⊥} _ (refl, refl)
     (fails_then judged.1 judged.2 (λ so. unopened_as so None _) (fails_then {Why = IsUnopened None} c.in_ok-old.ensures.done.1 (λ no. no) (λ so. unopened_as so None _) c.in_err-source.ensures.fails))
-    (λ no. absurd no) refl
+    (λ no. absurd no) refl)
 
-pub returns-clause-acts : goal.returns-clause-acts
-returns-clause-acts g c =
+pub returns : goal.returns
+returns g c =
     let r = c.args.asked.now in
     let d = r.decrypting in
     let view = g.F.FileSet.view in
@@ -44,7 +45,6 @@ returns-clause-acts g c =
     let old = view c.args.files.now in
     let then = view c.open_earlier.new.files in
     let mid = view c.open_both.new.files in
-    let new = view c.decrypt_ready.new.files in
     let judged = c.in_ok-identity.ensures.done in
     let earlier = c.in_ok-old.ensures.done in
     let both = c.in_ok-source.ensures.done in
@@ -57,11 +57,11 @@ returns-clause-acts g c =
     let opened = does_then two rest _ _ _ earlier.1 both.1 in
     let did = does_then xs (two ++ rest) _ _ _ judged.1 opened in
     let position = c.in_ok-old.old.position in
-    let run = c.decrypt_ready.ensures.runs old (did_came did) (earlier.0.3.0, did_came judged.1 _ (came_did both.1 _ earlier.0.3.1)) in
-    let grows = concluded (option_text d.save) d.paths.durability run.after.sink run.end run.place mid new c.decrypt_ready.result run.concludes in
+    finally_as c.decrypt_ready.result (λ new ended run.
+    let grows = concluded (option_text d.save) d.paths.durability run.after.sink run.end run.place mid new ended run.concludes in
     let last : (o : Outcome) → CameSince old mid o → CameSince old new o = came_then grows.puts old mid new grows.grows in
     let later : (o : Outcome) → CameSince then mid o → CameSince old new o = λ o came. last o (did_came judged.1 o (did_came earlier.1 o came)) in
-    acts_engine _ (Resume r) old mid new _ _ _ _ d.paths before c.decrypt_ready.result xs ys (g.F.FileSet.size source)
+    acts_engine _ (Resume r) old mid new _ _ _ _ d.paths before ended xs ys (g.F.FileSet.size source)
     (record { source = source; sink = c.in_ok-source.out; is = refl }) both.0.0 (later _ both.0.3) (λ refused. later _ (both.0.4 refused)) both.0.2 run did refl refl (λ P holds. (
       c.in_ok-identity.identity,
       opens_as (λ o came. last o (came_did opened o came)) d c.in_ok-identity.identity judged.0,
@@ -71,4 +71,5 @@ returns-clause-acts g c =
           (position_text position) earlier.0.0,
       subst (λ (n : Text). P (decrypt_engine (PortsOf In Out) (CameSince old new) (option_text d.save) c.in_ok-identity.identity (Some (position, n))) d.paths)
           earlier.0.1 holds,
-    )) refl judged.2
+    )) refl judged.2)
+    (c.decrypt_ready.ensures old (λ new. did_came did) (earlier.0.3.0, did_came judged.1 _ (came_did both.1 _ earlier.0.3.1)))
