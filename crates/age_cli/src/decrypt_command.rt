@@ -27,8 +27,8 @@ use age_opening::{Done, Marks, Stopped, decrypt_marked, resume_marked};
 use age_position::{Position, PositionPolicy};
 use std::alloc::Global;
 
-/// What opens the input, by the options and the file that they name. Before it reads that, refuses
-/// two names that must differ and are one file, and two names of what is read that stand for one
+/// What opens the input, by the options and the file that they name. Before it reads that file, it
+/// refuses two names that must differ and are one file, and two names of inputs that stand for one
 /// stream.
 pub(crate) fn identify<'w, F: FileSet<'w>>(
     alloc: Global,
@@ -50,7 +50,7 @@ pub(crate) fn identify<'w, F: FileSet<'w>>(
     Ok(choice.identity(secret)?)
 }
 
-/// Where a decryption goes on: at a position, after the earlier output of this name.
+/// Where a decryption continues: at a position, after the earlier output of this name.
 #[derive(Drop)]
 pub(crate) struct OldText<'w, S: Source> {
     pub(crate) position: Position,
@@ -58,7 +58,7 @@ pub(crate) struct OldText<'w, S: Source> {
     pub(crate) source: S,
 }
 
-/// What a decryption is made with: what opens the input, where it goes on, and the files.
+/// What a decryption is made with: what opens the input, where it continues, and the files.
 #[derive(Drop)]
 pub(crate) struct Ready<'w, S: Source, O: Sink> {
     pub(crate) identity: Identity,
@@ -169,7 +169,7 @@ fn decrypt_text<'w, F: FileSet<'w>, P: Meter>(
 }
 
 /// Decrypts the input into the output, ends both, and saves the position if it stops or the output
-/// can't be ended, at no more than what the output holds for certain.
+/// can't be ended, never beyond what the output certainly holds.
 pub(crate) fn decrypt_ready<'w, F: FileSet<'w>, E: Sink, P: Meter>(
     alloc: Global,
     files: &mut F,
@@ -211,8 +211,8 @@ pub(crate) fn decrypt_ready<'w, F: FileSet<'w>, E: Sink, P: Meter>(
     end_output(alloc, files, out, writing, place, faults, announced, engine)
 }
 
-/// Decrypts a file as asked. If it stops, the line of its fault is put to `faults`, and then its
-/// position is saved. What `announced` says isn't reported is left to `report_ending`.
+/// Decrypts a file as asked. If it stops, the line of its fault is written to `faults`, and then
+/// its position is saved. What isn't reported yet, by `announced`, is left to `report_ending`.
 pub fn decrypt_file<'w, F: FileSet<'w>, E: Sink, P: Meter>(
     alloc: Global,
     files: &mut F,
