@@ -4,14 +4,15 @@
 // and Create an io.WriteCloser. No byte is returned before its chunk has been authenticated, and
 // io.EOF is reported only after the last chunk has been.
 //
-// A Reader returns all of the text before a damaged chunk, then 0 bytes and a *Fault. ReadAt
+// A Reader returns all of the plaintext before a damaged chunk, then 0 bytes and a *Fault. ReadAt
 // returns the bytes before such a chunk together with the *Fault.
 //
-// A Writer overwrites its file key when it is closed or abandoned, and a Reader when it has returned
-// io.EOF or a *Fault. A Reader that is left before that doesn't, nor does a File, or a Key.
+// A Writer overwrites its file key when it is closed or abandoned, and a Reader when it has
+// returned io.EOF or a *Fault. A Reader that is abandoned before that doesn't, nor does a File or a
+// Key.
 //
-// It links libage_c.a, which bindings/build puts into this folder; with -tags age_c_system the
-// library that is installed, as pkg-config finds it.
+// It links libage_c.a, which bindings/build puts into this folder; with -tags age_c_system it links
+// the installed library, as pkg-config finds it.
 package agefile
 
 /*
@@ -34,17 +35,17 @@ const MaxWorkers = 64
 var (
 	// ErrWrongKey: another passphrase, secret or file key, or another kind of key.
 	ErrWrongKey = errors.New("agefile: the key isn't the file's")
-	// ErrDamaged: the file isn't as its writer left it, which may be cut short, or no age program
-	// writes such a file.
+	// ErrDamaged: the file isn't as its writer left it (it may be truncated), or no age program writes
+	// such a file.
 	ErrDamaged = errors.New("agefile: the file is damaged or cut off")
 	// ErrTruncated: the file ends too early, in its header, before a chunk, or in the first 15 bytes
-	// of one. A file that was cut elsewhere, as nearly every one is, can't be told from a damaged one:
-	// it is ErrDamaged. So treat both alike. It isn't io.ErrUnexpectedEOF, which io.ReadFull returns
-	// for the last record of a text that is whole.
+	// of one. A file that was truncated elsewhere, as nearly all are, can't be told from a damaged
+	// one: it is ErrDamaged. So treat both alike. It isn't io.ErrUnexpectedEOF, which io.ReadFull
+	// returns for the last record of a complete plaintext.
 	ErrTruncated = errors.New("agefile: the file is cut off")
 )
 
-// errProcessor is returned in place of a call that would end the process.
+// errProcessor is returned instead of a call that would end the process.
 var errProcessor = errors.New("agefile: the library needs a processor with x86-64-v2 (SSE4.2 and POPCNT), and this one hasn't that")
 
 func runsHere() bool { return C.age_c_runs_here() != 0 }
@@ -133,14 +134,14 @@ func blockFault(number C.uint32_t, reader *C.age_c_reader) *Fault {
 	return &Fault{Number: uint32(number), Chunk: -1}
 }
 
-// A rule is what the library asks of an argument, and whether it is kept.
+// A rule is what the library requires of an argument, and whether it is met.
 type rule struct {
 	kept bool
 	text string
 }
 
-// headerFault is the fault of a call that has no chunk. With NumberMisused it names the first of these
-// rules that isn't kept.
+// headerFault is the fault of a call that has no chunk. With NumberMisused it names the first of
+// these rules that isn't met.
 func headerFault(number C.uint32_t, rules ...rule) *Fault {
 	fault := &Fault{Number: uint32(number), Chunk: -1}
 	for _, it := range rules {
@@ -208,7 +209,7 @@ func work(factor int) C.uint32_t {
 	return C.uint32_t(factor)
 }
 
-// place is where bytes lie, if there are any.
+// place is where bytes are, if there are any.
 func place(bytes []byte) *C.uint8_t {
 	if len(bytes) == 0 {
 		return nil

@@ -12,10 +12,10 @@ import (
 	"sync"
 )
 
-// A File reads the text of an age file at any place. ReadAt may be called by any number of
+// A File reads the plaintext of an age file at any place. ReadAt may be called by any number of
 // goroutines at a time; Read and Seek, which move one place, by one. Size is the length of the
-// text, which was checked when the file was opened. If a chunk is damaged, the bytes before it are
-// returned with its *Fault.
+// plaintext, which was checked when the file was opened. If a chunk is damaged, the bytes before it
+// are returned with its *Fault.
 type File struct {
 	*io.SectionReader
 }
@@ -44,7 +44,7 @@ func (f *File) Seek(offset int64, whence int) (int64, error) {
 	return f.SectionReader.Seek(offset, whence)
 }
 
-// Size is the length of the text, 0 of a File that wasn't opened.
+// Size is the length of the plaintext, 0 for a File that wasn't opened.
 func (f *File) Size() int64 {
 	if f.SectionReader == nil {
 		return 0
@@ -72,17 +72,17 @@ func (f *File) WriteTo(out io.Writer) (int64, error) {
 	}
 }
 
-// String hides the key and the text.
+// String hides the key and the plaintext.
 func (f *File) String() string { return "agefile.File" }
 
 // GoString does as String.
 func (f *File) GoString() string { return f.String() }
 
-// Format hides the key and the text in every verb.
+// Format hides the key and the plaintext in every verb.
 func (f *File) Format(state fmt.State, _ rune) { io.WriteString(state, f.String()) }
 
 // OpenAt opens the header of a file of this many bytes, and its last chunk, which proves the length
-// of the text: a wrong size is an error, or changes nothing if it is a few bytes too great.
+// of the plaintext: a wrong size is an error, or changes nothing if it is a few bytes too large.
 func OpenAt(file io.ReaderAt, size int64, key Key) (*File, error) {
 	if file == nil {
 		return nil, errNil
@@ -156,7 +156,7 @@ func (r *places) opened(number int64, block, room []byte) (int, error) {
 	return int(written), nil
 }
 
-// chunk is the text of one chunk, which is kept for the next call.
+// chunk is the plaintext of one chunk, which is kept for the next call.
 func (r *places) chunk(number int64) ([]byte, error) {
 	r.lock.Lock()
 	kept, text := r.kept, r.text
@@ -198,7 +198,8 @@ func (r *places) ReadAt(into []byte, off int64) (int, error) {
 	return done, nil
 }
 
-// some reads what one chunk has of the bytes at a place of the text. A whole one is read into the block.
+// some reads what one chunk has of the bytes at a place of the plaintext. A complete one is read
+// into the block.
 func (r *places) some(into, block []byte, off int64) (int, error) {
 	number, skipped := off/C.AGE_C_CHUNK, off%C.AGE_C_CHUNK
 	if skipped == 0 && len(into) >= C.AGE_C_CHUNK {

@@ -37,7 +37,7 @@ func ReadHeader(file io.Reader) (*Header, io.Reader, error) {
 	return h, io.MultiReader(bytes.NewReader(r.front), file), nil
 }
 
-// look takes what the header says that these bytes begin with.
+// look takes what the header that these bytes begin with says.
 func (h *Header) look(front []byte) C.uint32_t {
 	var size, count C.size_t
 	var work C.uint32_t

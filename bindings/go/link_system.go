@@ -2,7 +2,7 @@
 
 package agefile
 
-// With -tags age_c_system the library that is installed is linked, as pkg-config finds it.
+// With -tags age_c_system the installed library is linked, as pkg-config finds it.
 
 /*
 #cgo pkg-config: age_c

@@ -5,7 +5,7 @@ import (
 	"io"
 )
 
-// Encrypt is the age file of a text under a passphrase, as Create writes it.
+// Encrypt returns the age file of a plaintext under a passphrase, as Create writes it.
 func Encrypt(text, passphrase []byte, factor int) ([]byte, error) {
 	var out bytes.Buffer
 	w, err := Create(&out, passphrase, factor)
@@ -22,7 +22,7 @@ func Encrypt(text, passphrase []byte, factor int) ([]byte, error) {
 	return out.Bytes(), nil
 }
 
-// Decrypt is the text of an age file: all of it, or an error.
+// Decrypt returns the plaintext of an age file: all of it, or an error.
 func Decrypt(file []byte, key Key) ([]byte, error) {
 	r, err := Open(bytes.NewReader(file), key)
 	if err != nil {

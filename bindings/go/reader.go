@@ -11,8 +11,8 @@ import (
 	"io"
 )
 
-// A Reader reads the text of an age file from its beginning to its end. One goroutine at a time may
-// use it.
+// A Reader reads the plaintext of an age file from its beginning to its end. One goroutine at a
+// time may use it.
 type Reader struct {
 	file   io.Reader
 	reader C.age_c_reader
@@ -24,8 +24,8 @@ type Reader struct {
 	err    error  // how the text ends
 }
 
-// Open opens the header of a file. It reads no more of the file than it needs, and what comes
-// along.
+// Open opens the header of a file. It reads no more of the file than it needs, apart from what
+// comes in the same read.
 func Open(file io.Reader, key Key) (*Reader, error) {
 	if key.open == nil {
 		return nil, errors.New("agefile: a Key that is none: make one by Passphrase, FileKey or SharedSecret")
@@ -67,7 +67,7 @@ func (r *Reader) begin(key Key) error {
 	}
 }
 
-// more reads as many bytes of the file's front as there are, at most a chunk, and at least one.
+// more reads as many bytes of the file's beginning as there are, at most a chunk, and at least one.
 func (r *Reader) more() error {
 	room := r.block[:C.AGE_C_CHUNK]
 	if left := C.AGE_C_FRONT_MAX - len(r.front); left < len(room) {
@@ -98,8 +98,8 @@ func readSome(file io.Reader, room []byte) (int, error) {
 	return 0, io.ErrNoProgress
 }
 
-// cutSource is what a source says that was cut off itself, as the body of a response. It is
-// ErrTruncated, and not io.ErrUnexpectedEOF any more.
+// cutSource is what a source that was truncated itself says, such as the body of a response. It is
+// ErrTruncated, and no longer io.ErrUnexpectedEOF.
 type cutSource struct{ text string }
 
 func (s *cutSource) Error() string { return "agefile: what the file is read from: " + s.text }
@@ -146,13 +146,13 @@ func (r *Reader) read() error {
 	return nil
 }
 
-// String hides the key and the text.
+// String hides the key and the plaintext.
 func (r *Reader) String() string { return "agefile.Reader" }
 
 // GoString does as String.
 func (r *Reader) GoString() string { return r.String() }
 
-// Format hides the key and the text in every verb.
+// Format hides the key and the plaintext in every verb.
 func (r *Reader) Format(state fmt.State, _ rune) { io.WriteString(state, r.String()) }
 
 // next opens the next block, or what is left at the end, into a chunk's room.

@@ -10,7 +10,7 @@ import (
 	"io"
 )
 
-// A Range is a part of a text, from its first byte to the byte after its last.
+// A Range is a part of a plaintext, from its first byte to the byte after its last.
 type Range struct{ First, After int64 }
 
 // A Salvaged says what Salvage wrote.
@@ -21,12 +21,12 @@ type Salvaged struct {
 	Followed bool    // whether something was appended to the file, which is left out
 }
 
-// Whole says that nothing is missing.
+// Whole reports that nothing is missing.
 func (s *Salvaged) Whole() bool { return len(s.Lost) == 0 && s.Ends }
 
-// Salvage writes each chunk of a damaged or cut file that still opens, at its place, and zeros for
-// each chunk that doesn't. What is written is authentic. The header has to be whole. Nothing is
-// written before a chunk opened; if none does, Size is 0.
+// Salvage writes each chunk of a damaged or truncated file that still opens, at its place, and
+// zeros for each chunk that doesn't. What is written is authentic. The header must be complete.
+// Nothing is written before a chunk has opened; if none does, Size is 0.
 func Salvage(out io.Writer, file io.Reader, key Key) (*Salvaged, error) {
 	r, err := Open(file, key)
 	if err != nil {
@@ -95,7 +95,7 @@ func (s *salvager) open(number int64, have int) (int, bool, error) {
 	return int(written), answer == 0, nil
 }
 
-// lose notes that the text from a place up to where it stands is lost.
+// lose notes that the plaintext from a place up to where it stands is lost.
 func (s *salvager) lose(at int64) {
 	if last := len(s.found.Lost) - 1; last >= 0 && s.found.Lost[last].After == at {
 		s.found.Lost[last].After = s.size
@@ -104,7 +104,7 @@ func (s *salvager) lose(at int64) {
 	}
 }
 
-// put writes a text at its place, after zeros.
+// put writes a plaintext at its place, after zeros.
 func (s *salvager) put(at int64, text []byte) error {
 	var zeros [4096]byte
 	for s.found.Size < at {

@@ -12,9 +12,10 @@ import (
 	"sync"
 )
 
-// DecryptTo decrypts a file of this many bytes by 1 to MaxWorkers goroutines, each a part of it, and
-// returns the length of the text. Only if the error is nil has out all of it: the last chunk, which proves the
-// length, is opened first. If parts fail, the error is that of the first one; those after it stop.
+// DecryptTo decrypts a file of this many bytes by 1 to MaxWorkers goroutines, each a part of it,
+// and returns the length of the plaintext. out has all of it only if the error is nil: the last
+// chunk, which proves the length, is opened first. If parts fail, the error is that of the first
+// one; those after it stop.
 func DecryptTo(out io.WriterAt, file io.ReaderAt, size int64, key Key, workers int) (int64, error) {
 	if out == nil {
 		return 0, errors.New("agefile: out is nil")
@@ -57,7 +58,7 @@ func DecryptTo(out io.WriterAt, file io.ReaderAt, size int64, key Key, workers i
 	return text.Size(), nil
 }
 
-// copyPart copies the text between two places, unless it is to stop.
+// copyPart copies the plaintext between two places, unless it is to stop.
 func copyPart(out io.WriterAt, text *File, at, end int64, stops func() bool) error {
 	room := make([]byte, min64(16*C.AGE_C_CHUNK, end-at))
 	for at < end && !stops() {

@@ -12,13 +12,14 @@ import (
 	"io"
 )
 
-// A Writer writes an age file, which is whole once Close returned nil. One goroutine at a time may
-// use it.
+// A Writer writes an age file, which is complete once Close has returned nil. One goroutine at a
+// time may use it.
 //
-// Close seals what was written so far as the whole text. So never call it after what gives the text
-// failed: call Abandon, or defer Abandon instead of Close, which does nothing after a Close.
+// Close seals what was written so far as the complete plaintext. So never call it after the source
+// of the plaintext failed: call Abandon, or defer Abandon instead of Close; it does nothing after a
+// Close.
 //
-// Short writes are held and sealed together: what is written to may fail in a later call.
+// Short writes are held and sealed together, so the writer below may fail in a later call.
 type Writer struct {
 	out    io.Writer
 	stream C.age_c_write_stream
@@ -34,7 +35,7 @@ const gathered = 16_384
 var errClosed = errors.New("agefile: the file is closed")
 
 // Create begins an age file under a passphrase. The work factor, 1 to MaxWork, says what a reader
-// has to spend: 2^work KiB of memory. 18 is usual.
+// must spend: 2^work KiB of memory. 18 is usual.
 func Create(out io.Writer, passphrase []byte, factor int) (*Writer, error) {
 	front := make([]byte, C.AGE_C_SEAL_FRONT)
 	rules := []rule{passphraseRule(passphrase), workRule("the work factor", factor)}
@@ -45,8 +46,8 @@ func Create(out io.Writer, passphrase []byte, factor int) (*Writer, error) {
 }
 
 // CreateKey begins an age file by its file key, 16 random bytes that are new for each file. The
-// caller has wrapped it: stanzas is the lines of the header between its first and its last, as
-// "-> X25519 SHARE" and those of the body, each ended by a newline.
+// caller has wrapped it: stanzas has the lines of the header between its first and its last, as "->
+// X25519 SHARE" and those of the body, each ended by a newline.
 func CreateKey(out io.Writer, fileKey, stanzas []byte) (*Writer, error) {
 	if len(fileKey) != 16 {
 		return nil, headerFault(C.AGE_C_MISUSED, lengthRule("the file key", fileKey, 16))
@@ -58,7 +59,7 @@ func CreateKey(out io.Writer, fileKey, stanzas []byte) (*Writer, error) {
 	})
 }
 
-// begin makes a writer by a call that puts what begins the file into front. It is given so many
+// begin makes a writer by a call that puts what begins the file into front. It is given this many
 // random bytes, the first of which are the key, and other arguments, which have these rules.
 func begin(out io.Writer, key []byte, size int, front []byte, rules []rule,
 	call func(w *Writer, random []byte, n *C.size_t) C.uint32_t) (*Writer, error) {
@@ -85,13 +86,13 @@ func begin(out io.Writer, key []byte, size int, front []byte, rules []rule,
 	return w, w.put(front[:written])
 }
 
-// String hides the key and the text.
+// String hides the key and the plaintext.
 func (w *Writer) String() string { return "agefile.Writer" }
 
 // GoString does as String.
 func (w *Writer) GoString() string { return w.String() }
 
-// Format hides the key and the text in every verb.
+// Format hides the key and the plaintext in every verb.
 func (w *Writer) Format(state fmt.State, _ rune) { io.WriteString(state, w.String()) }
 
 // put passes on bytes.
@@ -153,8 +154,8 @@ func (w *Writer) feed(text []byte) (int, error) {
 	return done, nil
 }
 
-// Close seals the last chunk, so that the file is whole, even if text is missing: if what gives the
-// text failed, call Abandon first. It doesn't close what is written to.
+// Close seals the last chunk, so that the file is complete, even if plaintext is missing: if the
+// source of the plaintext failed, call Abandon first. It doesn't close the writer below.
 func (w *Writer) Close() error {
 	if w.out == nil {
 		return errNotOpen

@@ -27,7 +27,7 @@ const MaxTries = 16_384
 // point of low order.
 type Exchange func(secret, point []byte) ([]byte, error)
 
-// An Identity is a key of age-keygen. Its zero value is none.
+// An Identity is a key of age-keygen. Its zero value isn't valid.
 type Identity struct {
 	secret []byte
 }
@@ -124,13 +124,13 @@ func checksum(sum uint32) uint32 {
 	return sum
 }
 
-// X25519 are keys of age-keygen, of which any may open the file.
+// X25519 is keys of age-keygen, any of which may open the file.
 func X25519(exchange Exchange, identities ...Identity) Key {
 	if exchange == nil {
 		return Key{}
 	}
 	return Key{open: func(front []byte, reader *C.age_c_reader) C.uint32_t {
-		// (a pair that opens nothing: by it the library says what is wrong with the header)
+		// (a pair that opens nothing, by which the library says what is wrong with the header)
 		answer := openShared(front, append([]byte{1}, make([]byte, 31)...), make([]byte, 32), reader)
 		if answer != NumberWrongKey {
 			return answer
@@ -170,8 +170,9 @@ func (i Identity) try(exchange Exchange, header *Header, front []byte, reader *C
 			continue
 		}
 		secret, err := exchange(i.secret, share)
-		// A pair opens no stanza but its own. So a header of that one says whether the whole is worth a
-		// try, or the time would grow with the square of the number of stanzas.
+		// A pair opens no stanza but its own. So a header with only that stanza shows whether the
+		// complete header is worth a try; otherwise the time would grow with the square of the number of
+		// stanzas.
 		var none C.age_c_reader
 		if err != nil || openShared(it.alone(), secret, recipient, &none) == NumberWrongKey {
 			continue

@@ -43,14 +43,14 @@ reader_status state chunk =
 abbrev pub answer_of : ℕ → ℕ
 answer_of state = if nat_le 17 state && nat_le state 22 then state else 0
 
--- ---- Which number a call answers with, what it says of the call, and what a file's length says of its
--- text.
+-- ---- Which number a call answers with, what it says of the call, and what a file's length says of
+-- its plaintext.
 
 -- this many bytes or places were put at the front of a slice, which was `before`, and is `after`
 pub record PutsFront {Item : Type 0} (count : ℕ) (before after : List Item) : Type 0 where
   -- they fit
   pub most : count ≤ length after
-  -- what is after them is as it was
+  -- what is after them is unchanged
   pub rest : drop count after ≡ drop count before
 
 -- what the answer of a call means that was given a reader or writer, which was `old` and is `new`,
@@ -63,7 +63,7 @@ pub record Answers {State : Type 0} (Fits : Type 0) (Does : ℕ → List ℕ →
   pub fits : Fits → answer ≢ misused
   -- every other call is
   pub meant : answer ≢ misused → Fits
-  -- after 255 the reader or writer is as it was
+  -- after 255 the reader or writer is unchanged
   pub idle : answer ≡ misused → new ≡ old
   -- after any other answer, this is what the call did
   pub taken : answer ≢ misused → Does answer (take written after) new
@@ -72,10 +72,10 @@ pub record Answers {State : Type 0} (Fits : Type 0) (Does : ℕ → List ℕ →
   -- what was written is at the front of the slice, and no other byte of it was changed
   pub put : PutsFront written before after
 
--- ---- What the length of a file says of its text.
+-- ---- What the length of a file says of its plaintext.
 
--- how a payload of this many bytes ends, if no text has one: with no block, with a tag alone, or
--- with a part of a tag
+-- how a payload of this many bytes ends, if no plaintext has one: with no block, with a tag alone,
+-- or with a part of a tag
 abbrev pub ends_as : ℕ → StreamKind
 ends_as size =
     if size % block_length == 0 then Truncated
@@ -84,11 +84,11 @@ ends_as size =
 
 -- what the answer says of a payload's size
 pub record Measures (size answer text_len last_chunk : ℕ) : Type 0 where
-  -- 0 says that the texts with a payload of this size have that length, and which chunk is their
-  -- last
+  -- 0 says that the plaintexts with a payload of this size have that length, and which chunk is
+  -- their last
   pub length : answer ≡ 0
       → IsTextLength size text_len × (last_chunk + 1 ≡ chunks_for text_len)
-  -- any other answer says that no text has one, and how the payload ends
+  -- any other answer says that no plaintext has one, and how the payload ends
   pub none : answer ≢ 0 → ((len : ℕ) → ¬ IsTextLength size len)
       × (answer ≡ stream_fault_number (ends_as size)) × (text_len ≡ 0) × (last_chunk ≡ 0)
 

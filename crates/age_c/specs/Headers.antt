@@ -15,7 +15,7 @@ abbrev pub IsHeadRefusal : List ℕ → ℕ → Type 0
 IsHeadRefusal front answer =
     (fault : StartFault) × (answer ≡ start_fault_number fault) × HasNoHead front fault
 
--- ---- A whole header.
+-- ---- A complete header.
 
 -- the work factor of the header's only stanza, which is a scrypt stanza, or 2^32 - 1 if it is above
 -- that; 0 says that the header isn't one that a passphrase opens

@@ -10,7 +10,7 @@ use Rattle.age_c.specs.Readers.{CanBeUsed, GoesTo, TakesBlock, TakesEnd, after_b
 use Rattle.age_c.specs.declared.reader.Reader.{Reader}
 
 -- the call isn't misused: the reader can be used, a payload may have such a chunk, there is a block
--- or a part of one, and room for its text
+-- or a part of one, and room for its plaintext
 pub record IsOpenAtCall (r : Reader) (chunk : ℕ) (block out : List ℕ) : Type 0 where
   pub usable : CanBeUsed r
   pub within : chunk < chunk_limit
@@ -51,7 +51,7 @@ OpeningsAreParts = (old new : Reader) (chunk : ℕ) (block before after : List �
 
 -- ---- What came undamaged at its place.
 
--- the chunk of this number of a text, and the block that its writer sealed it as
+-- the chunk of this number of a plaintext, and the block that its writer sealed it as
 abbrev pub chunk_of : List ℕ → ℕ → List ℕ
 chunk_of text chunk = slice_index_or (chunks chunk_length text) chunk []
 
@@ -76,7 +76,8 @@ AreOpenings r (o ∷ openings) =
     (((o.answer ≡ misused) × (o.after ≡ r)) ⊎ OpensAt o.chunk o.block r o.answer o.text o.after)
     × AreOpenings o.after openings
 
--- the opening gave the chunk of the text, if it was given the block that its writer sealed it as
+-- the opening gave the chunk of the plaintext, if it was given the block that its writer sealed it
+-- as
 abbrev pub IsOpenedRight : Reader → List ℕ → Opening → Type 0
 IsOpenedRight r text o = o.answer ≢ misused → o.chunk < chunk_count chunk_length text
     → o.block ≡ sealed_block r text o.chunk → (o.answer ≡ 0) × (o.text ≡ chunk_of text o.chunk)

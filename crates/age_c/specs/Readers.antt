@@ -24,7 +24,7 @@ use Rattle.age_c.specs.declared.start.StartFault.TheVariants.{More, Head, Key}
 abbrev pub reader_outcome : Reader → Segment → Outcome
 reader_outcome r s = outcome (unbox r.file_key r.nonce) chunk_length s
 
--- the reader was given this segment: it stands where the outcome says, and was given whole blocks
+-- the reader was given this segment: it stands where the outcome says, and was given full blocks
 -- while it is open
 pub record IsAt (r : Reader) (s : Segment) : Type 0 where
   pub status : reader_status r.state r.fault_chunk ≡ Some (reader_outcome r s).status
@@ -32,7 +32,7 @@ pub record IsAt (r : Reader) (s : Segment) : Type 0 where
   pub whole : (reader_outcome r s).status ≡ Open → rest_bytes chunk_length s.bytes ≡ []
   pub timely : s.ended ≡ false → s.late ≡ false
 
--- the text that a reader of a segment releases
+-- the plaintext that a reader of a segment releases
 abbrev pub reader_text : Reader → Segment → List ℕ
 reader_text r s = released (unbox r.file_key r.nonce) chunk_length s
 
@@ -141,14 +141,15 @@ pub record GoesTo (chunk : ℕ) (old new : Reader) : Type 0 where
   pub unrefused : new.fault_chunk ≡ 0
   pub same : SameFile old new
 
--- the call isn't misused: the reader can be used, and there is a whole block, and room for its text
+-- the call isn't misused: the reader can be used, and there is a full block, and room for its
+-- plaintext
 pub record IsBlockCall (r : Reader) (block out : List ℕ) : Type 0 where
   pub usable : CanBeUsed r
   pub whole : length block ≡ block_length
   pub room : chunk_length ≤ length out
 
 -- the call of an end isn't misused: the reader can be used, what is left is shorter than a block,
--- and there is room for its text
+-- and there is room for its plaintext
 pub record IsEndCall (r : Reader) (rest out : List ℕ) : Type 0 where
   pub usable : CanBeUsed r
   pub short : length rest < block_length
@@ -194,7 +195,7 @@ segment_from s [] = s
 segment_from s (c ∷ calls) =
     segment_from (if c.answer == misused then s else after_call c s) calls
 
--- the texts that they wrote, one after the other
+-- the plaintexts that they wrote, one after the other
 abbrev pub texts_of : {State : Type 0} → List (Call State) → List ℕ
 texts_of calls = flat_map (λ c. c.text) calls
 
@@ -232,18 +233,18 @@ AllAnswer answer calls = AllByRecursion (λ c. c.answer ≢ misused → c.answer
 
 -- calls on the reader, or on what has it, since it was at this chunk
 module _ {State : Type 0} (reader : State → Reader) (r : Reader) (text : List ℕ) (start : ℕ) where
-  -- the text from that chunk on
+  -- the plaintext from that chunk on
   abbrev pub text_there : List ℕ
   text_there = drop (start * chunk_length) text
 
-  -- no block that the calls gave opens except as the writer of the text sealed it
+  -- no block that the calls gave opens except as the writer of the plaintext sealed it
   abbrev pub AreCallsAuthentic : List (Call State) → Type 0
   AreCallsAuthentic calls =
       IsAuthentic (box r.file_key r.nonce) (unbox r.file_key r.nonce) chunk_length text
       (given_by start calls)
 
-  -- the calls gave the payload of the text from that chunk on, as the writer sealed it, and its
-  -- end, and no more; calls may be misused in between
+  -- the calls gave the payload of the plaintext from that chunk on, as the writer sealed it, and
+  -- its end, and no more; calls may be misused in between
   abbrev pub AreUndamaged : List (Call State) → Type 0
   AreUndamaged calls = given_by start calls ≡ record {
     start = start;
@@ -254,10 +255,10 @@ module _ {State : Type 0} (reader : State → Reader) (r : Reader) (text : List 
 
   -- what a caller may rely on, whatever the calls are
   pub record IsTextRight (calls : List (Call State)) : Type 0 where
-    -- what was written is the beginning of the text from that chunk on
+    -- what was written is a prefix of the plaintext from that chunk on
     pub prefix : AreCallsAuthentic calls → IsPrefixOf (texts_of calls) text_there
     -- if the last call is an end that answered 0, it is all of that, and the chunk begins within
-    -- the text: so then the length of the text is known
+    -- the plaintext: so then the length of the plaintext is known
     pub done : AreCallsAuthentic calls → (before : List (Call State)) (last : Call State)
         → calls ≡ before ++ last ∷ [] → last.is_end ≡ true → last.answer ≡ 0
         → (texts_of calls ≡ text_there) × (start * chunk_length ≤ length text)
@@ -276,7 +277,7 @@ module _ {State : Type 0} (reader : State → Reader) (r : Reader) (text : List 
 -- ---- The headline for a caller.
 
 -- a caller may rely on all of this after any calls on a reader that is at a chunk and was given
--- nothing, as one that was just begun is at chunk 0, for every text of at most 2^48 chunks
+-- nothing, as one that was just begun is at chunk 0, for every plaintext of at most 2^48 chunks
 abbrev pub CallsAreWritten : Type 0
 CallsAreWritten = (r : Reader) (start : ℕ) → IsAt r (fresh start) → start < chunk_limit
     → (calls : List (Call Reader)) → AreCalls (λ r. r) IsAt r calls → (text : List ℕ)

@@ -24,7 +24,7 @@ use Rattle.age_c.specs.Writers.{TakesText}
 abbrev pub held_block : Stream → List ℕ
 held_block s = take s.held s.block
 
--- the stream was given this segment: its reader was given whole blocks, and what came after them is
+-- the stream was given this segment: its reader was given full blocks, and what came after them is
 -- held, while the reader is open: less than a block
 pub record StreamIsAt (s : Stream) (segment : Segment) : Type 0 where
   pub short : s.held < block_length
@@ -53,7 +53,7 @@ pub record FinishesStream (old : Stream) (answer : ℕ) (text : List ℕ) (new :
   pub moves : StreamMoves with_end old answer text new
   pub done : answer ≡ 0 → new.reader.state ≡ 3
 
--- the call isn't misused: the stream can be used, and there is room for a chunk's text
+-- the call isn't misused: the stream can be used, and there is room for a chunk's plaintext
 pub record IsStreamCall (s : Stream) (out : List ℕ) : Type 0 where
   pub usable : CanBeUsed s.reader
   pub short : s.held < block_length
@@ -83,8 +83,8 @@ AnswersAreFeedCalls = (old new : Stream) (piece before after : List ℕ) (answer
 
 -- ---- What any calls on a stream that writes do.
 
--- a call: whether it is an end, the text that it took, what it answered and wrote, and the stream
--- after it
+-- a call: whether it is an end, the plaintext that it took, what it answered and wrote, and the
+-- stream after it
 pub record TextCall : Type 0 where
   pub is_end : Bool
   pub text : List ℕ
@@ -111,7 +111,7 @@ abbrev pub stream_after : WriteStream → List TextCall → WriteStream
 stream_after s [] = s
 stream_after s (c ∷ calls) = stream_after c.after calls
 
--- the text that they took, and the bytes that they wrote
+-- the plaintext that they took, and the bytes that they wrote
 abbrev pub text_taken : List TextCall → List ℕ
 text_taken calls = flat_map (λ (c : TextCall). c.text) calls
 
@@ -130,8 +130,9 @@ pub record WritesFile (header : Header) (key nonce front : List ℕ) (s : WriteS
   pub is_end : last.is_end ≡ true
   pub zero : last.answer ≡ 0
 
--- all of it is the age file of the text that the calls took, with the header, the file key and the
--- nonce that it was begun with; and the text has as few chunks as the law of readers asks for
+-- all of it is the age file of the plaintext that the calls took, with the header, the file key and
+-- the nonce that it was begun with; and the plaintext has as few chunks as the law of readers asks
+-- for
 abbrev pub TextsAreFiles : Type 0
 TextsAreFiles = (header : Header) (key nonce front : List ℕ) (s : WriteStream)
     (calls : List TextCall) (last : TextCall) → WritesFile header key nonce front s calls last
@@ -162,8 +163,8 @@ AnswersAreTextCalls = (old new : WriteStream) (piece before after : List ℕ) (a
 -- ---- What was written in pieces reads back in pieces.
 
 -- a stream at the beginning of a payload with the keys of this file, given what was written of its
--- payload in any pieces, and then its end, gives the text, and 0 each time; unless a full last block
--- opens as one before the last too
+-- payload in any pieces, and then its end, gives the plaintext, and 0 each time; unless a full last
+-- block opens as one before the last too
 abbrev pub PiecesReadBack : Type 0
 PiecesReadBack = (header : Header) (key nonce front : List ℕ) (w : WriteStream)
     (texts : List TextCall) (last : TextCall) → WritesFile header key nonce front w texts last

@@ -1,4 +1,4 @@
--- A writer of a text in pieces: how it begins a file, and what one call does.
+-- A writer of a plaintext in pieces: how it begins a file, and what one call does.
 use Rattle.std.specs.Prelude.{◌≡◌, ◌≢◌, ◌⊎◌, ℕ, ◌+◌, ◌*◌, ◌<◌, ◌≤◌, false, List, [], ◌++◌, length, take, drop}
 use Rattle.std.specs.Prelude.{map}
 use Rattle.std.specs.List.{enumerate_from, flat_map}
@@ -17,12 +17,12 @@ pub record CanSeal (w : Writer) : Type 0 where
   pub unfinished : w.state ≡ 1
   pub chunk : w.chunk < chunk_limit
 
--- the writer was given this text, in whole chunks
+-- the writer was given this plaintext, in full chunks
 pub record HasSealed (w : Writer) (text : List ℕ) : Type 0 where
   pub unfinished : w.state ≡ 1
   pub whole : length text ≡ w.chunk * chunk_length
 
--- the blocks of whole chunks that aren't the last
+-- the blocks of full chunks that aren't the last
 abbrev pub blocks_of : Writer → List ℕ → List ℕ
 blocks_of w text = block_bytes
     (map (pair (box w.file_key w.nonce) false)
@@ -53,7 +53,7 @@ pub record IsFileFront (header : Header) (nonce bytes : List ℕ) : Type 0 where
   pub size : length nonce ≡ 16
 
 -- the bytes are what stands before the payload of a file with this header, whose MAC was made under
--- the file key, and the writer was given no text
+-- the file key, and the writer was given no plaintext
 pub record IsBegun (header : Header) (key nonce bytes : List ℕ) (w : Writer) : Type 0 where
   pub front : IsFileFront header nonce bytes
   pub mac : IsMacOf header key
@@ -86,8 +86,8 @@ BeginsFileWith lines random bytes w = (header : Header) × HasLines lines header
     × (¬ IsScryptNotAlone header)
     × IsBegun header (take 16 random) (drop 16 random) bytes w
 
--- why no file is begun: memory is refused, a scrypt stanza stands beside another, or the lines are
--- those of no header
+-- why no file is begun: memory runs out, a scrypt stanza stands beside another, or no header can
+-- have the lines
 abbrev pub RefusesLines : List ℕ → ℕ → Type 0
 RefusesLines lines answer = (answer ≡ 28)
     ⊎ ((answer ≡ 9) × (header : Header) × HasLines lines header × IsScryptNotAlone header)
@@ -108,7 +108,7 @@ pub record WritesOrRefuses {State : Type 0} (Writes : List ℕ → State → Typ
   pub wrote : answer ≡ 0 → Writes bytes new
   -- any other answer says why it refused
   pub refused : answer ≢ 0 → Refuses answer
-  -- after a refusal the writer or stream is as it was
+  -- after a refusal the writer or stream is unchanged
   pub same : answer ≢ 0 → new ≡ old
 
 -- ---- What a stream's numbers and bytes stand for.
@@ -117,8 +117,9 @@ pub record WritesOrRefuses {State : Type 0} (Writes : List ℕ → State → Typ
 abbrev pub held_chunk : WriteStream → List ℕ
 held_chunk s = take s.held s.chunk
 
--- the stream was given this text: its writer sealed whole chunks, and what came after them is held.
--- That is a byte at least, unless the text has none, so that the last chunk isn't sealed too early
+-- the stream was given this plaintext: its writer sealed full chunks, and what came after them is
+-- held. That is a byte at least, unless the plaintext has none, so that the last chunk isn't sealed
+-- too early
 pub record HasTaken (s : WriteStream) (text : List ℕ) : Type 0 where
   pub chunks : List ℕ
   pub sealed : HasSealed s.writer chunks
@@ -127,8 +128,8 @@ pub record HasTaken (s : WriteStream) (text : List ℕ) : Type 0 where
 
 -- ---- What one call does to a stream.
 
--- a stream of any text was given this much more, and the call wrote the blocks of the chunks that
--- this made whole and no longer the last
+-- a stream of any plaintext was given this much more, and the call wrote the blocks of the chunks
+-- that this made full and no longer the last
 pub record TakesText (more : List ℕ) (old : WriteStream) (bytes : List ℕ) (new : WriteStream)
     : Type 0 where
   pub taken : (text : List ℕ) → HasTaken old text → HasTaken new (text ++ more)
@@ -154,7 +155,7 @@ pub record RefusesText (piece : List ℕ) (old : WriteStream) (answer : ℕ) : T
   pub more : 0 < length piece
 
 -- what is held was sealed as the last chunk: with the blocks before it the bytes are the payload of
--- the whole text
+-- the complete plaintext
 pub record FinishesText (old : WriteStream) (bytes : List ℕ) (new : WriteStream) : Type 0 where
   pub payload_is : (text : List ℕ) → HasTaken old text
       → payload (box old.writer.file_key old.writer.nonce) chunk_length text

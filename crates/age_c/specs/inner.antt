@@ -34,7 +34,7 @@ use Rattle.age_c.specs.declared.write_stream.WriteStream.{WriteStream}
 abbrev pub key_of_reader : Reader → List ℕ
 key_of_reader r = payload_key r.file_key r.nonce
 
--- how it seals a text at a nonce, and opens a block there
+-- how it seals a plaintext at a nonce, and opens a block there
 abbrev pub seals : List ℕ → Seals
 seals key nonce text = sealing_with key nonce [] text
 
@@ -43,7 +43,7 @@ opens key nonce block = opening_with key nonce [] block
 
 -- ---- What the parts of a call do.
 
--- an opener was given what makes each segment the next one, and passed on this text
+-- an opener was given what makes each segment the next one, and passed on this plaintext
 pub record PassesOn (next : Segment → Segment) (old new : OpenerView (List ℕ)) (text : List ℕ)
     : Type 0 where
   -- its key stays
@@ -51,7 +51,7 @@ pub record PassesOn (next : Segment → Segment) (old new : OpenerView (List ℕ
   -- if it stood for a segment, it stands for the next
   pub stands : (s : Segment) → Stands opens chunk_length old s
       → Stands opens chunk_length new (next s)
-  -- the text is what the next segment releases more
+  -- the plaintext is what the next segment releases more
   pub text_is : (s : Segment) → Stands opens chunk_length old s
       → released (opens old.key) chunk_length (next s)
       ≡ released (opens old.key) chunk_length s ++ text
@@ -131,7 +131,7 @@ pub record SealsChunk (chunk : List ℕ) (old : Writer) (bytes : List ℕ) (new 
   pub same : SameKeys old new
 
 -- what is left was sealed as the last chunk: with the blocks before it the bytes are the payload of
--- the whole text
+-- the complete plaintext
 pub record SealsLast (rest : List ℕ) (old : Writer) (bytes : List ℕ) (new : Writer)
     : Type 0 where
   pub payload_is : (text : List ℕ) → HasSealed old text
@@ -142,14 +142,14 @@ pub record SealsLast (rest : List ℕ) (old : Writer) (bytes : List ℕ) (new : 
   pub finished : new.state ≡ 2
   pub same : SameKeys old new
 
--- the writer can be used, and there is a whole chunk, and room for its block
+-- the writer can be used, and there is a full chunk, and room for its block
 pub record IsChunkCall (w : Writer) (chunk out : List ℕ) : Type 0 where
   pub usable : CanSeal w
   pub whole : length chunk ≡ chunk_length
   pub room : block_length ≤ length out
 
--- the writer can be used, and what is left has a byte, unless the whole text has none, and room for
--- its block
+-- the writer can be used, and what is left has a byte, unless the complete plaintext has none, and
+-- room for its block
 pub record IsLastCall (w : Writer) (rest out : List ℕ) : Type 0 where
   pub usable : CanSeal w
   pub short : length rest ≤ chunk_length
@@ -169,7 +169,7 @@ pub record HasKeyFront (lines key nonce bytes : List ℕ) : Type 0 where
   pub mac : IsMacOf header key
   pub front : IsFileFront header nonce bytes
 
--- this many bytes of a text came after those that are held, and are held too
+-- this many bytes of a plaintext came after those that are held, and are held too
 pub record HoldsText (piece : List ℕ) (count : ℕ) (old new : WriteStream) : Type 0 where
   pub count_is : count ≡ min (length piece) (chunk_length - old.held)
   pub bytes : held_chunk new ≡ held_chunk old ++ take count piece

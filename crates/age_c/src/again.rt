@@ -52,7 +52,7 @@ fn ends_after(front: &[u8], seen: usize) -> bool
 }
 
 /// How many of the lengths are reached at which a header is tried in any case, so that a faulty one
-/// is refused before its end. They are few: so all tries together take linear time.
+/// is refused before its end. They are few, so all tries together take linear time.
 fn marks_in(len: usize) -> u32
     ensures { result ≡ marks_in len }
 {
@@ -73,9 +73,9 @@ fn marks_in(len: usize) -> u32
 
 /// Whether it is worth a try to open the header that `front` begins with, after an answer of
 /// [`MORE`] here or of an `age_c_open_..` said that its first `seen` bytes weren't enough: 0 if so,
-/// else [`MORE`]. It is as soon as the header and the nonce are there, and only a few times before.
-/// So all calls for one header together take time that is linear in its length, however small its
-/// pieces are.
+/// else [`MORE`]. It is worth a try as soon as the header and the nonce are complete, and only a
+/// few times before. So all calls for one header together take time linear in its length, however
+/// small its pieces are.
 #[unsafe(no_mangle)]
 pub extern "C" fn age_c_may_open(front: &[u8], seen: usize) -> u32
     ensures begun { (header : Header) (len : ℕ) → HasFront front.now header len

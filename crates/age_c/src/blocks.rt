@@ -49,7 +49,7 @@ pub(crate) fn put(bytes: &[u8], out: &mut [u8]) -> usize
     bytes.len()
 }
 
-/// Puts a text, if one is lent, at the front of `out`.
+/// Puts a plaintext, if one is lent, at the front of `out`.
 fn put_chunk(chunk: Option<&[u8]>, out: &mut [u8]) -> usize
     requires { length (chunk_bytes chunk) ≤ length out.old }
     ensures text { take result out.new ≡ chunk_bytes chunk.entry }
@@ -72,7 +72,7 @@ fn keep(reader: &mut Reader, index: u64, status: Status)
     reader.fault_chunk = fault_chunk;
 }
 
-/// Feeds a whole block, and returns how many bytes of text it put into `out`.
+/// Feeds a full block, and returns how many bytes of plaintext it put into `out`.
 fn feed_block(opener: &mut PayloadOpener<'_>, block: &[u8], out: &mut [u8]) -> usize
     requires held { opener.old.held ≡ [] }
     requires block { length block.now ≡ block_length }
@@ -87,7 +87,7 @@ fn feed_block(opener: &mut PayloadOpener<'_>, block: &[u8], out: &mut [u8]) -> u
     }
 }
 
-/// Feeds what is left before the end, which is shorter than a block, so that no text comes.
+/// Feeds what is left before the end, which is shorter than a block, so that no plaintext comes.
 fn feed_rest(opener: &mut PayloadOpener<'_>, rest: &[u8])
     requires held { opener.old.held ≡ [] }
     requires rest { length rest.now < block_length }
@@ -101,7 +101,7 @@ fn feed_rest(opener: &mut PayloadOpener<'_>, rest: &[u8])
     }
 }
 
-/// Ends, and returns how many bytes of text it put into `out`.
+/// Ends, and returns how many bytes of plaintext it put into `out`.
 fn end_opener(opener: &mut PayloadOpener<'_>, out: &mut [u8]) -> usize
     requires room { has_failed opener.old.status ≡ false
         → length opener.old.held ≤ length out.old + tag_length }
@@ -136,7 +136,7 @@ pub(crate) fn refuse_more(reader: &mut Reader, status: Status, piece: &[u8]) -> 
     count
 }
 
-/// Opens a whole block, and returns how many bytes of text it put into `out`.
+/// Opens a full block, and returns how many bytes of plaintext it put into `out`.
 pub(crate) fn open_block(reader: &mut Reader, status: Status, block: &[u8], out: &mut [u8]) -> usize
     requires call { IsBlockCall reader.old block.now out.old }
     requires status { reader_status reader.old.state reader.old.fault_chunk ≡ Some status }
@@ -152,7 +152,7 @@ pub(crate) fn open_block(reader: &mut Reader, status: Status, block: &[u8], out:
 }
 
 /// Opens what is left before the end, which is shorter than a block, and returns how many bytes of
-/// text it put into `out`.
+/// plaintext it put into `out`.
 pub(crate) fn open_last(reader: &mut Reader, status: Status, rest: &[u8], out: &mut [u8]) -> usize
     requires call { IsEndCall reader.old rest.now out.old }
     requires status { reader_status reader.old.state reader.old.fault_chunk ≡ Some status }

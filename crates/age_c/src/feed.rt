@@ -26,7 +26,7 @@ fn hold(stream: &mut Stream, piece: &[u8]) -> usize
 }
 
 /// Takes bytes of a block, and opens it if it is full. Returns how many bytes were taken, and how
-/// many bytes of text were put into `out`.
+/// many bytes of plaintext were put into `out`.
 fn feed_open(stream: &mut Stream, piece: &[u8], out: &mut [u8]) -> (usize, usize)
     requires call { IsStreamCall stream.old out.old }
     requires open { reader_status stream.old.reader.state stream.old.reader.fault_chunk
@@ -46,8 +46,8 @@ fn feed_open(stream: &mut Stream, piece: &[u8], out: &mut [u8]) -> (usize, usize
     (taken, written)
 }
 
-/// Opens the whole block that a piece begins with, while nothing is held, without holding it.
-/// Returns its length, and how many bytes of text were put into `out`.
+/// Opens the full block that a piece begins with, while nothing is held, without holding it.
+/// Returns its length, and how many bytes of plaintext were put into `out`.
 fn feed_whole(stream: &mut Stream, piece: &[u8], out: &mut [u8]) -> (usize, usize)
     requires call { IsStreamCall stream.old out.old }
     requires open { reader_status stream.old.reader.state stream.old.reader.fault_chunk
@@ -63,7 +63,7 @@ fn feed_whole(stream: &mut Stream, piece: &[u8], out: &mut [u8]) -> (usize, usiz
     (BLOCK_LEN, written)
 }
 
-/// Takes bytes of a piece. Returns how many, and how many bytes of text were put into `out`.
+/// Takes bytes of a piece. Returns how many, and how many bytes of plaintext were put into `out`.
 fn feed(stream: &mut Stream, status: Status, piece: &[u8], out: &mut [u8]) -> (usize, usize)
     requires call { IsStreamCall stream.old out.old }
     requires status { reader_status stream.old.reader.state stream.old.reader.fault_chunk
@@ -84,7 +84,7 @@ fn feed(stream: &mut Stream, status: Status, piece: &[u8], out: &mut [u8]) -> (u
     }
 }
 
-/// Ends, and returns how many bytes of text were put into `out`.
+/// Ends, and returns how many bytes of plaintext were put into `out`.
 fn finish(stream: &mut Stream, status: Status, out: &mut [u8]) -> usize
     requires call { IsStreamCall stream.old out.old }
     requires status { reader_status stream.old.reader.state stream.old.reader.fault_chunk
@@ -98,7 +98,7 @@ fn finish(stream: &mut Stream, status: Status, out: &mut [u8]) -> usize
     open_last(&mut stream.reader, status, &stream.block[..held], out)
 }
 
-/// The status of a stream that can be used, with this much room for text.
+/// The status of a stream that can be used, with this much room for plaintext.
 fn stream_status(stream: &Stream, room: usize) -> Option<Status>
     ensures status { IfSome result (λ status.
         reader_status stream.now.reader.state stream.now.reader.fault_chunk ≡ Some status) }
@@ -114,9 +114,9 @@ fn stream_status(stream: &Stream, room: usize) -> Option<Status>
 }
 
 /// Takes bytes of the payload from the front of `piece`, up to the end of the block that is open,
-/// and puts the text of a block that is full into `out`, which has room for 65,536 bytes or more.
-/// The answer is 0 or the number of a fault, 17 to 22, with which the reader refuses each further
-/// call that gives it bytes or an end.
+/// and puts the plaintext of a block that is full into `out`, which has room for 65,536 bytes or
+/// more. The answer is 0 or the number of a fault, 17 to 22, with which the reader refuses each
+/// further call that gives it bytes or an end.
 #[unsafe(no_mangle)]
 pub extern "C" fn age_c_feed(
     stream: &mut Stream,
@@ -139,8 +139,8 @@ pub extern "C" fn age_c_feed(
     answer_of(stream.reader.state)
 }
 
-/// The payload ended: what is left of its text is put into `out`, which has room for 65,536 bytes
-/// or more. The text is whole only if the answer is 0.
+/// The payload ended: what is left of its plaintext is put into `out`, which has room for 65,536
+/// bytes or more. The plaintext is complete only if the answer is 0.
 #[unsafe(no_mangle)]
 pub extern "C" fn age_c_finish(stream: &mut Stream, out: &mut [u8], written: &mut usize) -> u32
     ensures { Answers (IsStreamCall stream.old out.old) (FinishesStream stream.old)

@@ -69,10 +69,10 @@ fn seal_held(stream: &mut WriteStream, piece: &[u8], out: &mut [u8]) -> (usize, 
     (hold_text(stream, piece), written)
 }
 
-/// Takes bytes of the text from the front of `piece`, up to the end of the chunk that is open. A
-/// chunk that is full is sealed once a byte comes after it, and its block is put into `out`, which
-/// has room for 65,552 bytes or more. A chunk that can only be the last, since a payload has at most
-/// 2^48, is refused with 22, and nothing is changed.
+/// Takes bytes of the plaintext from the front of `piece`, up to the end of the chunk that is open.
+/// A chunk that is full is sealed once a byte comes after it, and its block is put into `out`,
+/// which has room for 65,552 bytes or more. A chunk that can only be the last, since a payload has
+/// at most 2^48, is refused with 22, and nothing is changed.
 #[unsafe(no_mangle)]
 pub extern "C" fn age_c_feed_text(
     stream: &mut WriteStream,
@@ -114,8 +114,8 @@ fn seal_rest(stream: &mut WriteStream, out: &mut [u8]) -> usize
     seal_last(&mut stream.writer, &stream.chunk[..held], out)
 }
 
-/// The text ended: what is held is sealed as the last chunk into `out`, which has room for 65,552
-/// bytes or more.
+/// The plaintext ended: what is held is sealed as the last chunk into `out`, which has room for
+/// 65,552 bytes or more.
 #[unsafe(no_mangle)]
 pub extern "C" fn age_c_finish_text(
     stream: &mut WriteStream,

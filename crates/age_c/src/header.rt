@@ -37,9 +37,9 @@ pub extern "C" fn age_c_header(
     }
 }
 
-/// Tells of all stanzas of the header that `front` begins with where they stand: the first `count`
-/// of `places` say where their arguments do in `front`, and their bodies in `out`, which has room
-/// for as many bytes as `front` has or more. There is room for all places, or none is told.
+/// Tells where all stanzas of the header that `front` begins with are: the first `count` of
+/// `places` say where their arguments are in `front`, and their bodies in `out`, which has room for
+/// as many bytes as `front` has or more. There must be room for all places, or none is written.
 #[unsafe(no_mangle)]
 pub extern "C" fn age_c_stanzas(
     alloc: Global,

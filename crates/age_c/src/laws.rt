@@ -7,10 +7,10 @@ ghost use Rattle.age_c.specs.{PiecesReadBack, TextsAreFiles};
 
 /// The headline for a caller: after any calls of [`age_c_block`](crate::age_c_block) and
 /// [`age_c_end`](crate::age_c_end) on a reader that was just begun, or went to a chunk, while no
-/// block opens except as the writer of a text sealed it, what was written is the beginning of that
-/// text from that chunk on, and all of it if the last call is an end that answered 0; then the
-/// chunk begins within the text, so that its length is known. An undamaged payload gives all of it,
-/// and 0 each time.
+/// block opens except as the writer of a plaintext sealed it, what was written is a prefix of that
+/// plaintext from that chunk on, and all of it if the last call is an end that answered 0; then the
+/// chunk begins within the plaintext, so that its length is known. An undamaged payload gives all
+/// of it, and 0 each time.
 #[tactic(auto, using(crate::proofs::CallLemmas::calls_are_written))]
 pub fn calls_are_written()
     ensures { CallsAreWritten }
@@ -18,8 +18,8 @@ pub fn calls_are_written()
 
 /// The headline for a caller who seeks: what [`calls_are_written`] says holds after each seek, for
 /// any calls of [`age_c_block`](crate::age_c_block), [`age_c_end`](crate::age_c_end) and
-/// [`age_c_seek`](crate::age_c_seek) on one reader. Each text that was written stands in the
-/// writer's text at its place.
+/// [`age_c_seek`](crate::age_c_seek) on one reader. Each plaintext that was written stands in the
+/// writer's plaintext at its place.
 #[tactic(auto, using(crate::proofs::CallLemmas::parts_are_written))]
 pub fn parts_are_written()
     ensures { PartsAreWritten }
@@ -33,8 +33,8 @@ pub fn answers_are_calls()
 {}
 
 /// What [`age_c_open_at`](crate::age_c_open_at) promises makes each use of it one of the seeks and
-/// calls that [`parts_are_written`] speaks of: what it writes stands in the writer's text at the
-/// chunk's place.
+/// calls that [`parts_are_written`] speaks of: what it writes stands in the writer's plaintext at
+/// the chunk's place.
 #[tactic(auto, using(crate::proofs::CallLemmas::openings_are_parts))]
 pub fn openings_are_parts()
     ensures { OpeningsAreParts }
@@ -60,14 +60,14 @@ pub fn feeds_are_written()
 /// What [`age_c_seal_passphrase`](crate::age_c_seal_passphrase) or
 /// [`age_c_seal_key`](crate::age_c_seal_key), then any calls of
 /// [`age_c_feed_text`](crate::age_c_feed_text), and then one of
-/// [`age_c_finish_text`](crate::age_c_finish_text) that answers 0 write is the age file of the text
-/// that they took.
+/// [`age_c_finish_text`](crate::age_c_finish_text) that answers 0 write is the age file of the
+/// plaintext that they took.
 pub fn texts_are_files()
     ensures { TextsAreFiles }
 {}
 
 /// A file that was written in pieces, given to a stream that reads in any other pieces, gives its
-/// text back.
+/// plaintext back.
 pub fn pieces_read_back()
     ensures { PiecesReadBack }
 {}

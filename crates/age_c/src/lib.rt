@@ -1,13 +1,12 @@
 //! Age files (<https://c2sp.org/age>) for callers in C: a reader and a writer that are plain
-//! numbers in the caller's memory, so that nothing has to be freed.
+//! numbers in the caller's memory, so that nothing needs to be freed.
 //!
 //! A header is opened by a passphrase, a file key or a shared secret, and then a [`Reader`] takes
 //! the blocks of the payload one after the other. A [`Writer`] begins with the header of a
 //! passphrase, or of a file key and given stanzas, and then seals chunk after chunk.
 //!
 //! Each function may be called with any numbers in a reader or writer, and with slices of any
-//! length. What doesn't fit is answered with [`MISUSED`]. `include/age_c.h` says the same to a C
-//! programmer.
+//! length. What doesn't fit returns [`MISUSED`]. `include/age_c.h` says the same to a C programmer.
 #![tactic(auto)]
 
 mod again;
@@ -62,5 +61,6 @@ pub const MORE: u32 = 254;
 
 /// The call doesn't fit: a length, a work factor or the number of a chunk is out of range, there is
 /// too little room, or a reader, writer or stream holds numbers that can't be used (MISUSE in
-/// `include/age_c.h`). Nothing is changed, but each number that the call would have told is 0.
+/// `include/age_c.h`). Nothing is changed, except that each number that the call would have
+/// reported is 0.
 pub const MISUSED: u32 = 255;

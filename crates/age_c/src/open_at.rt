@@ -12,7 +12,7 @@ use age_chunk::{BLOCK_LEN, CHUNK_LEN, CHUNK_LIMIT};
 use age_stream::Status;
 
 /// Goes to a chunk, and opens its block there, or what is left of it at the end. Returns how many
-/// bytes of text were put into `out`.
+/// bytes of plaintext were put into `out`.
 fn open_there(reader: &mut Reader, chunk: u64, block: &[u8], out: &mut [u8]) -> usize
     requires { IsOpenAtCall reader.old chunk block.now out.old }
     ensures opens { OpensAt chunk block.now reader.old (answer_of reader.new.state)
@@ -28,8 +28,8 @@ fn open_there(reader: &mut Reader, chunk: u64, block: &[u8], out: &mut [u8]) -> 
 }
 
 /// Goes to a chunk by its number, below 2^48, and opens its block of 65,552 bytes, or what is left
-/// of it if the file ends after fewer. Its text is put into `out`, which has room for 65,536 bytes
-/// or more. A fault or an end that came before is forgotten.
+/// of it if the file ends after fewer. Its plaintext is put into `out`, which has room for 65,536
+/// bytes or more. A fault or an end that came before is forgotten.
 #[unsafe(no_mangle)]
 pub extern "C" fn age_c_open_at(
     reader: &mut Reader,

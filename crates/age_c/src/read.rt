@@ -8,8 +8,8 @@ use crate::numbers::answer_of;
 use crate::reader::Reader;
 use age_chunk::{BLOCK_LEN, CHUNK_LEN};
 
-/// Opens a whole block of 65,552 bytes, and puts its text into `out`, which has room for 65,536 or
-/// more. The answer is 0 or the number of a fault, 17 to 22, with which the reader refuses each
+/// Opens a full block of 65,552 bytes, and puts its plaintext into `out`, which has room for 65,536
+/// or more. The answer is 0 or the number of a fault, 17 to 22, with which the reader refuses each
 /// further call. A block after the last is refused with 21.
 #[unsafe(no_mangle)]
 pub extern "C" fn age_c_block(
@@ -34,8 +34,8 @@ pub extern "C" fn age_c_block(
 }
 
 /// The payload ended after `rest`, which is shorter than a block and may be empty: what is left of
-/// its text is put into `out`, which has room for 65,536 bytes or more. The text is whole only if
-/// the answer is 0.
+/// its plaintext is put into `out`, which has room for 65,536 bytes or more. The plaintext is
+/// complete only if the answer is 0.
 #[unsafe(no_mangle)]
 pub extern "C" fn age_c_end(
     reader: &mut Reader,

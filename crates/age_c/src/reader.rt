@@ -14,7 +14,7 @@ pub struct Reader {
     pub chunk: u64,
     /// The chunk of the fault that the payload was refused with, else 0.
     pub fault_chunk: u64,
-    /// 1 while blocks are to come, 2 after a whole block that is the last, 3 after the end, and the
+    /// 1 while blocks are to come, 2 after a full block that is the last, 3 after the end, and the
     /// fault's number, 17 to 22, after a refusal.
     pub state: u32,
     /// Not used: it fills the 64 bytes.

@@ -11,7 +11,7 @@ use age_chunk::CHUNK_LIMIT;
 use age_keys::{FileRandom, Passphrase, RANDOM_LEN};
 use std::alloc::Global;
 
-/// How much room a call asks for what stands before the payload, but for given stanzas.
+/// How much room a call needs for what comes before the payload, apart from given stanzas.
 pub(crate) const FRONT: usize = 256;
 
 /// The number of a file that would have more chunks than a payload.

@@ -15,7 +15,7 @@ use age_keys::{FileKey, mac_of, scrypt_not_alone};
 use age_stanza::{Header, one_header};
 use std::alloc::{AllocError, Global};
 
-/// The number of a fault: lines that no header has.
+/// The number of a fault: lines that no header can have.
 const BAD_STANZA_LINE: u32 = 3;
 
 /// The number of a fault: a scrypt stanza beside another stanza.
@@ -98,11 +98,11 @@ fn parts_of(random: &[u8; RANDOM_LEN]) -> ([u8; 16], [u8; 16])
     (key, nonce)
 }
 
-/// Begins a file whose file key the caller has wrapped. `stanzas` is the lines of its header between
-/// the first and the last, and `random` 32 new random bytes: the file key and the payload's nonce.
-/// The header and the nonce are put into `out`, which has room for 256 bytes more than `stanzas`
-/// has, or more. Lines that no header has are refused with 3, and a scrypt stanza beside another
-/// with 9.
+/// Begins a file whose file key the caller has wrapped. `stanzas` has the lines of its header
+/// between the first and the last, and `random` 32 new random bytes: the file key and the payload's
+/// nonce. The header and the nonce are put into `out`, which has room for 256 bytes more than
+/// `stanzas` has, or more. Lines that no header can have are refused with 3, and a scrypt stanza
+/// beside another with 9.
 #[unsafe(no_mangle)]
 pub extern "C" fn age_c_seal_key(
     alloc: Global,

@@ -15,7 +15,7 @@ use age_keys::{FileKey, FileRandom, KeyFault, PayloadKey, payload_key, scrypt_he
 use age_stanza::{Header, encode_head};
 use std::alloc::Global;
 
-/// A writer that was given no text.
+/// A writer that was given no plaintext.
 pub(crate) fn writer_of(file_key: &[u8; 16], nonce: &[u8; 16]) -> Writer
     ensures key { result.file_key ≡ file_key.now }
     ensures nonce { result.nonce ≡ nonce.now }
@@ -31,7 +31,7 @@ pub(crate) fn writer_of(file_key: &[u8; 16], nonce: &[u8; 16]) -> Writer
 }
 
 /// What stands before the payload: the header's text and the payload's nonce. It fails only if
-/// memory is refused.
+/// memory runs out.
 pub(crate) fn front_of(
     alloc: Global,
     header: &Header,
@@ -51,7 +51,7 @@ pub(crate) fn front_of(
     }
 }
 
-/// What stands before the payload of a file under a passphrase. It fails only if memory is refused.
+/// What stands before the payload of a file under a passphrase. It fails only if memory runs out.
 pub(crate) fn passphrase_front(
     alloc: Global,
     random: &FileRandom,
@@ -79,7 +79,7 @@ fn key_of(writer: &Writer) -> PayloadKey
     payload_key(&FileKey::new(writer.file_key), &writer.nonce)
 }
 
-/// Seals a text as one chunk into `out`, and returns the length of its block.
+/// Seals a plaintext as one chunk into `out`, and returns the length of its block.
 fn seal_chunk(writer: &Writer, last: bool, text: &[u8], out: &mut [u8]) -> usize
     requires text { length text.now ≤ chunk_length }
     requires room { length text.now + tag_length ≤ length out.old }
@@ -95,7 +95,7 @@ fn seal_chunk(writer: &Writer, last: bool, text: &[u8], out: &mut [u8]) -> usize
     len
 }
 
-/// Seals a whole chunk that isn't the last into `out`, and returns the length of its block.
+/// Seals a full chunk that isn't the last into `out`, and returns the length of its block.
 pub(crate) fn seal_next(writer: &mut Writer, chunk: &[u8], out: &mut [u8]) -> usize
     requires call { IsChunkCall writer.old chunk.now out.old }
     requires limit { writer.old.chunk + 1 < chunk_limit }

@@ -20,8 +20,8 @@ pub(crate) fn go_to(reader: &mut Reader, chunk: u64)
 }
 
 /// Goes to a chunk by its number, below 2^48: the next block is this chunk's. A fault or an end
-/// that came before is forgotten. Whether the text has such a chunk isn't known here: if it has
-/// none, the blocks that follow are refused.
+/// that came before is forgotten. Whether the plaintext has such a chunk isn't known here: if it
+/// has none, the blocks that follow are refused.
 #[unsafe(no_mangle)]
 pub extern "C" fn age_c_seek(reader: &mut Reader, chunk: u64) -> u32
     ensures goes { result ≡ 0 → GoesTo chunk reader.old reader.new }

@@ -1,4 +1,4 @@
-//! The function by which C learns how long a text is, before it is read.
+//! The function by which C learns how long a plaintext is, before it is read.
 
 ghost use Rattle.std.specs.Prelude.{◌≡◌, ◌-◌, ◌+◌};
 ghost use Rattle.age_stream.specs.{chunks_for};
@@ -15,14 +15,14 @@ const BLOCK: u64 = BLOCK_LEN as u64;
 
 const TAG: u64 = TAG_LEN as u64;
 
-/// The number of the last chunk of a text of this many bytes.
+/// The number of the last chunk of a plaintext of this many bytes.
 fn last_chunk_of(text_len: u64) -> u64
     ensures { result + 1 ≡ chunks_for text_len }
 {
     text_len.saturating_sub(1) / CHUNK
 }
 
-/// How a payload of this many bytes ends, if no text has one of that length.
+/// How a payload of this many bytes ends, if no plaintext has one of that length.
 fn ends_as(size: u64) -> StreamKind
     ensures { result ≡ ends_as size }
 {
@@ -36,9 +36,10 @@ fn ends_as(size: u64) -> StreamKind
     StreamKind::ChunkCut
 }
 
-/// The length in bytes of the text of a file that has this many bytes, and the number of its last
-/// chunk, if the file is whole. Nothing is opened. The payload begins where the reader says. The
-/// answer is 0, or the number of the fault with which a file of this length ends, 18 to 20.
+/// The length in bytes of the plaintext of a file that has this many bytes, and the number of its
+/// last chunk, if the file is complete. Nothing is opened. The payload begins where the reader
+/// says. The answer is 0, or the number of the fault with which a file of this length ends, 18 to
+/// 20.
 #[unsafe(no_mangle)]
 pub extern "C" fn age_c_size(
     reader: &Reader,

@@ -1,11 +1,11 @@
-//! Where a stanza of a header stands.
+//! Where a stanza of a header is.
 
-/// Where a stanza stands: its arguments in the bytes of the file, and its body in a buffer. Plain
+/// Where a stanza is: its arguments in the bytes of the file, and its body in a buffer. Plain
 /// numbers of bytes.
 #[repr(C)]
 #[derive(Clone, Copy)]
 pub struct StanzaPlace {
-    /// Where its type stands, which is its first argument.
+    /// Where its type is, which is its first argument.
     pub args_at: usize,
     /// How many bytes the arguments have, with one space between two of them.
     pub args_len: usize,

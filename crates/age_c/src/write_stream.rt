@@ -2,8 +2,8 @@
 
 use crate::writer::Writer;
 
-/// A writer that takes its text in pieces of any length: plain numbers and the bytes of one chunk.
-/// It holds the file key and text.
+/// A writer that takes its plaintext in pieces of any length: plain numbers and the bytes of one
+/// chunk. It holds the file key and plaintext.
 #[repr(C)]
 #[derive(Drop)]
 pub struct WriteStream {

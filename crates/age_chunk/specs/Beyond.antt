@@ -10,7 +10,7 @@ use Rattle.age_chunk.specs.Payload.{chunk_length, block_length}
 abbrev pub are_bytes : List ℕ → Bool
 are_bytes = list_all (λ (b : ℕ). nat_lt b 256)
 
--- what a box is ever given: a nonce of bytes, with the text of a chunk or with a block
+-- what a box is ever given: a nonce of bytes, with the plaintext of a chunk or with a block
 abbrev pub is_text : List ℕ → List ℕ → Bool
 is_text nonce text =
     are_bytes nonce && (are_bytes text && nat_le (length text) chunk_length)
@@ -36,7 +36,8 @@ pub record IsChunkBoxOnBytes (sealing : Seals) (opening : OpensBlock) : Type 0 w
 abbrev pub no_tag : List ℕ
 no_tag = replicate tag_length 256
 
--- a text of bytes at a nonce of bytes is sealed as before; to anything else `no_tag` is appended
+-- a plaintext of bytes at a nonce of bytes is sealed as before; to anything else `no_tag` is
+-- appended
 abbrev pub sealing_beyond : Seals → Seals
 sealing_beyond sealing nonce text =
     if is_text nonce text then sealing nonce text else text ++ no_tag

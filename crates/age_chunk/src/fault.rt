@@ -7,11 +7,11 @@ use std::alloc::AllocError;
 use std::{error, fmt};
 use thiserror::Error;
 
-/// Why a payload, or a text to be sealed, was refused. The value of each kind is its number in the
-/// list of all faults.
+/// Why a payload, or a plaintext to be sealed, was refused. The value of each kind is its number in
+/// the list of all faults.
 #[derive(Clone, Copy, Debug, PartialEq, Eq)]
 pub enum StreamKind {
-    /// A whole block, or the last one, opens neither as its chunk nor as the last.
+    /// A full block, or the last one, opens neither as its chunk nor as the last.
     ChunkDamaged = 17,
     /// The input ended with 1 to 15 bytes of a block, fewer than a tag.
     ChunkCut = 18,
@@ -21,12 +21,12 @@ pub enum StreamKind {
     Truncated = 20,
     /// Bytes came after the last chunk.
     Trailing = 21,
-    /// A further chunk would have the number [`CHUNK_LIMIT`](crate::CHUNK_LIMIT), which is 2^48.
+    /// One more chunk would have the number [`CHUNK_LIMIT`](crate::CHUNK_LIMIT), which is 2^48.
     TooManyChunks = 22,
 }
 
 impl StreamKind {
-    /// What is said of it.
+    /// What people read about it.
     fn text(&self) -> &'static str {
         match self {
             StreamKind::ChunkDamaged => "chunk damaged",
@@ -82,20 +82,20 @@ impl StreamFault {
     }
 }
 
-/// A growth of memory was refused.
+/// Out of memory.
 #[derive(Clone, Copy, Debug, PartialEq, Eq, Error)]
 #[error("out of memory")]
 pub struct Memory;
 
 impl Memory {
-    /// 28, the number of running out of memory in the list of all faults.
+    /// 28, the number of this fault in the list of all faults.
     pub fn number(&self) -> u8
         ensures { result ≡ 28 }
     {
         28
     }
 
-    /// The chunk of the fault: running out of memory has none.
+    /// The chunk of the fault, which running out of memory doesn't have.
     pub fn place(&self) -> Option<u64>
         ensures { result ≡ None }
     {

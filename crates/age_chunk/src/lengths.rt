@@ -1,12 +1,12 @@
 //! How long a chunk is, how many a payload has, and the nonce before them.
 
-/// How many bytes of text a whole chunk has: 64 KiB.
+/// How many bytes of plaintext a full chunk has: 64 KiB.
 pub const CHUNK_LEN: usize = 65_536;
 
-/// How many bytes longer a block is than its text: the length of a Poly1305 tag.
+/// How many bytes longer a block is than its plaintext: the length of a Poly1305 tag.
 pub const TAG_LEN: usize = 16;
 
-/// How many bytes the block of a whole chunk has.
+/// How many bytes the block of a full chunk has.
 pub const BLOCK_LEN: usize = CHUNK_LEN + TAG_LEN;
 
 /// How many chunks a payload has at most, 2^48.

@@ -1,4 +1,5 @@
--- What the AEAD of ChaCha20 and Poly1305 seals a text to (RFC 8439, 2.8), and opens a block to.
+-- What the AEAD of ChaCha20 and Poly1305 seals a plaintext to (RFC 8439, 2.8), and opens a block
+-- to.
 use Rattle.std.specs.Prelude.{◌≡◌, ◌↔◌, ℕ, ◌-◌, ◌%◌, List, [], ◌∷◌, ◌++◌, length, replicate, take}
 use Rattle.std.specs.Prelude.{Option, Some, None, if◌then◌else◌}
 use Rattle.std.specs.List.{concat}
@@ -7,7 +8,7 @@ use Rattle.std.specs.Str.{bytes_eq}
 use Rattle.age_cipher.specs.Keystream.{ciphertext}
 use Rattle.age_cipher.specs.Poly1305.{poly1305}
 
--- ---- The sealing of a text.
+-- ---- The sealing of a plaintext.
 
 -- the one-time key of Poly1305: the first 32 bytes of block 0 (RFC 8439, 2.6)
 unfoldable pub one_time_key : List ℕ → List ℕ → List ℕ
@@ -27,30 +28,30 @@ mac_data aad cipher = concat (
 unfoldable pub tag : List ℕ → List ℕ → List ℕ → List ℕ → List ℕ
 tag key nonce aad cipher = poly1305 (one_time_key key nonce) (mac_data aad cipher)
 
--- the greatest length of a block, a text with its tag (a limit of this library: no block of an age
--- file is longer; RFC 8439 allows far more)
+-- the greatest length of a block, a plaintext with its tag (a limit of this library: no block of an
+-- age file is longer; RFC 8439 allows far more)
 abbrev pub block_limit : ℕ
 block_limit = 65552
 
--- the sealing of a text: the ciphertext, from block 1 on, and its tag
+-- the sealing of a plaintext: the ciphertext, from block 1 on, and its tag
 unfoldable pub sealing : List ℕ → List ℕ → List ℕ → List ℕ → List ℕ
 sealing key nonce aad text =
     let cipher = ciphertext key nonce 1 text in
     cipher ++ tag key nonce aad cipher
 
--- some text seals to this block
+-- some plaintext seals to this block
 abbrev pub IsSealing : List ℕ → List ℕ → List ℕ → List ℕ → Type 0
 IsSealing key nonce aad block = (text : List ℕ) × (block ≡ sealing key nonce aad text)
 
--- different texts seal to different blocks: a block is the sealing of one text at most
+-- different plaintexts seal to different blocks: a block is the sealing of at most one plaintext
 abbrev pub DistinctSealings : Type 0
 DistinctSealings =
     (key nonce aad text other : List ℕ)
     → sealing key nonce aad text ≡ sealing key nonce aad other → text ≡ other
 
 -- ---- What a block opens to, computed. The definition of opening is the sealing alone: a block
--- opens to a text if it is that text's sealing. The law `OpensSealings` says that this computes it.
--- It is for crates above, whose boxes may use it.
+-- opens to a plaintext if it is that plaintext's sealing. The law `OpensSealings` says that this
+-- computes it. It is for crates above, whose boxes may use it.
 
 -- all but the last 16 bytes is deciphered and sealed again, and the block compared with that
 unfoldable pub opening : List ℕ → List ℕ → List ℕ → List ℕ → Option (List ℕ)
@@ -58,7 +59,7 @@ opening key nonce aad block =
     let text = ciphertext key nonce 1 (take (length block - 16) block) in
     if bytes_eq (sealing key nonce aad text) block then Some text else None
 
--- a block opens to a text exactly if it is that text's sealing
+-- a block opens to a plaintext exactly if it is that plaintext's sealing
 abbrev pub OpensSealings : Type 0
 OpensSealings = (key nonce aad block text : List ℕ)
     → (opening key nonce aad block ≡ Some text) ↔ (block ≡ sealing key nonce aad text)

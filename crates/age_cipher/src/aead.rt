@@ -8,7 +8,7 @@ ghost use Rattle.age_cipher.specs.{poly1305, block_limit, one_time_key, padding,
 use crate::authenticator::poly1305;
 use crate::keystream::xor_stream;
 
-/// The first 32 bytes of block 0 are the one-time key; the text is enciphered from block 1 on.
+/// The first 32 bytes of block 0 are the one-time key; the plaintext is encrypted from block 1 on.
 const KEY_BLOCK: u32 = 0;
 
 const TEXT_BLOCK: u32 = 1;
@@ -60,7 +60,7 @@ fn tag_of_parts<'a>(
     )
 }
 
-/// The tag over the associated data and the ciphertext.
+/// The tag of the associated data and the ciphertext.
 #[tactic(auto, using(crate::proofs::tag_is))]
 fn tag(key: &[u8; 32], nonce: &[u8; 12], aad: &[u8], cipher: &[u8]) -> [u8; 16]
     ensures { result ≡ tag key.now nonce.now aad.now cipher.now }
@@ -79,8 +79,9 @@ fn tag(key: &[u8; 32], nonce: &[u8; 12], aad: &[u8], cipher: &[u8]) -> [u8; 16]
     )
 }
 
-/// Seals a text in place (RFC 8439, 2.8). `block` must have 16 to 65,552 bytes: the text and 16
-/// more. The text becomes the ciphertext and the last 16 bytes the tag, whatever they were.
+/// Seals a plaintext in place (RFC 8439, 2.8). `block` must have 16 to 65,552 bytes: the plaintext
+/// and 16 more. The plaintext becomes the ciphertext and the last 16 bytes the tag, whatever they
+/// were.
 #[tactic(auto, unfolding(crate::specs::Aead::sealing))]
 pub fn seal_in_place(key: &[u8; 32], nonce: &[u8; 12], aad: &[u8], block: &mut [u8])
     requires { (16 ≤ length block.old) × (length block.old ≤ block_limit) }
@@ -106,10 +107,10 @@ fn is_tag(tag: &[u8; 16], bytes: &[u8]) -> bool
 }
 
 /// Opens a block in place (RFC 8439, 2.8). `block` must have 16 to 65,552 bytes. The result is true
-/// if and only if the block is the sealing of some text. That text then stands before the tag,
-/// whose 16 bytes stay. If the result is false, the whole block is as it was.
+/// if and only if the block is the sealing of some plaintext. That plaintext then stands before the
+/// tag, whose 16 bytes are unchanged. If the result is false, the block is unchanged.
 ///
-/// It doesn't commit to a key: whoever knows two keys can make a block that opens under both.
+/// It doesn't commit to a key: anyone who knows two keys can make a block that opens under both.
 pub fn open_in_place(key: &[u8; 32], nonce: &[u8; 12], aad: &[u8], block: &mut [u8]) -> bool
     requires { (16 ≤ length block.old) × (length block.old ≤ block_limit) }
     ensures exact { IsTrue result ↔ IsSealing key.now nonce.now aad.now block.old }

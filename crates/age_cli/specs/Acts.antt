@@ -166,8 +166,8 @@ paths_of other = None
 abbrev pub OpensOf : (Came : Outcome → Type 0) → Decrypting → Identity → Type 0
 OpensOf Came d identity = MakesBy (HasGivenAll Came) d.identity identity
 
--- how a command ends before its output is written: 26 and 27 have a reason, and so has 24, of `resume`;
--- memory is refused, or the command line is
+-- how a command ends before its output is written: 26 and 27 have a reason, and so has 24, of
+-- `resume`; memory runs out, or the command line is refused
 abbrev pub EndsBefore : (Came : Outcome → Type 0) → Ending → Request → Type 0
 EndsBefore Came (Fault Read) asked = IsUnreadable Came
 EndsBefore Came (Fault Write) asked = (name : Text) × Came (Unwritten name)
@@ -232,8 +232,8 @@ pub record ShowsProgress (Came : Outcome → Type 0) (old new : Option (List Sho
 
 -- ---- What becomes of the position to save, by how its save went.
 
--- It was put to the file of this name, at once if that was a new one beside it, and stands there then; or
--- memory was refused, or the set of files said that the file couldn't be written.
+-- It was put to the file of this name, at once if that was a new one beside it, and stands there
+-- then; or memory ran out, or the set of files said that the file couldn't be written.
 pub record IsStored (Came : Outcome → Type 0) (durability : Durability) (name : Text) (p : Position)
     (save : Result (Unit {0}) FileFault) (puts : List Entry) (saved : SavedFile) : Type 0 where
   pub put : Saves (position_text p) durability save saved
@@ -250,9 +250,9 @@ IsDue Came (Some p) (Some name) due = ((due ≡ Some p) × (p.index ≡ 0 → Ca
     ⊎ ((due ≡ None) × (p.index ≡ 0) × Came (Present name))
 IsDue Came position name due = due ≡ position
 
--- If there is a position, and a name for its file, it was put there, and so much of OUT is certain; or the
--- save failed before: memory was refused, or the position stands beyond what is certain. Otherwise nothing
--- was done.
+-- If there is a position, and a name for its file, it was put there, and so much of OUT is certain;
+-- or the save failed before: memory ran out, or the position is beyond what is certain. Otherwise
+-- nothing was done.
 abbrev pub IsSaved : (Came : Outcome → Type 0) → Durability → (settled : ℕ) → Option Position → Option Text
     → (save : Result (Unit {0}) FileFault) → (puts : List Entry) → SavedFile → (Untried : Type 0) → Type 0
 IsSaved Came durability settled (Some p) (Some name) save puts saved Untried =
@@ -416,9 +416,9 @@ pub record HasNotBegun (asked : Request) (ending : Ending) (before after : Files
   pub none : PutsOnly [] before after
   pub order : Follows (order_asked asked).done before.events after.events
 
--- What stands before and after a command: `IsPorts` says which are the ports of its files, `Unshown` that
--- the progress is as it was, and `Progress` what was shown of it, by the name of IN and by how the
--- command ended.
+-- What stands before and after a command: `IsPorts` says which are the ports of its files,
+-- `Unshown` that the progress is unchanged, and `Progress` what was shown of it, by the name of IN
+-- and by how the command ended.
 module _ (IsPorts : Ports → Type 0) (asked : Request) (before after : FilesView) (Unshown : Type 0)
     (Progress : Text → Result (Unit {0}) Ending → Type 0) (ended : Result (Unit {0}) Ending) where
   abbrev OfIts : (Engine → Paths → Type 0) → Type 0
@@ -439,7 +439,7 @@ module _ (IsPorts : Ports → Type 0) (asked : Request) (before after : FilesVie
         × Follows (order_asked asked).judged before.events after.events))
     -- What is opened and made is a beginning of the command's order.
     pub order : Follows (order_asked asked).whole before.events after.events
-    -- If all is done, it is all of it but what a stop adds.
+    -- If all is done, it is all of it except what a stop adds.
     pub order_done : OnOk ended (after.events ≡ before.events ++ (order_asked asked).done)
     -- Names that have to differ are refused before a file is opened.
     pub apart : NamesTwice (order_asked asked).apart

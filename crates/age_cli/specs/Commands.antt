@@ -60,7 +60,7 @@ pub record MakesSecret (GaveAll Gave : Text → List ℕ → Type 0) (asked : En
 abbrev pub HoldsNoPosition : List ℕ → Type 0
 HoldsNoPosition held = (256 < length held) ⊎ NoPosition held
 
--- the earlier output is found; at chunk 0 nothing of it is needed, and one that isn't there counts as
+-- the earlier output is found; at chunk 0 nothing of it is needed, and a missing one counts as
 -- empty
 abbrev pub old_found : Position → Text → Option (List ℕ) → Option ℕ → Outcome
 old_found position name left size =
@@ -109,7 +109,7 @@ FailsFile old new name fault = ((fault ≡ Read)
     ⊎ ((first : SourceView) × (last : SourceView)
     × WasRead (CameSince old new) (Found name) name first last × HeadFails NoHeadFault first last fault)
 
--- how a report fails: its output couldn't be written; memory was refused; or as reading its input does
+-- how a report fails: its output couldn't be written; memory ran out; or as reading its input does
 abbrev pub FailsReport : (Fails : FileFault → Type 0) → (old new : SinkView) → Ending → Type 0
 FailsReport Fails old new (Fault Write) = HasRisen old.failed new.failed
 FailsReport Fails old new (Fault Memory) = Unit {0}

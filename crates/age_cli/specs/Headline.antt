@@ -73,7 +73,8 @@ IsWritersInput Begins d old text =
     → IsRead identity (old d.paths.from.now) r
     → (chunk_count chunk_length text ≤ chunk_limit) × IsTexts text r
 
--- whatever the status, OUT is as it was or holds a beginning of the text; with status 0, all of it
+-- whatever the status, OUT is unchanged or holds a prefix of the plaintext; with status 0, all of
+-- it
 pub record KeepsOut (old new : Option (List ℕ)) (status : ℕ) (text : List ℕ) : Type 0 where
   pub safe : (new ≡ old) ⊎ ((held : List ℕ) × (new ≡ Some held) × IsPrefixOf held text)
   pub whole : status ≡ 0 → new ≡ Some text
@@ -85,7 +86,8 @@ pub record BeginsAt (p : Position) (r : Run) : Type 0 where
   pub index : r.first ≡ p.index
   pub own : BelongsTo p r.file
 
--- the old text begins with the chunks of this text before the position. A chunk has 65,536 bytes.
+-- the earlier output begins with the chunks of this text before the position. A chunk has 65,536
+-- bytes.
 abbrev pub IsWritersOld : Option (List ℕ) → Position → List ℕ → Type 0
 IsWritersOld held p text = (all : List ℕ) → held ≡ Some all
     → (p.index * chunk_length ≤ length text) × IsPrefixOf (take (p.index * chunk_length) text) all
@@ -99,16 +101,16 @@ pub record IsWritersResumption (asked : Resuming) (old : Files) (text : List ℕ
 
 -- ---- A run.
 
--- Whatever the status, OUT is as it was or holds a beginning of the plaintext, while no block of IN
+-- Whatever the status, OUT is unchanged or holds a prefix of the plaintext, while no block of IN
 -- opens except as its writer sealed it; and 0 means all of the plaintext.
 abbrev pub DecryptKeepsOut : List Text → (old new : Files) → ℕ → Type 0
 DecryptKeepsOut words old new status =
     (d : Decrypting) (text : List ℕ) → Requests words (Decrypt d) → IsWritersInput IsFromStart d old text
     → KeepsOut (old d.paths.to.now) (new d.paths.to.now) status text
 
--- Whatever the status, `resume` leaves OUT as it was or with a beginning of the plaintext, while no
--- block of IN opens except as its writer sealed it and the old text begins with the chunks of the
--- plaintext before the position; and 0 means all of the plaintext.
+-- Whatever the status, `resume` leaves OUT unchanged or with a prefix of the plaintext, while no
+-- block of IN opens except as its writer sealed it and the earlier output begins with the chunks of
+-- the plaintext before the position; and 0 means all of the plaintext.
 abbrev pub ResumeKeepsOut : List Text → (old new : Files) → ℕ → Type 0
 ResumeKeepsOut words old new status =
     (r : Resuming) (text : List ℕ) → Requests words (Resume r) → IsWritersResumption r old text
@@ -134,8 +136,8 @@ DecryptLeavesOut words old new status = (d : Decrypting) → Requests words (Dec
     → (identity : Identity) × OpensBy old d.identity identity
     × (text : List ℕ) × IsFileIn identity (old d.paths.from.now) text × (new d.paths.to.now ≡ Some text)
 
--- an earlier output begins with a text's chunks before a position, whose chain it carries; one that isn't
--- there counts as empty
+-- an earlier output begins with a text's chunks before a position, whose chain it carries; a
+-- missing one counts as empty
 abbrev pub IsEarlierOf : Position → Option (List ℕ) → List ℕ → Type 0
 IsEarlierOf p earlier text = CarriesText text p
     × IsSomeAnd (or_empty earlier) (λ all. IsPrefixOf (take (p.index * chunk_length) text) all)
@@ -293,7 +295,8 @@ module _ (IsPorts : Ports → Type 0) (Progress : Type 0) where
       × Acts IsPorts asked before after (progress.1 ≡ progress.0)
       (ShowsProgress (CameSince before after) shown.0 shown.1) ended
 
-  -- After a fault that comes before the text OUT is as it was, or the empty file that was made.
+  -- After a fault that comes before any plaintext, OUT is unchanged, or the empty file that was
+  -- made.
   abbrev pub EarlyFaultsSpareOut : Type 0
   EarlyFaultsSpareOut = (asked : Request) (before after : FilesView) (ending : Ending) (fault : FileFault)
       → IsForText asked → Obeyed asked before after (Err ending)

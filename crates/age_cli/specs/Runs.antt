@@ -32,7 +32,7 @@ pub record World : Type 0 where
   pub input : SourceView
   pub output : SinkView
 
--- words are refused, or no request could be read of them; or memory was refused meanwhile
+-- words are refused, or no request could be read of them; or memory ran out meanwhile
 abbrev pub IsRefusal : Ending → Type 0
 IsRefusal (Words text) = Unit {0}
 IsRefusal ending = (ending ≡ Usage why.Unread) ⊎ (ending ≡ Fault Memory)
@@ -45,9 +45,9 @@ FailsWriting old new ending = (ending ≡ Fault Write) × HasRisen old.failed ne
 abbrev pub Prints : (old new : SinkView) → Type 0
 Prints old new = (text : List ℕ) × Appends old.taken new.taken text × (new.flushed ≡ true)
 
--- `IsPorts` says which are the ports of the files. `Unread`, `Unprinted` and `Unshown` say that the input,
--- the output and the progress are as they were, and `Progress` what was shown of the progress, by the
--- name of IN and by how the run ended.
+-- `IsPorts` says which are the ports of the files. `Unread`, `Unprinted` and `Unshown` say that the
+-- input, the output and the progress are unchanged, and `Progress` what was shown of the progress,
+-- by the name of IN and by how the run ended.
 module _ (words : List Text) (IsPorts : Ports → Type 0) (before after : World)
     (Unread Unprinted Unshown : Type 0)
     (Progress : Text → Result (Unit {0}) Ending → Type 0) (ended : Result (Unit {0}) Ending) where
@@ -98,7 +98,7 @@ module _ (words : List Text) (IsPorts : Ports → Type 0) (before after : World)
     -- The input wasn't read, and no progress was shown.
     pub unread : Unread
     pub silent : Unshown
-    -- There are words; and they make no request, or memory was refused.
+    -- There are words; and they make no request, or memory ran out.
     pub some : words ≡ [] → ⊥
     pub unasked : (asked : Request) → Requests words asked
         → IsErrAnd ended (λ e. e ≡ Fault Memory)
@@ -110,8 +110,8 @@ module _ (words : List Text) (IsPorts : Ports → Type 0) (before after : World)
 -- ---- What a run did.
 
 -- What stands before and after a run with this status, of its words, and what was put to `faults`.
--- `Quiet`, `Unread`, `Unprinted` and `Unshown` say that `faults`, the input, the output and the progress
--- are as they were, and `Progress` what was shown of the progress.
+-- `Quiet`, `Unread`, `Unprinted` and `Unshown` say that `faults`, the input, the output and the
+-- progress are unchanged, and `Progress` what was shown of the progress.
 pub record Runs (words : List Text) (IsPorts : Ports → Type 0) (before after : World)
     (faults_old faults_new : SinkView) (Quiet Unread Unprinted Unshown : Type 0)
     (Progress : Text → Result (Unit {0}) Ending → Type 0) (status : ℕ) : Type 0 where

@@ -113,7 +113,7 @@ abbrev pub LacksOne : Option Text → Option Position → Type 0
 LacksOne (Some name) (Some p) = ⊥
 LacksOne save position = Unit {0}
 
--- why a position isn't even put to its file: memory was refused, or it stands beyond what OUT holds for
+-- why a position isn't even put to its file: memory ran out, or it stands beyond what OUT holds for
 -- certain
 abbrev pub IsUnsavable : (settled : ℕ) → Position → (second : FileFault) → Type 0
 IsUnsavable settled p second =
@@ -139,8 +139,8 @@ pub record SavesStop (save : Option Text) (durability : Durability) (sink : Sink
   pub saved : IsSaved (CameSince old new) durability place.settled due save how rest new.saved
       (new.events ≡ old.events ++ Close durability ∷ [])
 
--- OUT was ended once its engine returned so: whole; or it couldn't be, as the set of files said; or it was
--- left as the engine's stop leaves it
+-- OUT was ended once its engine returned so: complete; or it couldn't be, as the set of files said;
+-- or it was left as the engine's stop leaves it
 abbrev pub EndsOut : Durability → SinkView → (engine : Result (Unit {0}) FileFault) → (old new : FilesView)
     → Result (Unit {0}) FileFault → Type 0
 EndsOut durability sink (Ok done) old new (Ok all) = ClosesOut durability sink old new
@@ -150,7 +150,7 @@ EndsOut durability sink (Ok done) old new (Err fault) = (fault ≡ Write)
 EndsOut durability sink (Err stop) old new result =
     IsErrAnd result (λ fault. fault ≡ stop) × LeavesOut durability sink (IsLeft durability sink) old new
 
--- and then the position was saved, or not, if it wasn't ended whole
+-- and then the position was saved, or not, if it isn't complete
 abbrev pub Concludes : Option Text → Durability → SinkView → (engine : Result (Unit {0}) FileFault) → Reached
     → (old new : FilesView) → Result (Unit {0}) Ending → Type 0
 Concludes save durability sink (Ok done) place old new (Ok all) = ClosesOut durability sink old new
@@ -246,7 +246,7 @@ pub record Compares (old new : FilesView) (answer : Bool) (IsPair : Text → Tex
 
 -- ---- How a command ends before its output is written.
 
--- why: a file couldn't be read or written, memory was refused, a position is bad, or the command line
+-- why: a file couldn't be read or written, memory ran out, a position is bad, or the command line
 -- is to blame
 abbrev pub IsCause : (Came : Outcome → Type 0) → (Bad : Type 0) → (Blame : Ending → Type 0) → Ending → Type 0
 IsCause Came Bad Blame (Fault Read) = IsUnreadable Came
@@ -268,8 +268,8 @@ IsUnopened age_file Came = EndsBy Came ⊥ (IsUnusable Came age_file)
 abbrev pub IsUnplaced : Text → (Outcome → Type 0) → Ending → Type 0
 IsUnplaced name Came = EndsBy Came (HoldsOnly Came name HoldsNoPosition) (IsUnusable Came None)
 
--- It ended with the files as they were. A beginning of `events` was done, by which nothing was put and no
--- output touched; none of it, if names are equal that have to differ.
+-- It ended with the files unchanged. A beginning of `events` was done, by which nothing was put and
+-- no output touched; none of it, if names are equal that have to differ.
 pub record FailsEarly (events : List Event) (IsTwice : Type 0) (Why : (Outcome → Type 0) → Ending → Type 0)
     (old new : FilesView) (ending : Ending) : Type 0 where
   pub none : PutsOnly [] old new
@@ -299,7 +299,7 @@ IsNewBy read wrote began size Came p source out = AreNew (ports (read source) (w
     × Came (Found p.from.now (read source).supply.left (size source))
     × (p.clobber ≡ Refused → Came (Absent p.to.now))
 
--- a file is found, or one that isn't there counts as empty
+-- a file is found, or a missing one counts as empty
 abbrev pub found_by : Bool → Text → Option (List ℕ) → Option ℕ → Outcome
 found_by or_empty name left size = if or_empty then FoundOrEmpty name left size else Found name left size
 

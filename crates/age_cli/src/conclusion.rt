@@ -1,4 +1,4 @@
-//! How a decryption ends, and where it can go on.
+//! How a decryption ends, and where it can continue.
 
 ghost use Rattle.std.specs.Prelude.{◌≡◌, ◌⊎◌, ◌≤◌, ◌<◌, [], Some, IfSome, option_map};
 ghost use Rattle.age_io.specs.{Named};
@@ -37,7 +37,7 @@ pub(crate) struct Decrypted<'w, S: Source, O: Sink> {
     pub(crate) out: O,
 }
 
-/// The position that a decryption goes on from, if it does.
+/// The position that a decryption continues from, if any.
 pub(crate) fn start_of<S: Source>(earlier: &Option<OldText<'_, S>>) -> Option<Position>
     ensures { result ≡ start_of (option_map earlier_of earlier.now) }
 {
@@ -74,9 +74,9 @@ fn own_position(end: &Result<Done, Stopped>) -> Option<Position>
     }
 }
 
-/// Where a decryption that ended so can go on, of whose output so many bytes are certain: by its marks
-/// at the last position within these, but not before where the run started, since that would take the
-/// place of a better one; or at its own, if it has no marks.
+/// Where a decryption that ended so can continue, if so many bytes of its output are certain: by
+/// its marks at the last position within these, but not before where the run started, since that
+/// would replace a better one; or at its own, if it has no marks.
 pub(crate) fn place_of(
     end: &Result<Done, Stopped>,
     marks: &Option<Marks>,

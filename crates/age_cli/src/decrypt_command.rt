@@ -28,8 +28,8 @@ use age_opening::{Done, Marks, Stopped, decrypt_marked, resume_marked};
 use age_position::{Position, PositionPolicy};
 use std::alloc::Global;
 
-/// What opens the input, by the options and the file that they name. Before it reads that, refuses
-/// two names that must differ and are one file, and two names of what is read that stand for one
+/// What opens the input, by the options and the file that they name. Before it reads that file, it
+/// refuses two names that must differ and are one file, and two names of inputs that stand for one
 /// stream.
 pub(crate) fn identify<'w, F: FileSet<'w>>(
     alloc: Global,
@@ -51,7 +51,7 @@ pub(crate) fn identify<'w, F: FileSet<'w>>(
     Ok(choice.identity(secret)?)
 }
 
-/// Where a decryption goes on: at a position, after the earlier output of this name.
+/// Where a decryption continues: at a position, after the earlier output of this name.
 #[derive(Drop)]
 pub(crate) struct OldText<'w, S: Source> {
     pub(crate) position: Position,
@@ -59,7 +59,7 @@ pub(crate) struct OldText<'w, S: Source> {
     pub(crate) source: S,
 }
 
-/// What a decryption is made with: what opens the input, where it goes on, and the files.
+/// What a decryption is made with: what opens the input, where it continues, and the files.
 #[derive(Drop)]
 pub(crate) struct Ready<'w, S: Source, O: Sink> {
     pub(crate) identity: Identity,

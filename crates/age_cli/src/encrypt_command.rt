@@ -105,8 +105,8 @@ fn random_name<'a>(asked: &Encrypting<'a>) -> &'a str
     }
 }
 
-/// What the secret is made of, from the files of the passphrase and of random bytes. These aren't
-/// read if the output is one of the files that are, or a stream would be read twice.
+/// What the secret is made of, from the files of the passphrase and of random bytes. They aren't
+/// read if the output is one of the files that are read, or if a stream would be read twice.
 fn read_material<'w, F: FileSet<'w>>(
     alloc: Global,
     files: &mut F,
@@ -128,7 +128,7 @@ fn read_material<'w, F: FileSet<'w>>(
     Ok(Material { pass, random })
 }
 
-/// What the age file begins with. The passphrase, which is never too long, is overwritten then.
+/// What the age file begins with. Then the passphrase, which is never too long, is overwritten.
 fn front_of(alloc: Global, material: Material) -> Result<Front, FileFault>
     ensures front { IfOk result (IsFrontOf (secret_of material)) }
     ensures memory { IfErr result (λ fault. fault ≡ Memory) }
@@ -147,9 +147,9 @@ fn front_of(alloc: Global, material: Material) -> Result<Front, FileFault>
     }
 }
 
-/// Opens the input, derives the key, and opens the output only then: a run that is killed meanwhile
-/// leaves no empty file, and one for which memory is refused has made none. An output that has to
-/// be new is refused before that.
+/// Opens the input, derives the key, and only then opens the output: a run that is killed meanwhile
+/// leaves no empty file, and one that runs out of memory hasn't made one. An output that must be
+/// new is refused before that.
 fn open_sealing<'w, F: FileSet<'w>>(
     alloc: Global,
     files: &mut F,

@@ -20,8 +20,8 @@ use age_inspection::{Report, inspect, inspect_sized};
 use age_io::{Sink, Source};
 use std::alloc::Global;
 
-/// Reports what an input of this length holds. If its length isn't known, it is read to its end; and so
-/// if it is 0, since a file of no length may give bytes, as in /proc.
+/// Reports what an input of this length holds. If its length isn't known, it is read to its end;
+/// likewise if it is 0, since a file of no length may give bytes, as in /proc.
 fn inspect_as<I: Source>(
     alloc: Global,
     length: Option<u64>,

@@ -1,4 +1,4 @@
-//! How a command that writes a text stops, and where its position goes then.
+//! How a command that writes OUT stops, and where its position goes then.
 
 ghost use Rattle.std.specs.Prelude.{◌≡◌, ◌⊎◌, ◌++◌, ◌≤◌, ◌*◌, [], true, None, OnOk, IfErr};
 ghost use Rattle.std.specs.Prelude.{IsSomeAnd, is_some};
@@ -21,17 +21,17 @@ use age_position::Position;
 use age_sealing::Written;
 use std::alloc::Global;
 
-/// How far a command came that comes to no end.
+/// How far a command that stopped had come.
 #[derive(Clone, Copy)]
 pub(crate) struct Reached {
     /// The position to save.
     pub(crate) position: Option<Position>,
-    /// How many bytes OUT holds for certain, if a position is to be saved.
+    /// How many bytes OUT certainly holds, if a position is to be saved.
     pub(crate) settled: u64,
 }
 
 impl Reached {
-    /// Nowhere: an encryption has no position.
+    /// Nowhere, since an encryption has no position.
     pub(crate) fn nowhere() -> Reached
         ensures { result ≡ record { position = None; settled = 0 } }
     {
@@ -52,8 +52,8 @@ pub(crate) fn sealing_end(sealed: Result<Written, FileFault>) -> Result<(), File
     }
 }
 
-/// The position to put to the file of this name: that of a stop. But one at chunk 0 says nothing that
-/// `decrypt` doesn't do, so it takes the place of nothing.
+/// The position to write to the file of this name: that of a stop. But one at chunk 0 says nothing
+/// that `decrypt` doesn't do, so it replaces nothing.
 fn due_position<'w, F: FileSet<'w>>(
     files: &mut F,
     name: Option<&'w str>,
@@ -72,8 +72,8 @@ fn due_position<'w, F: FileSet<'w>>(
     if files.is_absent(to) { position } else { None }
 }
 
-/// Saves a position, if there is one and a file for it. It isn't saved (27) if it stands beyond what
-/// OUT holds for certain: `settled` bytes.
+/// Saves a position, if there is one and a file for it. It isn't saved (27) if it is beyond what
+/// OUT certainly holds: `settled` bytes.
 pub(crate) fn save<'w, F: FileSet<'w>>(
     alloc: Global,
     files: &mut F,

@@ -3,13 +3,13 @@
 //! `run` takes the arguments after the program's name, a set of files, the input, the output, a
 //! sink for faults, a meter for progress and what makes the text of a refusal, and returns the
 //! status: 0 on success, 1 on a fault, 2 on a bad command line. It is generic over all of them, so
-//! that its contract speaks of every input and every set of files; the program hands in the
+//! that its contract covers every input and every set of files; the program passes in the
 //! machine's. What `drill` does is in `age_drill`; the other commands are here.
 //!
 //! `encrypt_file`, `decrypt_file` and `resume_file` do what one command asks for, once its words
 //! are read. Each finds what opens or seals the input, opens the files in a fixed order, runs the
 //! engine of `age_file`, and leaves the output, and the position if it is to be saved, as its
-//! contract says, whether it succeeds or stops. An `Ending` says why it did not succeed.
+//! contract says, whether it succeeds or stops. An `Ending` says why it didn't succeed.
 #![tactic(auto)]
 
 mod conclusion;

@@ -25,19 +25,19 @@ use std::alloc::Global;
 /// What an output holds.
 #[derive(Clone, Copy)]
 pub(crate) enum Content {
-    /// The text that was encrypted, which may go to a terminal.
+    /// The decrypted plaintext, which may go to a terminal.
     Plaintext,
     /// An age file, whose bytes a terminal can't show.
     AgeFile,
 }
 
-/// What a command that writes is to read and to write. Which of its names have to differ is said by
-/// the order of it.
+/// What a command that writes is to read and to write. The order of the command says which of its
+/// names must differ.
 #[derive(Clone, Copy)]
 pub(crate) struct Writing<'a> {
-    /// The first file by which the arguments are judged: of the passphrase.
+    /// The first file by which the arguments are judged: that of the passphrase.
     pub(crate) first: Option<&'a str>,
-    /// The second: of the shared secret, or of the random bytes.
+    /// The second: that of the shared secret, or of the random bytes.
     pub(crate) second: Option<&'a str>,
     /// The file of the position at which it begins, which may be the file of `save`.
     pub(crate) position: Option<&'a str>,
@@ -82,8 +82,8 @@ fn is_one_of<'w, F: FileSet<'w>>(
     false
 }
 
-/// Whether two names that have to differ stand for one file: the output's and one of what is read;
-/// that of `save`, and the output's or one of what is read but the position; or the earlier output's
+/// Whether two names that must differ stand for one file: the output's and an input's; that of
+/// `save`, and the output's or that of an input other than the position; or the earlier output's
 /// and the input's.
 pub(crate) fn names_twice<'w, F: FileSet<'w>>(files: &mut F, asked: &Writing<'w>) -> bool
     ensures { Compares (F.view files.old) (F.view files.new) result
@@ -107,7 +107,7 @@ pub(crate) fn names_twice<'w, F: FileSet<'w>>(files: &mut F, asked: &Writing<'w>
     is_one_of(files, old, &[from])
 }
 
-/// Whether an output is a terminal, which can't show what it is to hold.
+/// Whether an output is a terminal that can't show what it is to hold.
 fn is_unshown<'w, F: FileSet<'w>>(files: &mut F, out: &F::Out, content: Content) -> bool
     ensures does { Does [] (F.view files.old) (F.view files.new) }
     ensures terminal { result ≡ true → (content ≡ AgeFile)
@@ -135,8 +135,8 @@ fn refusal_of<'w, F: FileSet<'w>>(files: &mut F, out: &F::Out, content: Content)
     None
 }
 
-/// Refuses names that have to differ and stand for one file, and two names of what is read that
-/// stand for one stream.
+/// Refuses names that must differ and stand for one file, and two names of inputs that stand for
+/// one stream.
 pub(crate) fn check_names<'w, F: FileSet<'w>>(
     alloc: Global,
     files: &mut F,
@@ -162,7 +162,7 @@ pub(crate) fn check_names<'w, F: FileSet<'w>>(
     )?)
 }
 
-/// Opens a file to be read. One that isn't there may count as empty.
+/// Opens a file for reading. A missing one may count as empty.
 pub(crate) fn open_in<'w, F: FileSet<'w>>(
     alloc: Global,
     files: &mut F,
@@ -181,7 +181,7 @@ pub(crate) fn open_in<'w, F: FileSet<'w>>(
     }
 }
 
-/// Opens the output, or makes it if one that is there is refused.
+/// Opens the output, or creates it if an existing one is refused.
 fn make_out<'w, F: FileSet<'w>>(
     alloc: Global,
     files: &mut F,
@@ -200,7 +200,7 @@ fn make_out<'w, F: FileSet<'w>>(
     }
 }
 
-/// Refuses an output that is there, if it has to be new.
+/// Refuses an existing output, if it must be new.
 pub(crate) fn check_new<'w, F: FileSet<'w>>(files: &mut F, paths: &Paths<'w>) -> Result<(), Ending>
     ensures { OpensFiles [] [] ⊥ (IsUnopened None) (F.view files.old) (F.view files.new)
         (λ _. Unit {0}) result }
@@ -211,8 +211,8 @@ pub(crate) fn check_new<'w, F: FileSet<'w>>(files: &mut F, paths: &Paths<'w>) ->
     }
 }
 
-/// Opens the output, unless it turns out to be a file that is read or the file of `save`, or can't
-/// be the output for another reason.
+/// Opens the output, unless it turns out to be an input or the file of `save`, or can't be the
+/// output for another reason.
 pub(crate) fn create_out<'w, F: FileSet<'w>>(
     alloc: Global,
     files: &mut F,
@@ -236,8 +236,8 @@ pub(crate) fn create_out<'w, F: FileSet<'w>>(
     }
 }
 
-/// Prepares the file of `save`, if there is one, unless it turns out to be a file that is read,
-/// other than the file of the position.
+/// Prepares the file of `save`, if there is one, unless it turns out to be an input other than the
+/// file of the position.
 fn prepare_save<'w, F: FileSet<'w>>(
     alloc: Global,
     files: &mut F,
@@ -253,8 +253,7 @@ fn prepare_save<'w, F: FileSet<'w>>(
     }
 }
 
-/// Opens the input, and then what is to be written, unless that turns out to be a file that is
-/// read.
+/// Opens the input, and then what is to be written, unless that turns out to be an input.
 pub(crate) fn open_both<'w, F: FileSet<'w>>(
     alloc: Global,
     files: &mut F,
@@ -277,7 +276,7 @@ pub(crate) fn open_both<'w, F: FileSet<'w>>(
     Ok((source, out))
 }
 
-/// Shows a meter that a reading of an input begins, with its length if the set of files can say it.
+/// Tells a meter that the reading of an input begins, with its length if the set of files knows it.
 pub(crate) fn begin_meter<'w, F: FileSet<'w>, M: Meter>(files: &F, source: &F::In, meter: &mut M)
     ensures { IfSome (F.In.view source.now).supply.left (λ bytes. F.size source.now ≡ Some (length bytes))
         × Adds (M.shown meter.old) (M.shown meter.new) (Begins (F.size source.now)) }
@@ -285,14 +284,14 @@ pub(crate) fn begin_meter<'w, F: FileSet<'w>, M: Meter>(files: &F, source: &F::I
     meter.begin(files.length(source));
 }
 
-/// Shows a meter that the run is over.
+/// Tells a meter that the run is over.
 pub(crate) fn end_meter<M: Meter>(meter: &mut M)
     ensures { Adds (M.shown meter.old) (M.shown meter.new) Ends }
 {
     meter.end();
 }
 
-/// Ends the output of an engine that stopped: with what was written, or as it was, if nothing was.
+/// Ends the output of an engine that stopped: with what was written, or unchanged if nothing was.
 pub(crate) fn leave<'w, F: FileSet<'w>>(files: &mut F, out: F::Out, durability: Durability)
     ensures { LeavesOut durability (F.Out.view out) (IsLeft durability (F.Out.view out))
         (F.view files.old) (F.view files.new) }
@@ -301,13 +300,13 @@ pub(crate) fn leave<'w, F: FileSet<'w>>(files: &mut F, out: F::Out, durability: 
     if is_empty {
         files.discard(out, durability);
     } else {
-        // What stopped the engine is reported, and not that its output can't be closed either.
+        // What stopped the engine is reported, not that its output couldn't be closed either.
         let _ = files.close(out, durability);
     }
 }
 
-/// How many bytes an output holds for certain, if a position is to be saved. If the engine ended, that
-/// is asked without a wait: the end of the output is to find each failure.
+/// How many bytes an output certainly holds, if a position is to be saved. If the engine ended,
+/// this is asked without a wait, so that the end of the output finds each failure.
 pub(crate) fn settle_end<'w, F: FileSet<'w>>(
     files: &mut F,
     out: &mut F::Out,
@@ -330,8 +329,8 @@ pub(crate) fn settle_end<'w, F: FileSet<'w>>(
     }
 }
 
-/// Ends the output once the engine returned: whole, or as its stop leaves it. Returns why the command
-/// stops, if it does: the engine did, or the output couldn't be ended.
+/// Ends the output once the engine has returned: complete, or as its stop leaves it. Returns why
+/// the command stops, if it does: the engine did, or the output couldn't be ended.
 fn end_out<'w, F: FileSet<'w>>(
     files: &mut F,
     out: F::Out,

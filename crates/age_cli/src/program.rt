@@ -29,7 +29,7 @@ use clap::Error;
 use clap::error::ErrorKind;
 use std::alloc::Global;
 
-/// Help and the version go to the output if they are asked for; other arguments are refused.
+/// Help and the version go to the output if asked for; other arguments are refused.
 fn answer_refusal<O: Sink, W: Wording>(
     alloc: Global,
     words: &[&str],
@@ -118,8 +118,8 @@ fn status(ending: &Ending) -> u8
 ///
 /// Without arguments, or with `inspect`, it reads the input to its end and writes the report; with
 /// `inspect FILE` it reads that file. `encrypt`, `decrypt` and `resume` read IN and write OUT.
-/// `drill` delivers the payload of IN by a script, and writes a line for each line of it. Help that
-/// is asked for goes to the output, with status 0.
+/// `drill` delivers the payload of IN by a script, and writes a line for each line of it. Help goes
+/// to the output if asked for, with status 0.
 ///
 /// Status 0 of a decryption, over any set of files, the machine's among them: IN gave the age file of
 /// a text, or, if it was resumed, the earlier output and IN gave its parts; and OUT was closed with

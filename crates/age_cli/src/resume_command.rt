@@ -20,7 +20,7 @@ use age_io::Meter;
 use age_position::Position;
 use std::alloc::Global;
 
-/// A position's file has fewer bytes.
+/// A position's file has at most this many bytes.
 const POSITION_FILE_MAX: usize = 256;
 
 /// The position in a file.
@@ -42,7 +42,8 @@ fn read_position<'w, F: FileSet<'w>>(
 }
 
 /// The position, and then the earlier output, opened. If the position has no chunk before it, a
-/// missing one counts as empty: a run that stops before its first chunk makes none.
+/// missing earlier output counts as empty, since a run that stops before its first chunk makes
+/// none.
 fn open_earlier<'w, F: FileSet<'w>>(
     alloc: Global,
     files: &mut F,

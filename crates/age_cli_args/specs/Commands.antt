@@ -73,7 +73,7 @@ drilling = with_rule
     (option_rule (codes "pass"))) (required_rule (new_rule (codes "SCRIPT"))))
     (required_rule (new_rule (codes "IN")))
 
--- the whole program, which reads the words after its name
+-- the complete program, which reads the words after its name
 unfoldable pub age_tool : App
 age_tool = with_subcommand (with_subcommand (with_subcommand (with_subcommand (with_subcommand
     (on_top

@@ -19,15 +19,15 @@ use std::alloc::{AllocError, Global};
 enum Given {
     /// `--ID VALUE`; the help shows this word for the value.
     Value(&'static str),
-    /// `--ID FILE`, which has to be there.
+    /// `--ID FILE`, which is required.
     File,
     /// `--ID N`, for N from 1 to [`MOST_WORK`].
     Number,
     /// `--ID`.
     Flag,
-    /// A word that has to be there.
+    /// A required word.
     Operand,
-    /// A word that may be there.
+    /// An optional word.
     Word,
 }
 
@@ -177,7 +177,7 @@ fn option<'a>(alloc: Global, id: &'a str, value: &'a str, help: &'a str) -> Arg<
     Arg::new(alloc, id).long(id).value_name(value).help(help)
 }
 
-/// `--ID FILE`, which has to be there.
+/// `--ID FILE`, which is required.
 fn required<'a>(alloc: Global, id: &'a str, help: &'a str) -> Arg<'a>
     ensures rule { rule_of result ≡ required_rule (option_rule id.entry.now) }
     ensures local { result.global ≡ false }
@@ -204,7 +204,7 @@ fn flag<'a>(alloc: Global, id: &'a str, help: &'a str) -> Arg<'a>
         .help(help)
 }
 
-/// A word that may be there.
+/// An optional word.
 fn word<'a>(alloc: Global, id: &'a str, help: &'a str) -> Arg<'a>
     ensures rule { rule_of result ≡ new_rule id.entry.now }
     ensures local { result.global ≡ false }
@@ -212,7 +212,7 @@ fn word<'a>(alloc: Global, id: &'a str, help: &'a str) -> Arg<'a>
     Arg::new(alloc, id).help(help)
 }
 
-/// A word that has to be there.
+/// A required word.
 fn operand<'a>(alloc: Global, id: &'a str, help: &'a str) -> Arg<'a>
     ensures rule { rule_of result ≡ required_rule (new_rule id.entry.now) }
     ensures local { result.global ≡ false }
@@ -268,7 +268,7 @@ fn command_of<'a>(alloc: Global, sub: &Subcommand) -> Result<Command<'a>, AllocE
     }
 }
 
-/// A program with one command more.
+/// A program with one more command.
 fn with_command<'a>(
     alloc: Global,
     program: Command<'a>,
@@ -301,7 +301,7 @@ fn with_commands<'a>(
     Ok(whole)
 }
 
-/// The program's help and version, without what it takes.
+/// The program's help and version, without its arguments.
 fn described<'a>(alloc: Global) -> Command<'a>
     ensures { HasApp described_tool result }
 {

@@ -1,12 +1,13 @@
 //! The texts of the help.
 
-/// The version of the workspace, which `--version` prints. A release has the date of its commit in the
+/// The version of the workspace, which `--version` prints. A release has the date of its commit in
 /// place of `not a release` (release/build).
 pub(crate) const VERSION: &str = "1.3.0 (not a release)";
 
 pub(crate) const PROGRAM: &str = "Encrypt, decrypt and inspect age files (age-encryption.org/v1).";
 
-/// The program may be run without arguments, which `clap` wouldn't say of one that has commands.
+/// The program may be run without arguments, which `clap` wouldn't say of a program that has
+/// commands.
 pub(crate) const USAGE: &str = "age_tool [COMMAND]";
 
 pub(crate) const AFTER_PROGRAM: &str =
@@ -43,7 +44,7 @@ what it has written stays in OUT.";
 
 pub(crate) const DECRYPT: &str = "Decrypt an age file";
 
-/// One of the three has to be there, which `clap` wouldn't say: its rules are simple ones.
+/// One of the three is required, which `clap` wouldn't say, since its rules here are simple ones.
 pub(crate) const DECRYPT_USAGE: &str = "age_tool decrypt [OPTIONS]
        <--pass <FILE>|--file-key <HEX>|--shared <FILE>> <IN> <OUT>";
 

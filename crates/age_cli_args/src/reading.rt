@@ -39,8 +39,8 @@ fn within(n: u32) -> Option<u32>
     }
 }
 
-/// A number from 1 to 22, or the default if it isn't given. The parser's contract says nothing of a
-/// number's range, so it is tested here.
+/// A number from 1 to 22, or the default if it isn't given. The parser's contract says nothing
+/// about a number's range, so it is checked here.
 fn number(matches: &ArgMatches<'_>, id: &str, default: u32) -> Option<u32>
     ensures value { IfSome result
         (IsNumber default (one_of id.now (rows_of (found_of matches.now)))) }
@@ -68,7 +68,7 @@ fn flag(matches: &ArgMatches<'_>, id: &str) -> bool
     matches.get_one::<bool>(id).unwrap_or(false)
 }
 
-/// Whether what is written has to reach the disk before the program ends.
+/// Whether what is written must reach the disk before the program ends.
 fn durability(matches: &ArgMatches<'_>) -> Durability
     ensures { result ≡ (if is_given (codes "no-sync") (rows_of (found_of matches.now)) then Buffered
         else Synced) }
@@ -202,11 +202,12 @@ fn request_of<'a>(name: &str, matches: &ArgMatches<'a>) -> Option<Request<'a>>
 }
 
 /// Reads what the arguments after the program's name ask for. It fails with the error of the parser
-/// of command lines: for arguments that no command takes, if help or the version is asked for, and
-/// if memory is refused.
+/// of command lines: for arguments that no command takes, for a request for help or the version,
+/// and if memory runs out.
 ///
-/// `None` never comes up: each command has an argument for all that it takes, and numbers outside 1
-/// to 22 are refused. The parser of command lines doesn't promise this, so callers must handle it.
+/// It never returns `None`: each command declares every argument that it reads, and numbers outside
+/// 1 to 22 are refused. But the parser of command lines doesn't promise this, so callers must
+/// handle it.
 pub fn read_request<'a>(alloc: Global, words: &'a [&'a str]) -> Result<Option<Request<'a>>, Error>
     ensures asked { IfOk result (λ o. IfSome o (Requests (texts words.now))) }
     ensures unasked { IfOk result (λ o. IfNone o ((r : Request) → Requests (texts words.now) r → ⊥)) }

@@ -8,7 +8,7 @@ pub(crate) const MOST_WORK: u32 = 22;
 /// Whether progress is shown while IN is read.
 #[derive(Clone, Copy, Debug, PartialEq, Eq)]
 pub enum ProgressOption {
-    /// How much of IN was read is shown.
+    /// It is shown how much of IN was read.
     Shown,
     /// Nothing is shown.
     Silent,
@@ -19,7 +19,7 @@ pub enum ProgressOption {
 pub enum ClobberOption {
     /// It is overwritten.
     Allowed,
-    /// It is refused, and stays as it was.
+    /// It is refused, and is unchanged.
     Refused,
 }
 
@@ -52,8 +52,8 @@ pub struct Encrypting<'a> {
     pub paths: Paths<'a>,
 }
 
-/// The options that say what opens a file. That exactly one of the first three is given isn't
-/// checked yet.
+/// The options that say what opens a file. It isn't checked yet that exactly one of the first three
+/// is given.
 #[derive(Clone, Copy)]
 pub struct IdentityOptions<'a> {
     /// The path of the passphrase file, if `--pass` is given.
@@ -88,7 +88,7 @@ pub struct Resuming<'a> {
     pub old: &'a str,
 }
 
-/// The arguments of `drill`. That exactly one of the first two is given isn't checked yet.
+/// The arguments of `drill`. It isn't checked yet that exactly one of the first two is given.
 #[derive(Clone, Copy)]
 pub struct Drilling<'a> {
     /// Whether the payload is in the clear (`--clear`).

@@ -171,7 +171,7 @@ fn see(
     assert!(rt; sink.bytes() == wanted.as_bytes(), "{wanted}");
 }
 
-/// A sink that takes little gets whole lines too.
+/// A sink that takes little gets complete lines too.
 #[test]
 fn shows_runs(rt: HostRuntime) -> Result<(), Fail> {
     for (runs, tick, style, wanted) in ROWS {

@@ -89,10 +89,10 @@ abbrev pub random_name : Option Text → Text
 random_name None = codes "/dev/urandom"
 random_name (Some name) = name
 
--- the two files by which the arguments are judged, the position, the old text, the input, the file
--- of the next position, the output; if it stops the next position, as far as these are named. The
--- output is none of the files that are read, the next position replaces no file but the position,
--- and the old text isn't the input.
+-- the two files by which the arguments are judged, the position, the earlier output, the input, the
+-- file of the next position, the output; if it stops the next position, as far as these are named.
+-- The output is none of the files that are read, the next position replaces no file except the
+-- position, and the earlier output isn't the input.
 abbrev pub writing_order : Option Text → Option Text → Option Text → Option Text → Option Text → Paths
     → Order
 writing_order first second position old save p =

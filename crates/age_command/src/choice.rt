@@ -51,8 +51,8 @@ impl<'a> Choice<'a> {
         }
     }
 
-    /// The bytes of the file, if one is named; `None` also if it is longer than a secret. At most
-    /// one byte more is pulled.
+    /// The bytes of the file, if one is named; `None` also if it is longer than a secret may be.
+    /// Pulls at most one byte more than that.
     pub fn read<F: FileSet<'a>>(
         &self,
         alloc: Global,
@@ -76,7 +76,7 @@ impl<'a> Choice<'a> {
         }
     }
 
-    /// What opens the file, given the bytes that `read` returned. Refuses those that hold no
+    /// What opens the file, given the bytes that `read` returned. Refuses bytes that hold no
     /// passphrase, or no shared secret with its recipient.
     pub fn identity(self, secret: Option<Vec<u8>>) -> Result<Identity, Usage>
         ensures makes { IfOk result (Makes self.entry (file_bytes secret)) }

@@ -14,7 +14,7 @@ pub enum Usage {
     GiveOneIdentity,
     /// `--file-key` isn't 32 hexadecimal digits.
     BadFileKey,
-    /// Two files that have to differ are one.
+    /// Two files that must differ are the same.
     SameFile,
     /// The output of an encryption is a terminal.
     OutIsTerminal,

@@ -39,8 +39,8 @@ fn pull_some<S: Source>(
     }
 }
 
-/// Reads `most` bytes into an empty vector, or fewer if the source ends before. No more are pulled.
-/// If it fails, the vector holds what was read before.
+/// Reads `most` bytes into an empty vector, or fewer if the source ends first. Pulls no more than
+/// that. If it fails, the vector holds what was read before.
 pub fn fill_first<S: Source>(
     source: &mut S,
     held: &mut Vec<u8>,
@@ -64,7 +64,7 @@ pub fn fill_first<S: Source>(
     Ok(())
 }
 
-/// The first `most` bytes of a source, or fewer if it ends before. No more are pulled.
+/// The first `most` bytes of a source, or fewer if it ends first. Pulls no more than that.
 pub fn read_first<S: Source>(
     alloc: Global,
     source: &mut S,
@@ -76,14 +76,14 @@ pub fn read_first<S: Source>(
     ensures failed { IfErr result (λ f. f ≡ Read → (S.view source.new).failing ≡ true) }
     ensures began { (from : Origin) → S.began source.old from → S.began source.new from }
 {
-    // A vector that grows leaves copies behind, so that of a passphrase's file never does.
+    // A vector that grows leaves copies behind, so the one for a passphrase's file never grows.
     let mut held = Vec::with_capacity(alloc, most.min(PASSPHRASE_FILE_MAX + 1))?;
     fill_first(source, &mut held, most)?;
     Ok(held)
 }
 
-/// All bytes of a source; `None` if it gives more than `most`, which has to be below 2^32. At most
-/// one byte more is pulled.
+/// Reads a source to its end; `None` if it has more than `most` bytes (below 2^32). Pulls at most
+/// `most + 1` bytes.
 pub fn read_up_to<S: Source>(
     alloc: Global,
     source: &mut S,
@@ -107,8 +107,8 @@ pub fn read_up_to<S: Source>(
     Ok(Some(first))
 }
 
-/// All bytes of a file; `None` if it has more than `most`, which has to be below 2^32. At most one
-/// byte more is pulled. Then its reading is over.
+/// Reads a file to its end; `None` if it has more than `most` bytes (below 2^32). Pulls at most
+/// `most + 1` bytes. Then its reading is over.
 pub fn read_file<'w, F: FileSet<'w>>(
     alloc: Global,
     files: &mut F,

@@ -1,4 +1,4 @@
-//! Writes bytes whole.
+//! Writes all of some bytes.
 
 ghost use Rattle.std.specs.Prelude.{◌≡◌, IfErr, OnOk, OnErr};
 ghost use Rattle.age_fault.specs.{HasRisen};
@@ -8,7 +8,7 @@ ghost use Rattle.age_io.specs.Taken.{Appends};
 use age_fault::{FileFault, write_all};
 use age_io::Sink;
 
-/// Writes all bytes. After a failure nothing says how many were written.
+/// Writes all bytes. After a failure it isn't known how many were written.
 pub fn put_bytes<O: Sink>(sink: &mut O, bytes: &[u8]) -> Result<(), FileFault>
     ensures ok { OnOk result (Appends (O.view sink.old).taken (O.view sink.new).taken bytes.now) }
     ensures same { OnOk result ((O.view sink.new).failed ≡ (O.view sink.old).failed) }

@@ -79,8 +79,8 @@ fn put_place<E: Sink>(faults: &mut E, fault: FileFault) -> Result<(), FileFault>
     }
 }
 
-/// The fault's number and name, and its place. It takes no memory, so that running out of it is
-/// reported too.
+/// The fault's number and name, and its place. It allocates nothing, so that running out of memory
+/// can be reported too.
 fn put_fault_line<E: Sink>(faults: &mut E, fault: FileFault) -> Result<(), FileFault>
     ensures { PutsAll (fault_line fault) (E.view faults.old) (E.view faults.new) result }
 {
@@ -103,7 +103,7 @@ fn put_fault<E: Sink>(faults: &mut E, fault: FileFault) -> Result<(), FileFault>
     }
 }
 
-/// The line of a script's line that is malformed.
+/// The message about a malformed line of a script.
 fn put_script_line<E: Sink>(faults: &mut E, line: u64) -> Result<(), FileFault>
     ensures { PutsAll (usage_line (BadScriptLine line)) (E.view faults.old) (E.view faults.new) result }
 {
@@ -122,7 +122,7 @@ fn put_whole_script_line<E: Sink>(faults: &mut E, line: u64) -> Result<(), FileF
     }
 }
 
-/// What is wrong with a command line: one line, in one put, which takes no memory either.
+/// What is wrong with a command line: one line, in one put, which allocates nothing either.
 fn put_usage<E: Sink>(faults: &mut E, usage: Usage) -> Result<(), FileFault>
     ensures { PutsAll (usage_line usage) (E.view faults.old) (E.view faults.new) result }
 {
@@ -160,7 +160,7 @@ fn put_ending<E: Sink>(faults: &mut E, ending: &Ending) -> Result<(), FileFault>
     }
 }
 
-/// That, sent on.
+/// The same, flushed.
 fn send_ending<E: Sink>(faults: &mut E, ending: &Ending) -> Result<(), FileFault>
     ensures { ReportsEnding ending.now (E.view faults.old) (E.view faults.new) }
 {

@@ -10,7 +10,8 @@ use age_stanza::Header;
 use std::alloc::Global;
 use std::marker::Model;
 
-/// Bytes that are overwritten before their memory is freed. No contract says so: a test looks.
+/// Bytes that are overwritten before their memory is freed. No contract says so, but a test checks
+/// it.
 struct Erased {
     bytes: Vec<u8>,
 }

@@ -14,7 +14,7 @@ use Rattle.age_command.specs.declared.ending.Ending.TheVariants.{Fault, Usage}
 use Rattle.age_command.specs.declared.ending.Usage.TheVariants.{BadScriptLine, PayloadTooLong}
 use Rattle.age_drill.specs.Drills.{drill_text, RefusesDrill}
 
--- the line of this number was printed, unless writing failed or memory was refused
+-- the line of this number was printed, unless writing failed or memory ran out
 abbrev pub PrintsAnswer : (number : ℕ) → (old new : SinkView) → (Unprinted : Type 0)
     → Result (Unit {0}) FileFault → Type 0
 PrintsAnswer number old new Unprinted (Ok done) = (new.failed ≡ old.failed)
@@ -42,7 +42,7 @@ RefusesDelivery (Usage (BadScriptLine line)) = Unit {0}
 RefusesDelivery (Usage PayloadTooLong) = Unit {0}
 RefusesDelivery other = ⊥
 
--- a script couldn't be read whole
+-- a script couldn't be read to its end
 abbrev pub EndsUnread : Ending → Type 0
 EndsUnread (Fault fault) = fault ≡ Memory
 EndsUnread ending = RefusesDelivery ending

@@ -77,7 +77,7 @@ fn read_script<'w, F: FileSet<'w>>(
 }
 
 /// The header that a parser finds at the beginning of a file, and its length. `read` is how reading
-/// those bytes ended: its fault comes only if the bytes before it have none.
+/// those bytes ended: its fault is reported only if the bytes before it have none.
 fn find_header(
     parser: &mut HeadParser,
     bytes: &[u8],
@@ -146,7 +146,7 @@ fn open_payload(
     payload_after(key, len, bytes, read)
 }
 
-/// Checks the script whole, and then delivers a payload by it.
+/// Checks all of the script, and then delivers a payload by it.
 fn deliver<B: ChunkBox, O: Sink, const SEALED: usize>(
     alloc: Global,
     key: &B,
@@ -229,7 +229,8 @@ fn deliver_source<S: Source, O: Sink>(
     }
 }
 
-/// Delivers a payload as asked. No file is changed, and whatever the deliveries gave is no fault.
+/// Delivers a payload as asked. No file is changed, and whatever the deliveries lead to is no
+/// fault.
 pub fn drill_file<'w, F: FileSet<'w>, O: Sink>(
     alloc: Global,
     files: &mut F,
@@ -242,7 +243,7 @@ pub fn drill_file<'w, F: FileSet<'w>, O: Sink>(
     ensures does { (done : List Event) × Does done (F.view files.old) (F.view files.new) }
     ensures order_done { OnOk result (Does (order_asked (Drill asked.now)).done (F.view files.old)
         (F.view files.new)) }
-    // What is printed is lines that say where the reader stands. It is refused for this alone.
+    // It prints only lines that say where the reader stands. It is refused only for these reasons.
     ensures ends { DrillEnds (IsUnreadable (CameSince (F.view files.old) (F.view files.new)))
         (RefusesDrill (CameSince (F.view files.old) (F.view files.new)) asked.now)
         (output.new ≡ output.old) (O.view output.old) (O.view output.new) result }

@@ -1,6 +1,6 @@
 //! The command that delivers a payload by a script, and says what is held after each line of it.
 //!
-//! Its definitions say what the lines look like that a drill prints, and what it is refused for.
+//! Its definitions say what the lines that a drill prints look like, and why it is refused.
 #![tactic(auto)]
 
 mod answers;

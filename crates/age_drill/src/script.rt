@@ -66,7 +66,7 @@ fn read_words(word: &str, numbers: &str) -> Option<ScriptLine> {
     }
 }
 
-/// What a line may ask for: it does if that is how its text is written.
+/// What a line may ask for: it does if its text is written exactly so.
 fn guess(line: &[u8]) -> Option<ScriptLine> {
     let text = std::str::from_utf8(line.strip_suffix(b"\n")?).ok()?;
     match text.split_once(' ') {

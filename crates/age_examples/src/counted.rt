@@ -6,7 +6,7 @@ ghost use Rattle.std.specs.Coded.{coded_ℕ, coded×};
 use age_file::{Failed, Source};
 use std::marker::Model;
 
-/// A source that passes on what another gives and counts its bytes, as a progress bar wants it. A
+/// A source that passes on what another gives and counts its bytes, as a progress bar needs. A
 /// contract sees the other source and the count.
 #[derive(Drop)]
 pub struct Counted<S: Source> {
@@ -25,7 +25,7 @@ impl<S: Source> Model for Counted<S> {
 impl<S: Source> Counted<S> {
     ghost use Rattle.std.specs.Prelude.{◌≡◌};
 
-    /// Nothing was counted yet.
+    /// Nothing has been counted yet.
     pub fn new(inner: S) -> Counted<S>
         ensures { result ≡ (inner, 0) }
     {

@@ -1,4 +1,4 @@
-//! Examples of the library crates, which `docs/LIBRARY.md` explains: a decryption over memory, an
+//! Examples of the library crates, which `docs/LIBRARY.md` explains: a decryption in memory, an
 //! unlocker, a source and a sink of one's own, and a sealer over a sink.
 #![tactic(auto)]
 

@@ -12,7 +12,7 @@ pub struct Measure {
 }
 
 impl Measure {
-    /// Nothing was counted yet.
+    /// Nothing has been counted yet.
     pub fn new() -> Measure
         ensures count { result.count ≡ 0 }
         ensures took { result.took ≡ [] }

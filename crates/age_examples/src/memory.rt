@@ -1,4 +1,4 @@
-//! A decryption over memory.
+//! A decryption in memory.
 
 ghost use Rattle.std.specs.Prelude.{◌≡◌, ℕ, List, [], MatchResult};
 ghost use Rattle.age_io.specs.{memory_supply};
@@ -12,11 +12,11 @@ use std::alloc::Global;
 const STEP: usize = 65_536;
 
 /// The plaintext of an age file in memory. A plaintext is shorter than its file, so the file's
-/// length is room enough.
+/// length is enough room.
 ///
 /// If it is the file of some plaintext, which the unlocker opens, and undamaged, that plaintext is
 /// returned, or one of the faults that have nothing to do with the file. A fault of the file
-/// returns no bytes at all, so nobody takes a cut plaintext for a whole one.
+/// returns no bytes at all, so nobody takes a truncated plaintext for a complete one.
 pub fn text_of<U: Unlock>(alloc: Global, unlock: &U, file: Vec<u8>) -> Result<Vec<u8>, FileFault>
     ensures undamaged { (text : List ℕ)
         → IsUndamagedFile (U.allows unlock.now) (U.refuses unlock.now)

@@ -20,7 +20,7 @@ use std::fmt;
 /// came from. docs/FAULTS.md lists all faults by their numbers.
 #[derive(Clone, Copy, Debug, PartialEq, Eq)]
 pub enum FileFault {
-    /// The header is not one, at this line (1 to 8).
+    /// The header isn't valid, at this line (1 to 8).
     Head(HeadFault),
     /// The header was not opened (9 to 15).
     Key(KeyFault),
@@ -28,11 +28,11 @@ pub enum FileFault {
     NonceCut,
     /// The payload, or the text to be sealed, was refused at this chunk (17 to 22).
     Stream(StreamFault),
-    /// The text isn't a position's (23).
+    /// The text isn't a position (23).
     BadPosition,
     /// The position belongs to another file (24).
     OtherFile,
-    /// The old text is shorter than the position needs (25).
+    /// The earlier output is shorter than the position needs (25).
     ShortText,
     /// A source failed in this call (26).
     Read,
@@ -40,11 +40,11 @@ pub enum FileFault {
     Write,
     /// Memory was refused (28).
     Memory,
-    /// The sources gave bytes by 2^63 pulls in one call (29).
+    /// The sources gave bytes in 2^63 pulls of one call (29).
     ReadNeverEnds,
     /// The position was not made under this file's key (30).
     PositionForged,
-    /// The old text is not the one that the position was made for (31).
+    /// The earlier output is not the one that the position was made for (31).
     OldTextDiffers,
 }
 
@@ -148,7 +148,7 @@ impl FileFault {
         }
     }
 
-    /// What is said of a fault that no other crate found.
+    /// What people read about a fault that no other crate found.
     fn text(&self) -> &'static str {
         match self {
             FileFault::NonceCut => "payload nonce cut",

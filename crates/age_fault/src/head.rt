@@ -13,8 +13,8 @@ pub enum HeadKind {
     NotAge = 1,
     /// The first line begins an armored file. Armor isn't read; it has to be removed first.
     Armored = 2,
-    /// A line after the version line or a whole stanza is neither a valid argument line nor begins
-    /// with `---`.
+    /// A line after the version line or a complete stanza is neither a valid argument line nor
+    /// begins with `---`.
     BadStanzaLine = 3,
     /// A line of a body isn't canonical base64 of at most 64 characters.
     BadBody = 4,
@@ -22,16 +22,17 @@ pub enum HeadKind {
     BadEndLine = 5,
     /// The end line came before any stanza.
     NoStanza = 6,
-    /// The first bytes, as many as the longest header has, hold no whole header and no faulty line.
+    /// The first bytes, as many as the longest header has, hold no complete header and no faulty
+    /// line.
     HeadTooLong = 7,
     /// The input ended inside the header.
     HeadCut = 8,
-    /// A growth of memory was refused.
+    /// Out of memory.
     Memory = 28,
 }
 
 impl HeadKind {
-    /// What is said of it.
+    /// What people read about it.
     fn text(&self) -> &'static str {
         match self {
             HeadKind::NotAge => "not an age file",
@@ -74,7 +75,7 @@ impl From<AllocError> for HeadKind {
     }
 }
 
-/// Why a header was refused, and at which line, from 1 (0 if memory was refused).
+/// Why a header was refused, and at which line, from 1 (0 if memory ran out).
 #[derive(Clone, Copy, Debug, PartialEq, Eq)]
 pub struct HeadFault {
     /// What is wrong.
@@ -91,7 +92,7 @@ impl HeadFault {
         self.kind.number()
     }
 
-    /// The line of the fault, from 1. `None` if memory was refused.
+    /// The line of the fault, from 1. `None` if memory ran out.
     pub fn place(&self) -> Option<u64>
         ensures { result ≡ head_fault_place self.now }
     {
@@ -102,8 +103,8 @@ impl HeadFault {
     }
 }
 
-/// Shows the kind and the line, as `bad stanza line at line 3`, or the kind alone if memory was
-/// refused.
+/// Shows the kind and the line, as `bad stanza line at line 3`, or the kind alone if memory ran
+/// out.
 impl fmt::Display for HeadFault {
     fn fmt<W: fmt::Write>(&self, f: &mut fmt::Formatter<W>) -> fmt::Result {
         match self.place() {

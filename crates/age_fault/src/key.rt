@@ -16,7 +16,7 @@ pub enum KeyFault {
     BadScrypt = 10,
     /// The scrypt stanza's work factor is above the limit.
     WorkTooHigh = 11,
-    /// No stanza is of the type that is looked for.
+    /// No stanza has the type that was looked for.
     NoMatch = 12,
     /// The body of no stanza opens.
     WrongKey = 13,
@@ -24,12 +24,12 @@ pub enum KeyFault {
     MacMismatch = 14,
     /// An X25519 stanza isn't valid, or the shared secret is zero.
     BadX25519 = 15,
-    /// A growth of memory was refused.
+    /// Out of memory.
     Memory = 28,
 }
 
 impl KeyFault {
-    /// What is said of it.
+    /// What people read about it.
     fn text(&self) -> &'static str {
         match self {
             KeyFault::ScryptNotAlone => "scrypt stanza not alone",
@@ -60,8 +60,8 @@ impl KeyFault {
         *self as u8
     }
 
-    /// Whether it is found by looking at the header, before a body is tried: then no step of scrypt
-    /// was made.
+    /// Whether it is found by looking at the header, before a body is tried, so that no step of
+    /// scrypt was made.
     pub fn is_before_work(&self) -> bool
         ensures { result ≡ is_before_work self.now }
     {
@@ -75,7 +75,7 @@ impl KeyFault {
         }
     }
 
-    /// The line or chunk of the fault: these have none.
+    /// The line or chunk of the fault, which these faults don't have.
     pub fn place(&self) -> Option<u64>
         ensures { result ≡ None }
     {

@@ -27,8 +27,8 @@ pub record IsSecret (s : SecretView) : Type 0 where
 abbrev pub passphrase_identity : SecretView → ℕ → PassphraseIdentity
 passphrase_identity s max_log = record { pass = s.pass; max_log = max_log }
 
--- the age file of a secret and a text is a whole one for the secret's passphrase, if the limit
--- allows its work factor
+-- the age file of a secret and a plaintext is a complete one for the secret's passphrase, if the
+-- limit allows its work factor
 abbrev pub AgeFileIsWhole : Type 0
 AgeFileIsWhole = (s : SecretView) (max_log : ℕ) (text bytes : List ℕ) (coming : Supply)
     → coming.left ≡ Some bytes → IsSecret s → s.log ≤ max_log
@@ -37,7 +37,7 @@ AgeFileIsWhole = (s : SecretView) (max_log : ℕ) (text bytes : List ℕ) (comin
     (PassphraseRefuses (passphrase_identity s max_log)) coming text
 
 -- after an encryption, a decryption of what its sink took, with the same passphrase, gives back the
--- text that its source gave, or stops as reading, writing or running out of memory may stop it
+-- plaintext that its source gave, or stops as reading, writing or running out of memory may stop it
 abbrev pub RoundTrip : Type 0
 RoundTrip = (keep : PositionPolicy) (s : SecretView) (max_log : ℕ) (was became now last : Ports)
     (written : Written) (e : Encrypts s was became written) (result : Result Done Stopped)

@@ -50,10 +50,10 @@ pub data Outcome : Type 0 where
   -- a file was opened under this name: it has this to give, if contracts see that, and is so long, if
   -- the set can say
   Found : List ℕ → Option (List ℕ) → Option ℕ → Outcome
-  -- the same, but a file that isn't there counts as empty
+  -- the same, but a missing file counts as empty
   FoundOrEmpty : List ℕ → Option (List ℕ) → Option ℕ → Outcome
-  -- none could be opened; none could be prepared, created, made, ended or replaced; none was there; one
-  -- was, or may have been
+  -- none could be opened; none could be prepared, created, made, ended or replaced; none existed;
+  -- one did, or may have
   Unread : List ℕ → Outcome
   Unwritten : List ℕ → Outcome
   Absent : List ℕ → Outcome
@@ -290,7 +290,7 @@ has_name q e = bytes_eq e.name q
 abbrev pub entry_of : List MemEntry → List ℕ → Option (List ℕ)
 entry_of es q = option_map (λ e. e.bytes) (find (has_name q) es)
 
--- these bytes were to be put under a name, in place of what stood there
+-- these bytes were to be put under a name, in place of its old contents
 pub record PutsEntry {E : Type 0} (name bytes : List ℕ) (result : Result (Unit {0}) E)
     (old new : List MemEntry) : Type 0 where
   -- They stand there, if it succeeded.

@@ -20,10 +20,10 @@ use std::alloc::Global;
 /// Why a file could not be opened, prepared or created.
 #[derive(Clone, Copy, Debug, PartialEq, Eq)]
 pub enum OpenFault {
-    /// It is one of the files that were opened, prepared or created before, whatever its name, and
-    /// can't be used twice.
+    /// It is one of the files that were opened, prepared or created before, under whatever name,
+    /// and can't be used twice.
     SameFile,
-    /// It can't be read (26) or written (27), or memory was refused (28).
+    /// It can't be read (26) or written (27), or memory ran out (28).
     Fault(FileFault),
 }
 
@@ -40,18 +40,18 @@ impl From<FileFault> for OpenFault {
 /// A name is opaque: only the set interprets it, and may keep it for as long as `'w`. What contracts
 /// see is noted as it is done: what was to be done in order, and what came of it. An implementation
 /// has to keep more than its contracts say:
-/// - `create` changes nothing of a file that is there. Its bytes are replaced with the first put
-///   that takes some, or by `close`; from then on others may see them;
+/// - `create` doesn't change an existing file. Its bytes are replaced by the first put that takes
+///   some, or by `close`; from then on others may see them;
 /// - a sink that is dropped without `close` or `discard` may leave the file with some of the bytes
-///   that it took, with none, or as it was;
-/// - a stream gives each of its bytes once, so it isn't opened twice to be read, whatever its names.
-///   `check_streams` refuses two names of one stream before the first is opened; or else `open`
-///   refuses the second, before it opens what could wait forever;
+///   that it took, with none, or unchanged;
+/// - a stream gives each of its bytes once, so it isn't opened twice for reading, whatever its
+///   names. `check_streams` refuses two names of one stream before the first is opened; or else
+///   `open` refuses the second, before it opens what could wait forever;
 /// - two names that are one file are refused as such, by `is_same` before the second is opened, or
 ///   else by `prepare` and `create`; and `replace` writes over none that was opened or created;
-/// - that names lead to one file or stream, or that a file is in use, is said only if it is so.
+/// - it says that names lead to one file or stream, or that a file is in use, only if that is so.
 pub trait FileSet<'w> {
-    /// A file that is read. Its `began` says under which name it was opened: of one name alone.
+    /// A file that is read. Its `began` says under which name it was opened.
     type In: Source + Drop;
 
     /// A file that is written. Its label is the name under which it was created or made.
@@ -79,8 +79,8 @@ pub trait FileSet<'w> {
         ensures checks { ChecksStreams (passed_names names.now) result (view self.old) (view self.new) }
         ensures faults { IfErr result (OpenFails FileFault.Memory) };
 
-    /// Opens a file to be read. Refuses with `Read` (26) if it can't be opened, with `Memory` (28),
-    /// and with [`SameFile`](OpenFault::SameFile) if it is a stream that was opened before.
+    /// Opens a file for reading. Refuses with `Read` (26) if it can't be opened, with `Memory`
+    /// (28), and with [`SameFile`](OpenFault::SameFile) if it is a stream that was opened before.
     fn open(&mut self, alloc: Global, name: &'w str) -> Result<Self::In, OpenFault>
         ensures noted { view self.new ≡ with_event (Open name.now)
             (opened_as (Self.In.view) size (Found name.now) name.now result) (view self.old) }
@@ -88,8 +88,8 @@ pub trait FileSet<'w> {
         ensures named { IfOk result (λ s. Self.In.began s (Named name.now)) }
         ensures faults { IfErr result (OpenFails FileFault.Read) };
 
-    /// Opens a file to be read. A file that isn't there counts as empty. Refuses as `open` does,
-    /// but with `Read` (26) only if the file is there and can't be opened.
+    /// Opens a file for reading. A missing file counts as empty. Refuses as `open` does, but with
+    /// `Read` (26) only if the file exists and can't be opened.
     fn open_or_empty(&mut self, alloc: Global, name: &'w str) -> Result<Self::In, OpenFault>
         ensures noted { view self.new ≡ with_event (Open name.now)
             (opened_as (Self.In.view) size (FoundOrEmpty name.now) name.now result) (view self.old) }
@@ -97,15 +97,15 @@ pub trait FileSet<'w> {
         ensures named { IfOk result (λ s. Self.In.began s (Named name.now)) }
         ensures faults { IfErr result (OpenFails FileFault.Read) };
 
-    /// How many bytes a file that was opened still has to give; `None` if the set can't say, as it
-    /// can't of a pipe or a terminal.
+    /// How many bytes a file that was opened still has to give; `None` if the set can't say, as for
+    /// a pipe or a terminal.
     fn length(&self, source: &Self::In) -> Option<u64>
         ensures noted { result ≡ size source.now }
         ensures seen { IfSome (Self.In.view source.now).supply.left
             (λ bytes. result ≡ Some (length bytes)) };
 
-    /// The reading of a file that was opened is over: contracts see from now on what it gave. Of a
-    /// source that is dropped they don't.
+    /// The reading of a file that was opened is over: contracts see from now on what it gave. They
+    /// don't see it for a source that is dropped.
     fn finish(&mut self, source: Self::In)
         ensures over { (name : List ℕ) → Self.In.began source (Named name) → view self.new
             ≡ with_outcomes (Gave (reading_of name (Self.In.view source)) ∷ []) (view self.old) }
@@ -128,10 +128,11 @@ pub trait FileSet<'w> {
             (made_as [] name.now result) (view self.old) }
         ensures faults { IfErr result (OpenFails FileFault.Write) };
 
-    /// Opens a file to be written, and makes it if there is none. Refuses with `Write` (27) if it
-    /// can't be opened, with `Memory` (28), and with [`SameFile`](OpenFault::SameFile) if it was
+    /// Opens a file for writing, and creates it if it doesn't exist. Refuses with `Write` (27) if
+    /// it can't be opened, with `Memory` (28), and with [`SameFile`](OpenFault::SameFile) if it was
     /// opened, prepared or created before; a file that the call made is then removed, if it can be.
-    /// The disk is waited for while it is written, so that the end needn't wait long, if it is to be.
+    /// The disk is waited for while it is written, so that the end needn't wait long, if it is to
+    /// be.
     fn create(
         &mut self,
         alloc: Global,
@@ -145,18 +146,20 @@ pub trait FileSet<'w> {
         ensures named { IfOk result (λ o. (Self.Out.view o).taken.label ≡ name.now) }
         ensures faults { IfErr result (OpenFails FileFault.Write) };
 
-    /// Refuses what has the name, a link too, with `Write` (27), as `create_new` would: it changes
-    /// nothing, and is for what takes long before that. Something may have the name by then.
+    /// Refuses anything that has the name, even a link, with `Write` (27), as `create_new` would.
+    /// It changes nothing, and is called before work that takes long; by the end of that, something
+    /// may have the name.
     fn check_absent(&mut self, name: &'w str) -> Result<(), OpenFault>
         ensures noted { view self.new ≡ with_outcomes (made_as [] name.now result) (view self.old) }
         ensures faults { IfErr result (OpenFails FileFault.Write) };
 
-    /// Whether nothing has the name, not even a link. What can't be looked at may have it.
+    /// Whether nothing has the name, not even a link. If it can't be looked at, something may have
+    /// it.
     fn is_absent(&mut self, name: &'w str) -> bool
         ensures { view self.new ≡ with_outcomes (looked_as name.now result) (view self.old) };
 
-    /// Makes a file to be written, as `create` does, and refuses one that is there too, with `Write`
-    /// (27): it is as it was then, and no link is followed.
+    /// Creates a file for writing, as `create` does, but refuses an existing one with `Write` (27),
+    /// which is unchanged then. No link is followed.
     fn create_new(
         &mut self,
         alloc: Global,
@@ -182,19 +185,19 @@ pub trait FileSet<'w> {
             (noted_if result (Terminal (Self.Out.view out.now).taken.label)) (view self.old) }
         ensures device { result ≡ true → file out.now ≡ None };
 
-    /// Whether a file that was created took no byte so far.
+    /// Whether a file that was created has taken no byte so far.
     fn is_empty(&self, out: &Self::Out) -> bool
         ensures { result ≡ true ↔ ((Self.Out.view out.now).taken.bytes ≡ []) };
 
-    /// How many bytes of those that a sink took its file holds for certain: on the disk, if that is
-    /// asked for and the machine can wait. Never more than the sink took.
+    /// How many bytes of those that a sink took its file certainly holds, on the disk if that is
+    /// asked for and the machine can wait. It is never more than the sink took.
     fn settle(&mut self, out: &mut Self::Out, durability: Durability) -> u64
         ensures noted { view self.new ≡ with_outcomes
             (Settled durability (Self.Out.view out.old).taken.bytes result ∷ []) (view self.old) }
         ensures same { Self.Out.view out.new ≡ Self.Out.view out.old }
         ensures most { result ≤ length (Self.Out.view out.old).taken.bytes };
 
-    /// The same, by what is known already: nothing is waited for, and no failure is used up that
+    /// The same, by what is already known: nothing is waited for, and no failure is consumed that
     /// `close` is to find.
     fn settled_so_far(&mut self, out: &Self::Out, durability: Durability) -> u64
         ensures noted { view self.new ≡ with_outcomes
@@ -203,7 +206,7 @@ pub trait FileSet<'w> {
 
     /// Ends a file that was created, with exactly the bytes that its sink took, in place of what it
     /// held, and waits until they have reached the disk if that is asked for and the machine can
-    /// wait. Refuses with `Write` (27); it is then as the calls that succeeded left it.
+    /// wait. Refuses with `Write` (27); the file is then as the calls that succeeded left it.
     fn close(&mut self, out: Self::Out, durability: Durability) -> Result<(), FileFault>
         ensures noted { EndsOne durability (written_as (Self.Out.view out).taken.label
             (Self.Out.view out).taken.bytes result) (view self.old) (view self.new) }
@@ -211,15 +214,15 @@ pub trait FileSet<'w> {
             (Closes durability (file out) (Self.Out.view out) result) }
         ensures faults { IsOkUnless result FileFault.Write };
 
-    /// Ends a file that was created and into which nothing was put: it is as it was before
-    /// `create`. One that was made is removed, if it can be, also on the disk if that is asked for.
+    /// Ends a file that was created and took nothing, which leaves it as it was before `create`.
+    /// One that `create` made is removed, if possible, on the disk too if that is asked for.
     fn discard(&mut self, out: Self::Out, durability: Durability)
         ensures noted { EndsOne durability [] (view self.old) (view self.new) }
         ensures discarded { IsSomeAnd (view self.new).ended
             (Discards (file out) (Self.Out.view out)) };
 
-    /// Makes a file of these bytes, and waits for the disk as `close` does. One of the name is
-    /// replaced atomically if its folder lets a new one be made beside it; else it is written
+    /// Makes a file of these bytes, and waits for the disk as `close` does. An existing one is
+    /// replaced atomically if its folder lets a new one be made beside it; otherwise it is written
     /// directly. Refuses with `Write` (27) and with `Memory` (28); a file that is written directly
     /// may hold a part of the bytes then.
     fn replace(

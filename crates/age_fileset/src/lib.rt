@@ -1,8 +1,8 @@
 //! The files that a command works with: a trait for a set of them, and one over memory.
 //!
-//! A set notes what was opened, created, replaced and ended, in order, and what came of it. Of the
-//! machine's files (`age_disk`) contracts see the bytes that they gave and took; of a set over
-//! memory also what each file holds.
+//! A set notes what was opened, created, replaced and ended, in order, and what came of it. For the
+//! machine's files (`age_disk`), contracts see the bytes that they gave and took; for a set over
+//! memory, also what each file holds.
 #![tactic(auto)]
 
 mod files;

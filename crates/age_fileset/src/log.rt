@@ -18,7 +18,7 @@ pub enum Doing<'a> {
     Prepare(&'a str, Option<&'a str>),
     /// A file was to be created.
     Create(&'a str),
-    /// A file was to be made where none is.
+    /// A file was to be made where none exists.
     Make(&'a str),
     /// A file was to be replaced, and to reach the disk now or later.
     Replace(&'a str, Durability),
@@ -27,7 +27,7 @@ pub enum Doing<'a> {
     /// A file was opened under this name. It has this to give, if contracts see that, and so many
     /// bytes, if the set can say.
     Found(&'a str, Option<&'a Tape>, Option<u64>),
-    /// The same; none of this name counts as empty.
+    /// The same, but a missing file counts as empty.
     FoundOrEmpty(&'a str, Option<&'a Tape>, Option<u64>),
     /// A file of this name couldn't be opened, prepared, created or replaced.
     Refused(&'a str, OpenFault),
@@ -37,13 +37,13 @@ pub enum Doing<'a> {
     Absent(&'a str),
     /// Something had this name, or may have had it.
     Present(&'a str),
-    /// The reading of a file is over that was opened under this name: it gave these bytes. Whether
-    /// a pull found its end, and whether the last pull failed.
+    /// The reading of a file that was opened under this name is over: it gave these bytes. Also,
+    /// whether a pull found its end, and whether the last pull failed.
     Gave(&'a Tape, &'a Tape, bool, bool),
     /// An output that took these bytes holds so many of them for certain: on the disk, if that was
     /// asked for.
     Settled(Durability, &'a Tape, u64),
-    /// These bytes were put under this name, in place of what stood there.
+    /// These bytes were put under this name, in place of its old contents.
     Put(&'a Tape, &'a Tape),
     /// These names, which differ, lead to one file.
     Alike(&'a str, &'a str),

@@ -59,7 +59,7 @@ pub(crate) fn bytes_of<'a>(entries: &'a [MemEntry], name: &str) -> Option<&'a [u
     Some(found.bytes.as_slice())
 }
 
-/// Puts bytes under a name. A name that is there already takes no memory.
+/// Puts bytes under a name. An existing name needs no allocation.
 pub(crate) fn put_entry(
     entries: &mut Vec<MemEntry>,
     name: Name,

@@ -168,7 +168,7 @@ impl MemFiles {
         }
     }
 
-    /// Puts a file there, in place of one of its name. If memory is refused nothing changes.
+    /// Adds a file, in place of any file of its name. If memory runs out, nothing changes.
     pub fn put(&mut self, alloc: Global, name: &str, bytes: Vec<u8>) -> Result<(), Memory>
         ensures puts { PutsEntry name.now bytes.items result self.old.entries self.new.entries }
         ensures kept { self.new ≡ record self.old {
@@ -198,7 +198,7 @@ impl MemFiles {
         Ok(())
     }
 
-    /// The bytes of a file, if it is there.
+    /// The bytes of a file, if it exists.
     pub fn get(&self, name: &str) -> Option<&[u8]>
         ensures { option_map (λ s. s.now) result ≡ entry_of self.now.entries name.now }
     {
@@ -227,7 +227,7 @@ impl MemFiles {
             .note(Doing::Gave(&name, &given, is_at_end, is_failing));
     }
 
-    /// Refuses each later attempt to create or replace a file of this name. If memory is refused
+    /// Refuses each later attempt to create or replace a file of this name. If memory runs out,
     /// nothing changes.
     pub fn refuse(&mut self, alloc: Global, name: &str) -> Result<(), Memory>
         ensures ok { OnOk result
@@ -264,7 +264,7 @@ fn note_found(log: &mut Log, name: &str, left: Option<&Tape>, size: Option<u64>)
     log.note(Doing::Found(name, left, size));
 }
 
-/// The same, if one that isn't there counts as empty.
+/// The same, if a missing one counts as empty.
 fn note_found_or_empty(log: &mut Log, name: &str, left: Option<&Tape>, size: Option<u64>)
     ensures { log.new ≡ record log.old {
       outcomes = log.old.outcomes
@@ -280,7 +280,7 @@ fn is_refused(refused: &[Name], name: &str) -> bool
     refused.iter().any(|r| r.as_str() == name)
 }
 
-/// The bytes of a file, or none if it isn't there.
+/// The bytes of a file, or none if it doesn't exist.
 fn bytes_or_none<'a>(entries: &'a [MemEntry], name: &str) -> &'a [u8]
     ensures { Some result.now ≡ or_empty (entry_of entries.now name.now) }
 {
@@ -574,7 +574,8 @@ impl<'w> FileSet<'w> for MemFiles {
         size
     }
 
-    /// Puts what the sink took under its name. That takes no memory if a file of the name is there.
+    /// Puts what the sink took under its name. That allocates nothing if a file of that name
+    /// exists.
     fn close(&mut self, out: MemOut, durability: Durability) -> Result<(), FileFault>
         ensures puts { PutsEntry out.0 out.1.held result self.old.entries self.new.entries }
         ensures there { is_some (entry_of self.old.entries out.0) ≡ true → IsOk result }
@@ -600,7 +601,7 @@ impl<'w> FileSet<'w> for MemFiles {
         }
     }
 
-    /// Drops what the sink took, whatever that is.
+    /// Drops whatever the sink took.
     fn discard(&mut self, out: MemOut, durability: Durability)
         ensures kept { self.new ≡ record self.old {
           events = self.old.events ++ Close durability ∷ [];

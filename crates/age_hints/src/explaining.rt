@@ -33,7 +33,7 @@ pub fn explain<O: Sink>(rt: &HostRuntime, heard: &Heard<O>, failures: &RunFailur
     }
 }
 
-/// Says more of a fault, and of a second one; or of words that were refused.
+/// Says more about a fault, and about a second one; or about words that were refused.
 fn explain_end(rt: &HostRuntime, line: &str, second: Option<&str>, failures: &RunFailures<'_>) {
     let by_pass = failures.named_by("--pass").is_some();
     let Some(fault) = Reported::of(line, by_pass) else {
@@ -47,7 +47,7 @@ fn explain_end(rt: &HostRuntime, line: &str, second: Option<&str>, failures: &Ru
     tell_position(rt, failures);
 }
 
-/// Says of a word what it means here, if other programs take it for something else.
+/// Says what a word means here, if it means something else to other programs.
 fn explain_words_taken(rt: &HostRuntime, failures: &RunFailures<'_>) {
     if has_name("-", failures.asked) {
         let _ = eprintln!(rt;
@@ -78,7 +78,7 @@ fn explain_files(rt: &HostRuntime, failures: &RunFailures<'_>) {
     }
 }
 
-/// Says of a passphrase that a file is encrypted with what can't be typed in it.
+/// Says what can't be typed in a passphrase that a file is encrypted with.
 fn explain_typing(rt: &HostRuntime, failures: &RunFailures<'_>) {
     if let Some(Request::Encrypt(asked)) = failures.asked
         && let Some(what) = failures.typing.get().untypable()
@@ -100,7 +100,7 @@ fn tell_work(rt: &HostRuntime, failures: &RunFailures<'_>) {
     }
 }
 
-/// Says what the machine answered, if a fault came of that.
+/// Says what the machine answered, if that caused a fault.
 fn tell_failure(rt: &HostRuntime, number: u8, failure: Option<Failure<'_>>, more: &str) {
     if let Some(failure) = failure
         && failure.action.fault_number() == number
@@ -109,7 +109,7 @@ fn tell_failure(rt: &HostRuntime, number: u8, failure: Option<Failure<'_>>, more
     }
 }
 
-/// The file that a line is about, if it is about one, as the line begins.
+/// The file that a line is about, if any, with which the line begins.
 #[derive(Clone, Copy)]
 struct About<'w>(Option<&'w str>);
 
@@ -163,8 +163,8 @@ fn explain_fault(rt: &HostRuntime, fault: Reported<'_>, failures: &RunFailures<'
     }
 }
 
-/// The work factor for which a run with a passphrase takes memory: the one that it writes, or that of
-/// the file that was read last.
+/// The work factor for which a run with a passphrase needs memory: the one that it writes, or that
+/// of the file that was read last.
 fn work_asked(failures: &RunFailures<'_>) -> Option<Work> {
     match failures.asked {
         Some(Request::Encrypt(asked)) => Some(Work::Allowed(asked.log.min(22) as u8)),
@@ -173,7 +173,7 @@ fn work_asked(failures: &RunFailures<'_>) -> Option<Work> {
     }
 }
 
-/// Says of a file whose work factor is above the limit which limit would do, if one would.
+/// Says which limit would do, if one would, for a file whose work factor is above the limit.
 fn explain_work(rt: &HostRuntime, name: About<'_>, work: Work) {
     let _ = match work {
         Work::Allowed(log) => eprintln!(rt;
@@ -183,8 +183,8 @@ fn explain_work(rt: &HostRuntime, name: About<'_>, work: Work) {
     };
 }
 
-/// What a command that goes on takes over from this one: what opens the file, and IN. A file key isn't
-/// shown, and what standard input was can't be.
+/// What a command that resumes takes over from this one: what opens the file, and IN. A file key
+/// isn't shown, and standard input can't be named.
 #[derive(Clone, Copy)]
 struct Again<'r, 'w>(&'r RunFailures<'w>);
 
@@ -205,7 +205,7 @@ impl<'r, 'w> fmt::Display for Again<'r, 'w> {
     }
 }
 
-/// Says how to go on from a position that was saved, by a command for a shell.
+/// Says how to resume from a position that was saved, by a command for a shell.
 fn tell_command(rt: &HostRuntime, saved: &str, old: &str, again: Again<'_, '_>) {
     let name = Escaped(saved.as_bytes());
     let (saved, old) = (Quoted(saved), Quoted(old));
@@ -218,7 +218,7 @@ fn tell_command(rt: &HostRuntime, saved: &str, old: &str, again: Again<'_, '_>) 
     );
 }
 
-/// Says of a position that couldn't be saved how to put it into another file.
+/// Says how to put a position that couldn't be saved into another file.
 fn tell_unsaved(rt: &HostRuntime, failures: &RunFailures<'_>) {
     if let Some(text) = failures.unsaved_text.get() {
         let line = text.line();
@@ -235,13 +235,13 @@ fn is_kept(rt: &HostRuntime, name: &str) -> bool {
     }
 }
 
-/// Says where the position was saved and how to go on from there, or that none was saved though
+/// Says where the position was saved and how to resume from there, or that none was saved though
 /// that was asked for.
 fn tell_position(rt: &HostRuntime, failures: &RunFailures<'_>) {
     if let Some(saved) = failures.saved.get() {
         let output = failures.output.get();
         if output == "/dev/stdout" {
-            // (Where that went, the program can't say.)
+            // (The program can't say where that went.)
             tell_command(rt, saved, "OLD", Again(failures));
         } else if is_kept(rt, output) {
             tell_command(rt, saved, output, Again(failures));
@@ -293,7 +293,7 @@ fn is_damage(first: Failure<'_>, failures: &RunFailures<'_>) -> bool {
         )
 }
 
-/// Says which files were one, or what is wrong with one that was refused.
+/// Says which files were the same, or what is wrong with one that was refused.
 fn explain_refusal(rt: &HostRuntime, line: &str, failures: &RunFailures<'_>) {
     let last = failures.last_read.get();
     match line.strip_prefix("age_tool: ").unwrap_or("") {
@@ -314,7 +314,7 @@ fn explain_refusal(rt: &HostRuntime, line: &str, failures: &RunFailures<'_>) {
     }
 }
 
-/// Says which two names are of one file, or which options and operands have the same one.
+/// Says which two names lead to one file, or which options and operands have the same name.
 fn tell_twice(rt: &HostRuntime, failures: &RunFailures<'_>) {
     let Some((name, other)) = failures.twice.get() else {
         return;
@@ -336,7 +336,7 @@ fn tell_wrong(rt: &HostRuntime, file: Amount<'_>, what: &str) {
     let _ = eprintln!(rt; "age_tool: {name}: {what}");
 }
 
-/// Says which line of a script was refused, or that one of several options has to be given.
+/// Says which line of a script was refused, or that one of several options must be given.
 fn explain_words_left(rt: &HostRuntime, said: &str, failures: &RunFailures<'_>) {
     if let Some(number) = said.strip_prefix("bad script line ") {
         let name = Leading(failures.named_by("SCRIPT").unwrap_or("").as_bytes());

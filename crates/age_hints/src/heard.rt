@@ -8,7 +8,7 @@ use arrayvec::ArrayVec;
 /// How many bytes are kept: two lines of faults, or one of another kind.
 const KEPT_MAX: usize = 160;
 
-/// A sink that hands on what it is given, and keeps the first bytes of that.
+/// A sink that passes on what it is given, and keeps the first bytes of that.
 #[derive(Drop)]
 pub struct Heard<O: Sink> {
     sink: O,
@@ -17,7 +17,7 @@ pub struct Heard<O: Sink> {
 }
 
 impl<O: Sink> Heard<O> {
-    /// Hands on to this sink.
+    /// Passes bytes on to this sink.
     pub fn new(sink: O) -> Heard<O> {
         Heard {
             sink,
@@ -34,7 +34,7 @@ impl<O: Sink> Heard<O> {
         }
     }
 
-    /// What was handed on, if that is a text that is short enough to be kept.
+    /// What was passed on, if that is a text that is short enough to be kept.
     pub fn text(&self) -> &str {
         match str::from_utf8(self.kept.as_slice()) {
             Ok(text) if self.is_whole => text,

@@ -1,13 +1,14 @@
-//! What people read of words that ask for help, or are refused.
+//! What people read about words that ask for help, or are refused.
 
 use age_cli_args::{Wording, read_request};
 use clap::Error;
 use clap::error::ErrorKind;
 use std::alloc::{AllocError, Global};
 
-/// What people read of words with which the parser fails: help, the version, or why they are refused.
-/// Then what can't be shown of a word is shown by its code, as `age_messages` does, an option or a
-/// command of another program gets a hint, and the first line is in the words of this program.
+/// What people read about words with which the parser fails: help, the version, or why they are
+/// refused. In a refusal, what can't be shown of a word is shown by its code, as in `age_messages`,
+/// an option or a command of another program gets a hint, and the first line is in the words of
+/// this program.
 #[derive(Clone, Copy, Debug)]
 pub struct Refusals;
 
@@ -45,8 +46,8 @@ fn plain(said: &str) -> (&'static str, &str, &'static str) {
     ("", said.strip_suffix(" found").unwrap_or(said), "")
 }
 
-/// Why the parser refuses words, of which it is given the codes: it copies them into its text. (What
-/// it refuses it refuses by its codes too.)
+/// Why the parser refuses words. It is given their codes, since it copies words into its text. (It
+/// refuses the same words by their codes too.)
 fn coded_text(alloc: Global, words: &[&str]) -> Result<String, AllocError> {
     let mut coded = Vec::new(alloc);
     for word in words.iter() {
@@ -63,7 +64,7 @@ fn coded_text(alloc: Global, words: &[&str]) -> Result<String, AllocError> {
     }
 }
 
-/// A word in which whatever would begin a line or command a terminal is shown by its code.
+/// A word in which whatever would begin a line or control a terminal is shown by its code.
 fn codes_of(alloc: Global, word: &str) -> Result<String, AllocError> {
     let mut shown = String::new(alloc);
     for c in word.chars() {
@@ -109,7 +110,8 @@ fn with_hint(alloc: Global, words: &[&str], text: String) -> Result<String, Allo
     }
 }
 
-/// Of which options one is missing, where a command needs one of several: the parser doesn't know.
+/// The options of which one is missing, where a command needs one of several: the parser doesn't
+/// know.
 fn missing_choice(usage: &str, words: &[&str]) -> Option<&'static str> {
     let is_given = |option| gives(words, option);
     if usage.contains("<--pass <FILE>|--file-key <HEX>|--shared <FILE>>") {

@@ -1,4 +1,4 @@
-//! Reads a file to its end, or its header alone, and reports what it holds.
+//! Reads a file to its end, or only its header, and reports what it holds.
 
 ghost use Rattle.std.specs.Prelude.{◌≡◌, ◌^◌, ◌<◌, ◌≤◌, ℕ, List, length, Some, IfOk, IfErr, OnOk, map};
 ghost use Rattle.age_io.specs.{Origin};
@@ -16,7 +16,7 @@ use age_stanza::{Stanza, Stanzas};
 use age_stream::text_len_of;
 use std::alloc::{AllocError, Global};
 
-/// How many stanzas give their memory back at once.
+/// How many stanzas free their memory at once.
 const STANZAS_AT_ONCE: usize = 4_096;
 
 /// Counts the bytes that are left, to the end of the source.
@@ -53,7 +53,7 @@ fn stanza_report_of(alloc: Global, stanza: &Stanza) -> Result<StanzaReport, Allo
     })
 }
 
-/// The reports on stanzas. They give their memory back on the way, so that the two lists take
+/// The reports on stanzas. The stanzas free their memory on the way, so that the two lists take
 /// hardly more than the stanzas did.
 fn reports_of(alloc: Global, stanzas: Stanzas) -> Result<StanzaReports, AllocError>
     ensures { IfOk result (λ r. r ≡ map stanza_report stanzas) }
@@ -110,9 +110,9 @@ pub fn inspect<S: Source>(alloc: Global, source: &mut S) -> Result<Report, FileF
     })
 }
 
-/// Reports on a source of `len` bytes as `inspect` does, but reads no more of it than its header and
-/// what one pull gives after that. How many bytes follow the header is what `len` leaves, whatever
-/// the source would give. So a fault in reading those isn't found.
+/// Reports on a source of `len` bytes as `inspect` does, but reads no more of it than its header
+/// and what one pull gives after that. How many bytes follow the header is what `len` leaves,
+/// whatever the source would give. So a failure to read those goes unnoticed.
 ///
 /// Refuses with the header's fault (1 to 8), `Read` (26), `Memory` (28) and `ReadNeverEnds` (29).
 pub fn inspect_sized<S: Source>(

@@ -31,7 +31,7 @@ struct HeadReader {
 }
 
 impl HeadReader {
-    /// Nothing was read yet.
+    /// Nothing has been read yet.
     fn new(alloc: Global) -> HeadReader
         ensures { IsFront result [] }
     {

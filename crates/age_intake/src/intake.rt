@@ -1,4 +1,4 @@
-//! The bytes that were pulled from a source and not used yet.
+//! The bytes that were pulled from a source and haven't been used yet.
 
 ghost use Rattle.std.specs.Prelude.{◌≡◌, ◌≤◌, ℕ, List, [], length, drop, IfOk};
 ghost use Rattle.age_intake.specs.Pulls.{Passes, Refills, reader_view};
@@ -67,7 +67,7 @@ impl Intake {
         self.pulls = other.pulls;
     }
 
-    /// The bytes that were not used yet.
+    /// The bytes that haven't been used yet.
     pub fn bytes(&self) -> &[u8]
         ensures bytes { result.now ≡ self.now.bytes }
         ensures most { length result.now ≤ pull_room }
@@ -109,7 +109,7 @@ impl Intake {
         n
     }
 
-    /// Pulls, if all bytes were used. False: the source is at its end.
+    /// Pulls, if all bytes were used. False means that the source is at its end.
     pub fn refill<S: Source>(&mut self, source: &mut S) -> Result<bool, FileFault>
         requires { self.old.bytes ≡ [] }
         ensures refills { Refills (reader_view (S.view source.old) self.old)

@@ -94,7 +94,7 @@ abbrev pub BeganWith : (Began : Origin → Type 0) → GName → Supply → Opti
 BeganWith Began lent left shown (Named name) = Began (Named name)
 BeganWith Began lent left shown (Metered from) = (lent ≡ from.meter) × CountsSince from left shown
 
--- a meter was shown a whole reading: that it begins, with its length if that is known; how many
+-- a meter was shown a complete reading: that it begins, with its length if that is known; how many
 -- bytes the source gave; and that it is over
 abbrev pub ShowsReading : Option ℕ → (coming left : Supply) → (old new : Option (List Shown))
     → Type 0

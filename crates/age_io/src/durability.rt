@@ -3,7 +3,7 @@
 /// When a file that was written reaches the disk.
 #[derive(Clone, Copy, Debug, PartialEq, Eq)]
 pub enum Durability {
-    /// Before the call that ends it returns, so that a loss of power undoes nothing of it.
+    /// Before the call that ends it returns, so that a power failure undoes none of it.
     Synced,
     /// When the system writes it, some seconds later.
     Buffered,

@@ -9,7 +9,7 @@ use thiserror::Error;
 #[error("a source or a sink failed")]
 pub struct Failed;
 
-/// Memory was refused.
+/// Out of memory.
 #[derive(Clone, Copy, Debug, PartialEq, Eq, Error)]
 #[error("out of memory")]
 pub struct Memory;
@@ -22,7 +22,7 @@ impl Memory {
         28
     }
 
-    /// The place of the fault: running out of memory has none.
+    /// The place of the fault, which running out of memory doesn't have.
     pub fn place(&self) -> Option<u64>
         ensures { result ≡ None }
     {

@@ -8,7 +8,7 @@ use crate::failed::Failed;
 /// How many calls of a source or a sink have failed, and whether the last one did.
 #[derive(Clone, Copy, Debug, PartialEq, Eq)]
 pub struct Failures {
-    /// How many have failed. Once it is 2^64 - 1 it stays.
+    /// How many have failed. It stays at 2^64 - 1 once it is that.
     pub count: u64,
     /// Whether the last one did.
     pub last: bool,
@@ -25,7 +25,7 @@ impl Failures {
         }
     }
 
-    /// Counts a call, and hands on its result.
+    /// Counts a call, and returns its result.
     pub fn note<T>(&mut self, call: Result<T, Failed>) -> Result<T, Failed>
         ensures result { result ≡ call }
         ensures counted { MatchResult call (λ _. self.new.count ≡ self.old.count)

@@ -3,7 +3,8 @@
 //! A `Source` gives bytes and a `Sink` takes them. Both count their failures. `Reading` and
 //! `Writing` are those over std's readers and writers, `MemSource` and `MemSink` those over memory,
 //! which also show contracts their bytes, and fail at a call that is planned. A `Metered` source
-//! reports to a `Meter` how many bytes each pull gave. `List` is what others keep elements in.
+//! reports to a `Meter` how many bytes each pull gave. A `List` is what other crates keep elements
+//! in.
 #![tactic(auto)]
 
 mod durability;

@@ -6,7 +6,7 @@ ghost use Rattle.std.specs.Prelude.{◌≡◌, ◌↔◌, ◌++◌, ◌∷◌, [
 use std::alloc::{AllocError, Global};
 use std::marker::Model;
 
-/// Some elements in their order. An empty list takes no memory. A contract sees the list of the
+/// Some elements in their order. An empty list allocates nothing. A contract sees the list of the
 /// elements.
 #[derive(Debug, Drop)]
 pub struct List<T> {
@@ -25,7 +25,7 @@ impl<T> Model for List<T> {
 }
 
 impl<T: Drop> List<T> {
-    /// No elements. Takes no memory.
+    /// The empty list. Allocates nothing.
     pub fn new(alloc: Global) -> List<T>
         ensures { result ≡ [] }
     {
@@ -34,14 +34,14 @@ impl<T: Drop> List<T> {
         }
     }
 
-    /// The elements of a vector. Takes no memory.
+    /// The elements of a vector. Allocates nothing.
     pub fn from_vec(items: Vec<T>) -> List<T>
         ensures { result ≡ items.items }
     {
         List { items }
     }
 
-    /// The elements as a vector. Takes no memory.
+    /// The elements as a vector. Allocates nothing.
     pub fn into_vec(self) -> Vec<T>
         ensures { result.items ≡ self }
     {
@@ -69,7 +69,7 @@ impl<T: Drop> List<T> {
         self.items.is_empty()
     }
 
-    /// Adds an element at the end. If memory is refused the list stays as it was.
+    /// Adds an element at the end. If memory runs out, the list is unchanged.
     pub fn push(&mut self, item: T) -> Result<(), AllocError>
         ensures ok { OnOk result (self.new ≡ self.old ++ item ∷ []) }
         ensures err { OnErr result (self.new ≡ self.old) }
@@ -89,7 +89,7 @@ impl<T: Copy> List<T> {
         })
     }
 
-    /// Adds copies of some elements at the end. If memory is refused the list stays as it was.
+    /// Adds copies of some elements at the end. If memory runs out, the list is unchanged.
     pub fn extend_from_slice(&mut self, more: &[T]) -> Result<(), AllocError>
         ensures ok { OnOk result (self.new ≡ self.old ++ more.now) }
         ensures err { OnErr result (self.new ≡ self.old) }

@@ -100,7 +100,7 @@ impl Source for MemSource {
       failing = s.failing;
     } };
 
-    /// Leaves the slice as it was past the bytes that it gives, and all of it if it fails.
+    /// Leaves the slice unchanged past the bytes that it gives, or entirely if it fails.
     fn pull(&mut self, into: &mut [u8]) -> Result<usize, Failed>
         ensures bound { IfOk result (λ n. n ≤ length into.new) }
         ensures bytes { ReadConsumes (memory_supply self.old.given self.old.left)

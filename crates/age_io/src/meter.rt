@@ -1,10 +1,10 @@
-//! What counts how far a run is.
+//! What counts how far a run has come.
 
 ghost use Rattle.std.specs.Prelude.{◌≡◌, ℕ, List, Option, None, option_and_then};
 ghost use Rattle.age_io.specs.{begun, counted, Adds, Advances, Begins, Ends, Shown};
 
-/// Counts how far a run is, in bytes. No method returns anything, so code that is generic over a
-/// meter can report to it, but never depend on it.
+/// Counts how far a run has come, in bytes. No method returns anything, so code that is generic
+/// over a meter can report to it, but never depend on it.
 pub trait Meter {
     // How many bytes were read since the run began, if the meter counts them.
     ghost count: { Self → Option ℕ };
@@ -17,7 +17,7 @@ pub trait Meter {
         ensures count { count self.new ≡ begun (count self.old) }
         ensures shown { Adds (shown self.old) (shown self.new) (Begins length) };
 
-    /// This many bytes more were read, or passed over.
+    /// This many more bytes were read, or passed over.
     fn advance(&mut self, bytes: u64)
         ensures count { count self.new ≡ counted bytes (count self.old) }
         ensures shown { Adds (shown self.old) (shown self.new) (Advances bytes) };

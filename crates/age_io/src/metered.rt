@@ -8,7 +8,7 @@ use crate::failed::Failed;
 use crate::meter::Meter;
 use crate::source::Source;
 
-/// A source that hands on what another one gives, and reports to a meter how many bytes each pull
+/// A source that passes on what another one gives, and reports to a meter how many bytes each pull
 /// gave. The meter has begun its run before. A contract sees both.
 #[derive(Drop)]
 pub struct Metered<'m, S: Source, M: Meter> {
@@ -47,7 +47,8 @@ impl<'m, S: Source, M: Meter> Source for Metered<'m, S, M> {
         Ok(n)
     }
 
-    /// Does what the source's own does, and reports to the meter how many bytes it passed over.
+    /// Does what the source's own `skip` does, and reports to the meter how many bytes it passed
+    /// over.
     fn skip(&mut self, most: u64) -> u64
         ensures bound { result ≤ most }
         ensures skipped { Skips (S.view self.old.source).supply (S.view self.new.source).supply

@@ -65,7 +65,7 @@ impl<W: Write> Model for Writing<W> {
 }
 
 impl<W: Write> Writing<W> {
-    /// A sink that hands on to this writer.
+    /// A sink that passes bytes on to this writer.
     pub fn new(inner: W) -> Writing<W>
         ensures { result ≡ (inner, ((0, false), [])) }
     {

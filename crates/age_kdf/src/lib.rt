@@ -1,12 +1,12 @@
 //! Keys from SHA-256: HMAC (RFC 2104), HKDF (RFC 5869) and PBKDF2 with one iteration (RFC 8018).
 //!
 //! These are the three constructions under an age file (<https://c2sp.org/age>). HMAC authenticates
-//! the header; HKDF makes the header's MAC key and the payload key out of the file key; PBKDF2 with
-//! one iteration is the first and the last step of scrypt. All of them stand on SHA-256 alone.
+//! the header; HKDF derives the header's MAC key and the payload key from the file key; PBKDF2 with
+//! one iteration is the first and the last step of scrypt. All of them rest on SHA-256 alone.
 //!
 //! Each result is what the standard's formula gives on lists of bytes, for keys, salts and messages
-//! of every length. No call takes memory: a message of several parts goes into a running digest
-//! part by part and is nowhere joined.
+//! of every length. No call allocates memory: a message of several parts goes into a running digest
+//! part by part and is never joined.
 #![tactic(auto)]
 
 ghost use Rattle.std.specs.Prelude.{◌≡◌, ℕ, map, length, ◌≤◌, List};
@@ -31,7 +31,7 @@ fn key_with_zeros(key: &[u8]) -> [u8; 64]
     block
 }
 
-/// The key as a block. A key longer than a block stands as its digest first.
+/// The key as a block. A key longer than a block is replaced by its digest first.
 #[tactic(auto, unfolding(crate::specs::key_block), using(crate::proofs::BlockLemmas::length_tests))]
 fn key_block(key: &[u8]) -> [u8; 64]
     ensures { result ≡ key_block key.now }
@@ -76,8 +76,8 @@ pub fn hmac(key: &[u8], parts: &[&[u8]]) -> [u8; 32]
 }
 
 /// The 32 bytes that HKDF-SHA-256 derives from input keying material (RFC 5869), by its extract
-/// step and the first block of its expand step. An empty salt means no salt, for which 32 zero
-/// bytes stand (RFC 5869, section 2.2).
+/// step and the first block of its expand step. An empty salt means no salt, in place of which 32
+/// zero bytes are used (RFC 5869, section 2.2).
 #[tactic(auto, unfolding(crate::specs::hkdf32, crate::specs::extracted_key, crate::specs::expanded_key))]
 pub fn hkdf32(ikm: &[u8], salt: &[u8], info: &[u8]) -> [u8; 32]
     ensures { result ≡ hkdf32 ikm.now salt.now info.now }
@@ -98,7 +98,7 @@ fn pbkdf2_block(block: &[u8; 64], salt: &[u8], i: u32) -> [u8; 32]
 }
 
 /// Fills `out` with the key that PBKDF2-HMAC-SHA-256 derives in one iteration (RFC 8018, section
-/// 5.2). `out` has at most 65,536 bytes; what it held doesn't matter.
+/// 5.2). `out` has at most 65,536 bytes, and its old contents don't matter.
 pub fn pbkdf2_once(pass: &[u8], salt: &[u8], out: &mut [u8])
     requires { length out.old ≤ derived_key_limit }
     ensures { out.new ≡ pbkdf2_once pass.now salt.now (length out.old) }

@@ -1,5 +1,5 @@
--- The keys of an age file and the file of a text (C2SP age.md, "File key", "Header MAC", "Payload",
--- "Recipient stanza"), and what opening a header with them may return.
+-- The keys of an age file and the file of a plaintext (C2SP age.md, "File key", "Header MAC",
+-- "Payload", "Recipient stanza"), and what opening a header with them may return.
 use Rattle.std.specs.Prelude.{ℕ, ◌≡◌, Bool, true, false, nat_lt, ◌&&◌, List, [], ◌∷◌, length, codes}
 use Rattle.std.specs.Prelude.{replicate, Ok, ◌⊎◌, ◌+◌, ◌≤◌, Result, IfErr, ◌++◌, Option}
 use Rattle.std.specs.List.{list_any}
@@ -39,18 +39,18 @@ position_key key nonce = hkdf32 key nonce (codes "age-tool position v2")
 unfoldable pub wrapped_key : List ℕ → List ℕ → List ℕ
 wrapped_key wrap_key key = sealing wrap_key (replicate 12 0) [] key
 
--- ---- Which bytes are the age file of a text (C2SP age.md).
+-- ---- Which bytes are the age file of a plaintext (C2SP age.md).
 
--- the box of a file key and a payload nonce: how it seals a text at a chunk's nonce, and opens a
--- block there
+-- the box of a file key and a payload nonce: how it seals a plaintext at a chunk's nonce, and opens
+-- a block there
 abbrev pub box : List ℕ → List ℕ → List ℕ → List ℕ → List ℕ
 box key nonce = λ chunk_nonce text. sealing (payload_key key nonce) chunk_nonce [] text
 
 abbrev pub unbox : List ℕ → List ℕ → List ℕ → List ℕ → Option (List ℕ)
 unbox key nonce = λ chunk_nonce block. opening (payload_key key nonce) chunk_nonce [] block
 
--- the bytes are the age file of the text: the header's text, the payload nonce, and the payload in
--- chunks of 65,536 bytes
+-- the bytes are the age file of the plaintext: the header's text, the payload nonce, and the
+-- payload in chunks of 65,536 bytes
 pub record FileOf (h : Header) (key nonce text bytes : List ℕ) : Type 0 where
   pub front : List ℕ
   pub head : HeadText h front
@@ -121,7 +121,7 @@ pub record AllowsAlone (Allows : Header → List ℕ → Type 0) (Refused : Head
   pub allowed : Allows h key
   -- the unlocker allows no other key
   pub no_other : (other : List ℕ) → Allows h other → other ≡ key
-  -- the unlocker refuses the header only if memory is refused
+  -- the unlocker refuses the header only if memory runs out
   pub never : (fault : KeyFault) → Refused h fault → fault ≡ Memory
   -- the header's MAC was made under the key
   pub mac : IsMacOf h key

@@ -98,7 +98,7 @@ PassphraseRefuses w h other = ⊥
 abbrev pub passphrase_steps : PassphraseIdentity → ℕ
 passphrase_steps w = 2 * 2 ^ w.max_log
 
--- ---- Laws over the definitions alone.
+-- ---- Laws about the definitions alone.
 
 -- the passphrase that a header was made for finds the file key in it and nothing else, if the limit
 -- allows the work factor

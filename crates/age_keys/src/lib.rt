@@ -1,11 +1,11 @@
 //! From the header of an age file to the key of its payload (<https://c2sp.org/age>).
 //!
 //! A file key of 16 bytes is wrapped in the body of a stanza. An [`Unlock`] finds it there, and the
-//! header's MAC, an HMAC under a key that HKDF makes of the file key, confirms it: [`open_header`].
-//! HKDF of the file key and the payload's nonce then gives the [`PayloadKey`], under which ChaCha20
-//! and Poly1305 seal each chunk.
+//! header's MAC, an HMAC under a key that HKDF derives from the file key, confirms it:
+//! [`open_header`]. HKDF of the file key and the payload's nonce then gives the [`PayloadKey`],
+//! under which ChaCha20 and Poly1305 seal each chunk.
 //!
-//! No claim is made of constant time, and no key is wiped.
+//! Constant time isn't claimed, and no key is wiped.
 #![tactic(auto)]
 
 mod key;

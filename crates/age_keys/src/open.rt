@@ -49,7 +49,7 @@ pub fn scrypt_not_alone(header: &Header) -> bool
 }
 
 /// The MAC of a header under a file key (<https://c2sp.org/age#header-mac>). It requires
-/// [`is_header`](age_stanza::is_header). The only fault is a refusal of memory.
+/// [`is_header`](age_stanza::is_header). The only fault is running out of memory.
 #[tactic(auto, unfolding(crate::specs::Keys::header_mac))]
 pub fn mac_of(alloc: Global, header: &Header, key: &FileKey) -> Result<[u8; 32], KeyFault>
     requires { HasText header.now }

@@ -7,7 +7,7 @@ use age_chunk::PAYLOAD_NONCE_LEN;
 /// How many random bytes an age file for a passphrase is made of.
 pub const RANDOM_LEN: usize = 16 + 16 + PAYLOAD_NONCE_LEN;
 
-/// The random parts of an age file for a passphrase. They have to be new for each file.
+/// The random parts of an age file for a passphrase. They must be new for each file.
 #[derive(Clone, Copy)]
 pub struct FileRandom {
     /// The file key.

@@ -26,7 +26,7 @@ use std::alloc::{AllocError, Global};
 const LABEL: &[u8; 28] = b"age-encryption.org/v1/scrypt";
 
 /// The key that a file key is wrapped under (<https://c2sp.org/age#scrypt-recipient-stanza>). The
-/// only fault is a refusal of memory.
+/// only fault is running out of memory.
 pub(crate) fn wrap_key(
     alloc: Global,
     pass: &[u8],
@@ -193,8 +193,8 @@ fn header_of(
 /// <https://c2sp.org/age#header-mac>).
 ///
 /// It requires a passphrase of 1 to [`PASSPHRASE_LIMIT`](crate::PASSPHRASE_LIMIT) bytes and a work
-/// factor `log` of 1 to [`WORK_FACTOR_LIMIT`](crate::WORK_FACTOR_LIMIT). The only fault is a
-/// refusal of memory ([`KeyFault::Memory`]): the passphrase's table takes `1,024 * 2^log` bytes.
+/// factor `log` of 1 to [`WORK_FACTOR_LIMIT`](crate::WORK_FACTOR_LIMIT). The only fault is running
+/// out of memory ([`KeyFault::Memory`]): the passphrase's table takes `1,024 * 2^log` bytes.
 pub fn scrypt_header(
     alloc: Global,
     pass: &[u8],

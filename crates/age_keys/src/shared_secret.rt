@@ -65,7 +65,7 @@ fn hkdf_salt(share: &[u8; 32], recipient: &[u8; 32]) -> [u8; 64]
 /// in this order, a header without an X25519 stanza ([`KeyFault::NoMatch`]), a header with an
 /// X25519 stanza of another shape, or any such header if the secret is zero
 /// ([`KeyFault::BadX25519`]), and a header in which no X25519 stanza opens
-/// ([`KeyFault::WrongKey`]). It takes no memory.
+/// ([`KeyFault::WrongKey`]). It allocates nothing.
 ///
 /// docs/RECIPES.md says how to make one from a key file.
 #[derive(Drop)]

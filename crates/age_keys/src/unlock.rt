@@ -28,8 +28,8 @@ pub trait Unlock {
     /// The most steps that it makes for a header.
     ghost most_steps: { Self → ℕ };
 
-    /// The file key of a header. Nothing is changed but the count of steps, and it isn't if the
-    /// fault [is found before any work](KeyFault::is_before_work).
+    /// The file key of a header. Only the count of steps changes, and not even that if the fault
+    /// [is found before any work](KeyFault::is_before_work).
     fn unlock(&self, alloc: Global, header: &Header, steps: &mut Steps) -> Result<FileKey, KeyFault>
         ensures answer { MatchResult result (λ key. allows self.now header.now key)
             (refuses self.now header.now) }

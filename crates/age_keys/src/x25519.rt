@@ -24,12 +24,11 @@ pub(crate) fn is_x25519(stanza: &Stanza) -> bool
 }
 
 impl X25519Stanza {
-    /// Reads a stanza. It refuses a stanza of another type ([`KeyFault::NoMatch`]), and one of
-    /// another number of arguments than two, with a share that isn't the canonical base64 of 32
-    /// bytes, or with a body of another length than 32 ([`KeyFault::BadX25519`]). The length is
-    /// checked before the body is opened, since the AEAD doesn't commit to a key: a longer body
-    /// could be made to open under many keys, and whether it opens would reveal something about the
-    /// key.
+    /// Reads a stanza. It refuses a stanza of another type ([`KeyFault::NoMatch`]), and one whose
+    /// arguments aren't two, whose share isn't the canonical base64 of 32 bytes, or whose body
+    /// isn't 32 bytes long ([`KeyFault::BadX25519`]). The length is checked before the body is
+    /// opened, since the AEAD doesn't commit to a key: a longer body could be made to open under
+    /// many keys, and whether it opens would reveal something about the key.
     pub fn read(stanza: &Stanza) -> Result<X25519Stanza, KeyFault>
         ensures read { IfOk result (λ read. IsX25519Stanza stanza.now read.share read.body) }
         ensures refused { IfErr result (ReadRefuses stanza.now) }

@@ -1,5 +1,5 @@
-//! What people read if a command line says too little, or can't be read, and while a run does something
-//! that may take long.
+//! What people read if a command line says too little or can't be read, and while a run does
+//! something that may take long.
 
 use crate::escaped::{Escaped, Leading};
 use crate::failures::RunFailures;
@@ -12,7 +12,7 @@ use std::rt::HostRuntime;
 /// How many bytes of a word are looked at.
 const WORD_MAX: usize = 8192;
 
-/// From how many bytes on what is done with them takes long.
+/// From this many bytes on, handling them takes long.
 const LONG: u64 = 64 << 20;
 
 /// Says on standard error which word of the command line isn't UTF-8. One that is longer than any
@@ -47,7 +47,7 @@ pub fn announce_reading(rt: &HostRuntime) {
     }
 }
 
-/// Says that a passphrase is read from a terminal, which asks for nothing.
+/// Says that a passphrase is read from a terminal, which shows no prompt.
 pub fn announce_passphrase(rt: &HostRuntime, failures: &RunFailures<'_>, name: &str) {
     let is_typed = match name {
         "/dev/tty" => true,
@@ -61,8 +61,8 @@ pub fn announce_passphrase(rt: &HostRuntime, failures: &RunFailures<'_>, name: &
     }
 }
 
-/// Says that an earlier output is copied before the input is read on, and how long it is, if that
-/// takes long and progress is to be shown: that counts what is read of the input.
+/// Says that an earlier output is copied before more of the input is read, and how long it is, if
+/// that takes long and progress is to be shown, since progress counts what is read of the input.
 pub fn announce_copying(
     rt: &HostRuntime,
     failures: &RunFailures<'_>,
@@ -85,8 +85,8 @@ pub fn announce_copying(
     }
 }
 
-/// Says at a terminal that a run waits until what it wrote has reached the disk, if it read much: it
-/// wrote about as much.
+/// Says at a terminal that a run waits until what it wrote has reached the disk, if it read much,
+/// and so wrote about as much.
 pub fn announce_sync(rt: &HostRuntime, failures: &RunFailures<'_>) {
     if failures.last_read.get().bytes >= LONG && rt.stderr().is_terminal() {
         let _ = eprintln!(rt; "age_tool: waiting for the disk");

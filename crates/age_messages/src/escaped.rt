@@ -5,8 +5,8 @@ use std::fmt::{self, Formatter};
 /// How many characters of a word are shown, at most.
 const SHOWN_MAX: usize = 1000;
 
-/// A word, in which whatever isn't text, and whatever would begin a line or command a terminal, is
-/// shown by its code. A long word is cut.
+/// A word in which whatever isn't text, and whatever would begin a line or control a terminal, is
+/// shown by its code. A long word is truncated.
 #[derive(Clone, Copy)]
 pub struct Escaped<'a>(pub &'a [u8]);
 
@@ -28,7 +28,7 @@ impl<'a> fmt::Display for Escaped<'a> {
     }
 }
 
-/// Whether a word has more characters than are shown. A byte that is no text counts as one.
+/// Whether a word has more characters than are shown. A byte that isn't text counts as one.
 fn is_cut(word: &[u8]) -> bool {
     let mut count: usize = 0;
     for chunk in word.utf8_chunks() {
@@ -40,7 +40,7 @@ fn is_cut(word: &[u8]) -> bool {
 }
 
 /// A word at the beginning of a line, as `Escaped` shows it. A name that begins with a digit gets
-/// `./`, so that no line of a name looks like one of a fault.
+/// `./`, so that no line that begins with a name looks like a fault's.
 #[derive(Clone, Copy)]
 pub struct Leading<'a>(pub &'a [u8]);
 
@@ -53,7 +53,7 @@ impl<'a> fmt::Display for Leading<'a> {
     }
 }
 
-/// Shows as many characters of a text as are left; how many are left then.
+/// Shows as many characters of a text as are left; returns how many are left then.
 fn show_text<W: fmt::Write>(
     text: &str,
     left: usize,
@@ -78,7 +78,7 @@ fn show_char<W: fmt::Write>(c: char, f: &mut Formatter<W>) -> fmt::Result {
     }
 }
 
-/// Shows as many bytes that are no text as are left.
+/// Shows as many bytes that aren't text as are left.
 fn show_bytes<W: fmt::Write>(
     bytes: &[u8],
     left: usize,
@@ -89,13 +89,13 @@ fn show_bytes<W: fmt::Write>(
     Ok(left - shown.len())
 }
 
-/// A name as a shell takes it: a command that is shown can be given again, and a name that was made
-/// to mislead does nothing there. No character of it is left out. Any shell takes a name without a
-/// character that has to be shown by its code, and bash, zsh and ksh take that one too.
+/// A name as a shell takes it, so that a command that is shown can be pasted, and a name that was
+/// made to mislead does nothing there. No character of it is left out. Any shell takes a name
+/// without characters that must be shown by their codes; bash, zsh and ksh take those too.
 #[derive(Clone, Copy)]
 pub struct Quoted<'a>(pub &'a str);
 
-/// Whether a shell takes a character as it is.
+/// Whether a shell takes a character unquoted.
 fn is_plain(c: char) -> bool {
     c.is_ascii_alphanumeric() || matches!(c, '_' | '-' | '.' | '/' | ':' | ',' | '+' | '@' | '%')
 }
@@ -120,7 +120,7 @@ impl<'a> fmt::Display for Quoted<'a> {
     }
 }
 
-/// Shows a name between quotes, outside of which a quote of its own stands.
+/// Shows a name between quotes, with any quote of its own outside of them.
 fn quote<W: fmt::Write>(name: &str, f: &mut Formatter<W>) -> fmt::Result {
     f.write_str("'")?;
     for c in name.chars() {

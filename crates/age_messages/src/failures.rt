@@ -13,15 +13,15 @@ use std::io;
 /// What was to be done with a file.
 #[derive(Clone, Copy, PartialEq, Eq)]
 pub enum Action {
-    /// To open it, to be read.
+    /// To open it for reading.
     Open,
     /// To read it.
     Read,
-    /// To make it.
+    /// To create it.
     Create,
-    /// To make it if there is none, by the user's wish.
+    /// To create it only if it doesn't exist, as the user asked.
     Keep,
-    /// To open it to be written, or to write it.
+    /// To open it for writing, or to write it.
     Write,
     /// To end it once it has reached the disk.
     Sync,
@@ -51,7 +51,7 @@ impl Action {
     }
 }
 
-/// What could not be done with which file, and what the machine answered.
+/// What couldn't be done with which file, and what the machine answered.
 #[derive(Clone, Copy)]
 pub struct Failure<'w> {
     pub action: Action,
@@ -60,7 +60,7 @@ pub struct Failure<'w> {
 }
 
 impl<'w> Failure<'w> {
-    /// Whether a file couldn't be opened, to be read, for this reason.
+    /// Whether a file couldn't be opened for reading, for this reason.
     pub fn is_unopened(&self, kind: io::ErrorKind) -> bool {
         self.action == Action::Open && self.error.kind() == kind
     }
@@ -79,7 +79,7 @@ impl<'w> fmt::Display for Failure<'w> {
     }
 }
 
-/// If std says a kind of its own, the system's words for it.
+/// The system's words for a kind that std names in its own words.
 fn kind_text(kind: io::ErrorKind) -> Option<&'static str> {
     match kind {
         io::ErrorKind::NotFound => Some("No such file or directory"),
@@ -158,17 +158,17 @@ impl PositionText {
 
 /// What failed in a run, for a line that says so: what failed first, what kept a position from
 /// being saved, or where it was saved, which names were found to be one file, which file was read
-/// last, and which one is written. The files of a run share it. No memory is needed for a failure,
-/// since the words of the command line have the names.
+/// last, and which one is written. The files of a run share it. A failure needs no memory, since
+/// the words of the command line have the names.
 #[derive(Drop)]
 pub struct RunFailures<'w> {
-    // What the command line asks for, if its words are taken.
+    // What the command line asks for, if its words are accepted.
     pub asked: Option<Request<'w>>,
     pub first: Cell<Option<Failure<'w>>>,
     pub unsaved: Cell<Option<Failure<'w>>>,
     /// The position that couldn't be saved.
     pub unsaved_text: Cell<Option<PositionText>>,
-    // Two names of one file; only one, if the other isn't known.
+    // Two names of one file; only one if the other isn't known.
     pub twice: Cell<Option<(&'w str, Option<&'w str>)>>,
     pub last_read: Cell<Amount<'w>>,
     pub typing: Cell<Typing>,
@@ -187,7 +187,7 @@ pub struct RunFailures<'w> {
 }
 
 impl<'w> RunFailures<'w> {
-    /// None yet, of a run whose command line asks for this; nothing, if its words are refused.
+    /// Nothing yet, for a run whose command line asks for this; `None` if its words are refused.
     pub fn new(asked: Option<Request<'w>>) -> RunFailures<'w> {
         RunFailures {
             asked,
@@ -206,7 +206,7 @@ impl<'w> RunFailures<'w> {
         }
     }
 
-    /// Whether an output that is there is refused.
+    /// Whether an existing output is refused.
     pub fn keeps_outputs(&self) -> bool {
         let clobber = match self.asked {
             Some(Request::Encrypt(it)) => it.paths.clobber,
@@ -227,7 +227,7 @@ impl<'w> RunFailures<'w> {
         identity.max_log < 22 && identity.pass.is_none() && self.has_key()
     }
 
-    /// Keeps a failure, if it is the first: what follows from it isn't why the run stopped.
+    /// Keeps a failure if it is the first, since what follows from it isn't why the run stopped.
     pub fn note(&self, action: Action, name: &'w str, error: io::Error) {
         if self.first.get().is_none() {
             self.first.set(Some(Failure {

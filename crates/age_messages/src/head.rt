@@ -61,13 +61,13 @@ impl FirstBytes {
         }
     }
 
-    /// The work factor of a stanza of a passphrase that comes first, as one has to.
+    /// The work factor of a passphrase's stanza that comes first, as it must.
     pub fn work(&self) -> Option<Work> {
         let (_, rest) = self.scrypt()?;
         work_of(rest)
     }
 
-    /// The same, of a header that a passphrase can open: that stanza is the only one.
+    /// The same, for a header that a passphrase can open: its only stanza is that one.
     pub fn work_alone(&self) -> Option<Work> {
         let (salt, rest) = self.scrypt()?;
         let (_, body) = rest.split_once('\n')?;
@@ -79,7 +79,7 @@ impl FirstBytes {
         }
     }
 
-    /// The salt of a stanza of a passphrase that comes first, and what follows it.
+    /// The salt of a passphrase's stanza that comes first, and what follows it.
     fn scrypt(&self) -> Option<(&str, &str)> {
         let kept = str::from_utf8(&self.kept[..self.len.min(KEPT_MAX)]).ok()?;
         let stanza = kept.strip_prefix("age-encryption.org/v1\n-> scrypt ")?;

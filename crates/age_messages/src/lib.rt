@@ -1,5 +1,5 @@
-//! What people read while a run lasts: the line on a terminal that shows how far it is, and what takes
-//! long; and what is kept of it for the lines that come after.
+//! What people read while a run lasts: the line on a terminal that shows how far it has come, and
+//! what takes long; and what is kept for the lines that come after.
 //!
 //! A `ProgressLine` is a meter that shows how many bytes were read, on one line that it writes over
 //! and over into a sink, or in the lines of a log. `RunFailures` keeps what the machine answered when

@@ -1,5 +1,5 @@
-//! The line that shows how far a run is. Tests say what it has to be, and contracts only that no step
-//! of it fails.
+//! The line that shows how far a run has come. Tests say what it must be, and contracts only that
+//! no step of it fails.
 
 ghost use Rattle.std.specs.Prelude.{◌≤◌, ◌<◌, ◌^◌};
 
@@ -36,7 +36,7 @@ fn measure_of(bytes: u128) -> Measure
     Measure { size, name }
 }
 
-/// Appends a text; one for which the line has no room, as no count and no time is, is left out.
+/// Appends a text, or leaves it out if the line has no room for it, which no count or time needs.
 fn push(line: &mut Line, text: &[u8]) {
     let _ = line.try_extend_from_slice(text);
 }
@@ -126,7 +126,7 @@ fn left_text(whole: Option<u64>, count: u64, rate: u128) -> Line {
     text
 }
 
-/// How quick a run is, with the spaces that cover a longer text before it.
+/// How fast a run is, with the spaces that cover a longer text before it.
 fn pace(whole: Option<u64>, count: u64, rate: u128) -> Line {
     let mut text = rate_text(rate);
     push(&mut text, left_text(whole, count, rate).as_slice());

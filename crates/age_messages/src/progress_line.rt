@@ -1,4 +1,4 @@
-//! A meter that shows how far a run is. What it shows is tried by tests.
+//! A meter that shows how far a run has come. Tests check what it shows.
 
 ghost use Rattle.std.specs.Prelude.{◌≡◌, Some};
 
@@ -8,13 +8,13 @@ use crate::text::show;
 use age_io::{Meter, Sink};
 use std::time::{Clock, Instant};
 
-/// A meter that shows how far a run is: on one line of a sink, which each later line is written
-/// over, as it ends in a carriage return; or in a few lines that stand by themselves, as in a log.
+/// A meter that shows how far a run has come: on one line of a sink, which ends in a carriage
+/// return so that each later line overwrites it; or in a few separate lines, as in a log.
 ///
-/// If the length is known a line is due as the percentage rises, and otherwise, or after more was
-/// read than that, with each 64 MiB; in a log with each tenth, or each 10 GiB. At the end comes the
-/// last line, unless it was shown. A line on a terminal also says by a clock how quick the run is,
-/// and how long the rest takes. What the sink fails to take is left out.
+/// If the length is known, a line is due as the percentage rises, and otherwise, or after more than
+/// that was read, with each 64 MiB; in a log with each tenth, or each 10 GiB. At the end comes the
+/// last line, unless it was shown. A line on a terminal also says how fast the run is, and how long
+/// the rest takes. What the sink fails to take is left out.
 #[derive(Drop)]
 pub struct ProgressLine<O: Sink, C: Clock + Drop> {
     sink: O,
@@ -57,7 +57,7 @@ impl<O: Sink, C: Clock + Drop> ProgressLine<O, C> {
     }
 }
 
-/// How many milliseconds have passed, by a clock; none, if it can't be read.
+/// How many milliseconds have passed, by a clock; none if it can't be read.
 fn millis_since<C: Clock>(begun: Option<Instant>, clock: &C) -> u64 {
     match (begun, Instant::now(clock)) {
         (Some(begun), Ok(now)) => {

@@ -1,8 +1,8 @@
-//! A text into a sink.
+//! Writes a text to a sink.
 
 use age_io::{Failed, Sink};
 
-/// Writes a text, in one put if the sink takes it so, and sends it on.
+/// Writes a text, in one put if the sink takes it so, and flushes it.
 fn put_all<O: Sink>(sink: &mut O, text: &[u8]) -> Result<(), Failed> {
     let mut at = 0;
     while at < text.len() {
@@ -11,7 +11,7 @@ fn put_all<O: Sink>(sink: &mut O, text: &[u8]) -> Result<(), Failed> {
     sink.flush()
 }
 
-/// Writes a text and sends it on; a failure is ignored.
+/// Writes a text and flushes it; a failure is ignored.
 pub(crate) fn show<O: Sink>(sink: &mut O, text: &[u8]) {
     let _ = put_all(sink, text);
 }

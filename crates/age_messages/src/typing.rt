@@ -3,7 +3,7 @@
 /// How many bytes of a line a terminal takes.
 const LINE_MAX: u32 = 4095;
 
-/// What no keyboard gives where text is UTF-8.
+/// What no keyboard types where text is UTF-8.
 const NO_TEXT: &str = "bytes that are no UTF-8";
 
 /// What is left of a character: so many bytes, the next of which is in this range.

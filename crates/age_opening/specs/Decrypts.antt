@@ -46,18 +46,18 @@ StartFails Allows Refused old new fault = HeadFails (IsEarly Allows) old new fau
 
 -- ---- A file that is undamaged.
 
--- the source is an age file of this text, and the unlocker opens it
+-- the source is an age file of this plaintext, and the unlocker opens it
 pub record IsWhole (Allows : Header → List ℕ → Type 0) (Refused : Header → KeyFault → Type 0)
     (coming : Supply) (text : List ℕ) : Type 0 where
   pub header : Header
   pub key : List ℕ
   pub nonce : List ℕ
   pub bytes : List ℕ
-  -- the bytes are the age file of the text, with this header, key and nonce
+  -- the bytes are the age file of the plaintext, with this header, key and nonce
   pub file : FileOf header key nonce text bytes
   -- the source has these bytes and no more
   pub all : coming.left ≡ Some bytes
-  -- the text isn't too long for a payload
+  -- the plaintext isn't too long for a payload
   pub few : chunk_count chunk_length text ≤ chunk_limit
   -- no scrypt stanza stands beside another stanza
   pub alone : ¬ IsScryptNotAlone header
@@ -66,8 +66,8 @@ pub record IsWhole (Allows : Header → List ℕ → Type 0) (Refused : Header �
   -- the unlocker fails only if memory runs out
   pub never : (fault : KeyFault) → Refused header fault → fault ≡ KeyMemory
 
--- the source is a whole file, and its last block, if that is full, doesn't open as one before the
--- last
+-- the source is a complete file, and its last block, if that is full, doesn't open as one before
+-- the last
 pub record IsUndamagedFile (Allows : Header → List ℕ → Type 0) (Refused : Header → KeyFault → Type 0)
     (coming : Supply) (text : List ℕ) : Type 0 where
   pub whole : IsWhole Allows Refused coming text
@@ -83,11 +83,12 @@ StopsOutside other = ⊥
 
 -- ---- What a decryption promises.
 
--- exactly this text was written, and its bytes are this many
+-- exactly this plaintext was written, and its bytes are this many
 abbrev pub WritesText : Taken → Taken → ℕ → List ℕ → Type 0
 WritesText old new written text = Appends old new text × (written ≡ length text)
 
--- How a decryption begins. From a file's start and from a position it promises the same, but for this.
+-- How a decryption begins. From a file's start and from a position it promises the same, except for
+-- this.
 pub record Beginning : Type 1 where
   -- where the run begins, if it comes to the payload
   pub run : Run → Type 0
@@ -127,7 +128,7 @@ module _ (keep : PositionPolicy) (Allows : Header → List ℕ → Type 0) (begu
     -- the run, if it came to the payload
     pub run : Option Run
     pub answers : DecryptAnswers run result
-    -- after Ok the sink sent on what it took
+    -- after Ok the sink has passed on what it took
     pub flushed : OnOk result (new.sink.flushed ≡ true)
     -- the sink keeps its label
     pub named : new.sink.taken.label ≡ old.sink.taken.label

@@ -25,7 +25,8 @@ use Rattle.age_opening.specs.declared.decryption.Done.{Done}
 use Rattle.age_opening.specs.declared.decryption.Stopped.{Stopped}
 use Rattle.age_position.specs.declared.position.PositionPolicy.{PositionPolicy}
 
--- ---- Runs in a row, each from the file's start, or with the output of the run before as its old text.
+-- ---- Runs in a row, each from the file's start, or with the output of the run before as its
+-- earlier output.
 
 -- a run, and the position that it began from, if any; if it stopped in the blocks that are skipped, no
 -- bytes are after them
@@ -58,9 +59,9 @@ BeginsAfter before (Some p) r = (r.first ≡ p.index) × IsPrefixOf r.copied bef
 -- a run follows on earlier ones
 pub record FollowsOn (text : List ℕ) (earlier : List BegunRun) (r : BegunRun) : Type 0 where
   pub begins : BeginsAfter (held_last earlier) r.from r.run
-  -- after its old text it wrote the beginning of the text that it released
+  -- after its earlier output it wrote a prefix of the plaintext that it released
   pub prefix : IsPrefixOf r.run.out (run_text r.run)
-  -- no block that came and is tried opens, except as the writer of this text sealed it
+  -- no block that came and is tried opens, except as the writer of this plaintext sealed it
   pub authentic : IsTexts text r.run
 
 abbrev pub AllFollow : List ℕ → List BegunRun → Type 0
@@ -69,13 +70,15 @@ AllFollow text (r ∷ earlier) = FollowsOn text earlier r × AllFollow text earl
 
 -- what the last of such runs wrote, and which positions it handed out
 pub record WritesRight (text : List ℕ) (r : BegunRun) : Type 0 where
-  -- what it wrote begins the text
+  -- what it wrote is a prefix of the plaintext
   pub prefix : IsPrefixOf (held r.run) text
-  -- what one more run wrote that stopped while it copied that output begins the text too
+  -- what one more run wrote that stopped while it copied that output is a prefix of the plaintext
+  -- too
   pub in_copy : (copied : List ℕ) → IsPrefixOf copied (held r.run) → IsPrefixOf copied text
-  -- it wrote all of the text if it ended with all of its text written
+  -- it wrote all of the plaintext if it ended with all of its plaintext written
   pub all : r.run.out ≡ run_text r.run → (run_outcome r.run).status ≡ AllDone → held r.run ≡ text
-  -- each position that it handed out, or began from, carries the chain over the text's first chunks
+  -- each position that it handed out, or began from, carries the chain over the plaintext's first
+  -- chunks
   pub carries : (p : Position) → Hands r.run p ⊎ IsSomeAnd r.from (λ from. IsSame from p)
       → CarriesText text p
 
@@ -84,11 +87,11 @@ RunsInARow = (text : List ℕ) (last : BegunRun) (earlier : List BegunRun)
     → chunk_count chunk_length text ≤ chunk_limit → AllFollow text (last ∷ earlier)
     → WritesRight text last
 
--- ---- Calls in a row, each from the file's start, or with what the sink of the call before took, or
--- its beginning, as its old text. What each call did is what its contract promises.
+-- ---- Calls in a row, each from the file's start, or with what the sink of the call before took,
+-- or its beginning, as its earlier output. What each call did is what its contract promises.
 
--- the sink took all of the text if the call is done, and else its beginning; and a position that is
--- handed out is right
+-- the sink took all of the plaintext if the call is done, and else its beginning; and a position
+-- that is handed out is right
 abbrev pub AnswersRight : List ℕ → List ℕ → Result Done Stopped → Type 0
 AnswersRight text took result = MatchResult result (λ done. took ≡ text)
     (λ stopped. IsPrefixOf took text × IfSome stopped.position (CarriesText text))
@@ -115,15 +118,15 @@ module _ (Who : Type 0) (Allows : Who → Header → List ℕ → Type 0)
   last_took [] = []
   last_took (c ∷ earlier) = c.took
 
-  -- what the source of the old text gave begins what the sink of the call before took, from whatever
-  -- position the call begins
+  -- what the source of the earlier output gave begins what the sink of the call before took, from
+  -- whatever position the call begins
   abbrev pub AreInARow : List DecryptCall → Type 0
   AreInARow [] = Unit {0}
   AreInARow (c ∷ earlier) = IfSome c.from (λ e. (given : List ℕ)
       → Consumes e.first.supply e.last.supply given → IsPrefixOf given (last_took earlier))
       × AreInARow earlier
 
-  -- the run of each call, if it came to its payload, is authentic for one text
+  -- the run of each call, if it came to its payload, is authentic for one plaintext
   abbrev pub AreTexts : List ℕ → List DecryptCall → Type 0
   AreTexts text [] = Unit {0}
   AreTexts text (c ∷ earlier) = IfSome c.run (IsTexts text) × AreTexts text earlier
@@ -137,26 +140,26 @@ module _ (Who : Type 0) (Allows : Who → Header → List ℕ → Type 0)
   CallsInARow = (text : List ℕ) (calls : List DecryptCall) → chunk_count chunk_length text ≤ chunk_limit
       → AreInARow calls → AreTexts text calls → AllAnswerRight text calls
 
--- ---- Bound positions: what a position that carries a text's chain says of a resumed run.
+-- ---- Bound positions: what a position that carries a plaintext's chain says of a resumed run.
 
--- the position binds a run that begins from it to this text
+-- the position binds a run that begins from it to this plaintext
 pub record BindsTo (text : List ℕ) (p : Position) (r : Run) : Type 0 where
   pub few : chunk_count chunk_length text ≤ chunk_limit
   pub index : r.first ≡ p.index
   pub old_text : IsOldText p r.copied
-  -- the position carries the chain over the text's first chunks, and the bytes that were copied
-  -- have that chain only if they are these chunks
+  -- the position carries the chain over the plaintext's first chunks, and the bytes that were
+  -- copied have that chain only if they are these chunks
   pub to : IsBoundTo p r.copied text
-  -- no block that came and is tried opens, except as the writer of this text sealed it
+  -- no block that came and is tried opens, except as the writer of this plaintext sealed it
   pub authentic : IsTexts text r
 
--- the copied bytes are the text's, and what was written begins it
+-- the copied bytes are the plaintext's, and what was written begins it
 pub record Bound (text : List ℕ) (p : Position) (r : Run) : Type 0 where
   pub copied : r.copied ≡ take (p.index * chunk_length) text
   pub begins : IsPrefixOf (held r) text
 
--- every run that a position binds to a text is bound; and if the call is done, all of the text was
--- written
+-- every run that a position binds to a plaintext is bound; and if the call is done, all of the
+-- plaintext was written
 module _ (Who : Type 0) (Allows : Who → Header → List ℕ → Type 0) where
   abbrev pub RunsAreBound : Type 0
   RunsAreBound = (who : Who) (text : List ℕ) (p : Position) (old new : Ports) (written : ℕ) (r : Run)
@@ -168,8 +171,9 @@ module _ (Who : Type 0) (Allows : Who → Header → List ℕ → Type 0) where
 
 -- ---- What follows of one run, and of one call.
 
--- of a run that is authentic: what it wrote begins the text, each of its positions carries the
--- chain over the text's first chunks, and if it is done, all of the text was written
+-- of a run that is authentic: what it wrote is a prefix of the plaintext, each of its positions
+-- carries the chain over the plaintext's first chunks, and if it is done, all of the plaintext was
+-- written
 abbrev pub AuthenticRuns : (Who : Type 0) → (Who → Header → List ℕ → Type 0) → Type 0
 AuthenticRuns Who Allows = (who : Who) (old new : Ports) (written : ℕ) (r : Run) (text : List ℕ)
     → r.first < chunk_limit → IsAuthenticRun r text
@@ -188,7 +192,8 @@ abbrev pub IsUndamagedFrom : (Header → List ℕ → Type 0) → (Header → Ke
 IsUndamagedFrom Allows Refused None coming text = IsUndamagedFile Allows Refused coming text
 IsUndamagedFrom Allows Refused (Some e) coming text = IsUndamagedRest Allows Refused e coming text
 
--- the text of an age file that is undamaged is written, unless reading, writing or memory fails
+-- the plaintext of an age file that is undamaged is written, unless reading, writing or memory
+-- fails
 abbrev pub UndamagedIsWritten : (Who : Type 0) → (Who → Header → List ℕ → Type 0)
     → (Who → Header → KeyFault → Type 0) → Type 0
 UndamagedIsWritten Who Allows Refused = (keep : PositionPolicy) (who : Who) (from : Option Resumption)
@@ -200,8 +205,8 @@ UndamagedIsWritten Who Allows Refused = (keep : PositionPolicy) (who : Who) (fro
 
 -- ---- What a source gave, whatever it is over.
 
--- what a source gave is the age file of this text, which the unlocker opens, and the source is at
--- its end
+-- what a source gave is the age file of this plaintext, which the unlocker opens, and the source is
+-- at its end
 pub record GaveFile (Allows : Header → List ℕ → Type 0) (old new : Supply) (text : List ℕ)
     : Type 0 where
   pub header : Header
@@ -213,16 +218,17 @@ pub record GaveFile (Allows : Header → List ℕ → Type 0) (old new : Supply)
   pub opens : Opens Allows header key
   pub at_end : IsAtEnd new
 
--- the old text gave this text's chunks before the position, which have the position's chain, and at
--- most one pull more
+-- the earlier output gave this plaintext's chunks before the position, which have the position's
+-- chain, and at most one pull more
 pub record GaveOld (p : Position) (old new : Supply) (text : List ℕ) : Type 0 where
   pub more : List ℕ
   pub read : Consumes old new (take (p.index * chunk_length) text ++ more)
   pub few : length more ≤ pull_room
   pub carries : CarriesText text p
 
--- a source gave the header and the nonce of the position's file, which the unlocker opens, the blocks
--- before the position's chunk, and then the payload of this text from that chunk on, to its end
+-- a source gave the header and the nonce of the position's file, which the unlocker opens, the
+-- blocks before the position's chunk, and then the payload of this plaintext from that chunk on, to
+-- its end
 pub record GaveRest (Allows : Header → List ℕ → Type 0) (p : Position) (old new : Supply)
     (text : List ℕ) : Type 0 where
   pub file : OpenedFile
@@ -230,15 +236,15 @@ pub record GaveRest (Allows : Header → List ℕ → Type 0) (p : Position) (ol
   -- the blocks before are counted, and not opened
   pub skipped : List ℕ
   pub size : length skipped ≡ p.index * block_length
-  -- the text has that chunk
+  -- the plaintext has that chunk
   pub below : p.index < chunk_count chunk_length text
   pub few : chunk_count chunk_length text ≤ chunk_limit
   pub read : Reads Allows old new file (skipped
       ++ drop (p.index * block_length) (payload (box file.key file.nonce) chunk_length text))
   pub at_end : IsAtEnd new
 
--- what the sources gave is this text's: its age file; or, if it was resumed, its chunks before the
--- position and the rest of its payload
+-- what the sources gave is this plaintext's: its age file; or, if it was resumed, its chunks before
+-- the position and the rest of its payload
 abbrev pub GaveText : (Header → List ℕ → Type 0) → Option Resumption → Supply → Supply → List ℕ → Type 0
 GaveText Allows None old new text = GaveFile Allows old new text
 GaveText Allows (Some e) old new text = GaveOld e.position e.first.supply e.last.supply text
@@ -246,7 +252,7 @@ GaveText Allows (Some e) old new text = GaveOld e.position e.first.supply e.last
 
 module _ (Who : Type 0) (Allows : Who → Header → List ℕ → Type 0)
     (Refused : Who → Header → KeyFault → Type 0) where
-  -- if a decryption is done, its sources gave a text, and what its sink took is exactly that
+  -- if a decryption is done, its sources gave a plaintext, and what its sink took is exactly that
   abbrev pub DoneGaveText : Type 0
   DoneGaveText = (keep : PositionPolicy) (who : Who) (from : Option Resumption) (old new : Ports)
       (result : Result Done Stopped)
@@ -255,8 +261,8 @@ module _ (Who : Type 0) (Allows : Who → Header → List ℕ → Type 0)
       × GaveText (Allows who) from old.source.supply new.source.supply text
       × WritesText old.sink.taken new.sink.taken done.written text)
 
-  -- and so is all that was to come of a source that shows it, from its start; a sink that shows what
-  -- it holds then holds the text after what it held
+  -- and so is all that was to come of a source that shows it, from its start; a sink that shows
+  -- what it holds then holds the plaintext after what it held
   abbrev pub DoneIsFile : Type 0
   DoneIsFile = (keep : PositionPolicy) (who : Who) (old new : Ports) (result : Result Done Stopped)
       (coming held : List ℕ)
@@ -266,8 +272,8 @@ module _ (Who : Type 0) (Allows : Who → Header → List ℕ → Type 0)
       × FileOf header key nonce text coming × (new.sink.taken.contents ≡ Some (held ++ text)))
 
 -- a source gave the header and the nonce of the position's file, which the unlocker opens, and at
--- least the blocks before the position's chunk: they begin the payload of each text that begins with
--- this text's chunks before the position, and has more
+-- least the blocks before the position's chunk: they begin the payload of each plaintext that
+-- begins with this plaintext's chunks before the position, and has more
 pub record GaveFront (Allows : Header → List ℕ → Type 0) (p : Position) (old new : Supply)
     (text : List ℕ) : Type 0 where
   pub file : OpenedFile
@@ -280,8 +286,8 @@ pub record GaveFront (Allows : Header → List ℕ → Type 0) (p : Position) (o
       → IsPrefixOf (take (p.index * block_length)
       (payload (box file.key file.nonce) chunk_length whole)) rest
 
--- if a decryption stops at a position, its source gave the blocks before it, of the text that its
--- sink took
+-- if a decryption stops at a position, its source gave the blocks before it, of the plaintext that
+-- its sink took
 abbrev pub StoppedGaveFront : (Who : Type 0) → (Who → Header → List ℕ → Type 0)
     → (Who → Header → KeyFault → Type 0) → Type 0
 StoppedGaveFront Who Allows Refused = (keep : PositionPolicy) (who : Who) (old new : Ports)
@@ -292,8 +298,8 @@ StoppedGaveFront Who Allows Refused = (keep : PositionPolicy) (who : Who) (old n
     × WritesText old.sink.taken new.sink.taken stopped.written text))
 
 -- if a decryption stops at a position, and one that is resumed from there is done, in the same file
--- by the same key, over the same blocks and after the same text, then the source of the second gave
--- the age file of all that its sink took
+-- by the same key, over the same blocks and after the same plaintext, then the source of the second
+-- gave the age file of all that its sink took
 abbrev pub RestIsFile : (Who : Type 0) → (Who → Header → List ℕ → Type 0) → Type 0
 RestIsFile Who Allows = (first next : Who) (p : Position) (was became old new : Supply)
     (before text : List ℕ) (front : GaveFront (Allows first) p was became before)

@@ -22,30 +22,31 @@ use Rattle.age_intake.specs.{IsByAllPulls, NoneFailed, Ports, ReadFailed, WriteF
 use Rattle.age_opening.specs.Decrypts.{Beginning, StartFails, IsUndamagedFile, from_start}
 use Rattle.age_opening.specs.declared.decryption.Stopped.{Stopped}
 
--- ---- The old text that a position was made for.
+-- ---- The earlier output that a position was made for.
 
--- the old text begins with the chunks of this text before the position's
+-- the earlier output begins with the chunks of this plaintext before the position's
 pub record BeginsWith (p : Position) (old_coming : Supply) (text : List ℕ) : Type 0 where
   pub all : List ℕ
   pub shown : old_coming.left ≡ Some all
   pub within : p.index * chunk_length ≤ length text
   pub begins : IsPrefixOf (take (p.index * chunk_length) text) all
 
--- the position carries the chain over the first chunks of a text, and these bytes have another
+-- the position carries the chain over the first chunks of a plaintext, and these bytes have another
 -- chain if they are other bytes
 pub record IsBoundTo (p : Position) (copied text : List ℕ) : Type 0 where
   pub carries : CarriesText text p
   pub distinct : chain_over p.index copied ≡ chain_over p.index text
       → copied ≡ take (p.index * chunk_length) text
 
--- the text that the position was made for: its chunks have the position's chain
+-- the plaintext that the position was made for: its chunks have the position's chain
 pub record IsOldText (p : Position) (copied : List ℕ) : Type 0 where
   pub size : length copied ≡ p.index * chunk_length
   pub same : chain_over p.index copied ≡ p.chain
 
 -- ---- What a resumed decryption reads and writes before its payload.
 
--- what it goes on from: a position, and what is seen of the old text's source, before and after
+-- what it goes on from: a position, and what is seen of the earlier output's source, before and
+-- after
 pub record Resumption : Type 0 where
   pub position : Position
   pub first : SourceView
@@ -54,9 +55,9 @@ pub record Resumption : Type 0 where
 abbrev pub resumption : Position → SourceView → SourceView → Resumption
 resumption position first last = record { position = position; first = first; last = last }
 
--- only these bytes of the old text were written
+-- only these bytes of the earlier output were written
 pub record WritesOld (e : Resumption) (old new : Ports) (written : ℕ) (copied : List ℕ) : Type 0 where
-  -- what was read of the old text
+  -- what was read of the earlier output
   pub pulled : List ℕ
   pub read : Consumes e.first.supply e.last.supply pulled
   -- it is at most one pull more than the position needs
@@ -65,7 +66,8 @@ pub record WritesOld (e : Resumption) (old new : Ports) (written : ℕ) (copied 
   pub front : IsPrefixOf copied pulled
   pub wrote : Appends old.sink.taken new.sink.taken copied
   pub count : written ≡ length copied
-  -- if the old text begins with the chunks of a text before the position, they begin that text
+  -- if the earlier output begins with the chunks of a plaintext before the position, they begin
+  -- that plaintext
   pub of : (text : List ℕ) → BeginsWith e.position e.first.supply text → IsPrefixOf copied text
 
 -- a run that begins from a position
@@ -73,16 +75,16 @@ pub record IsFrom (e : Resumption) (r : Run) : Type 0 where
   pub index : r.first ≡ e.position.index
   -- the position is the file's, and was made under its key
   pub own : BelongsTo e.position r.file
-  -- what was copied is the text that the position was made for
+  -- what was copied is the plaintext that the position was made for
   pub old_text : IsOldText e.position r.copied
-  -- of the old text at most one pull more was read, and no pull failed
+  -- of the earlier output at most one pull more was read, and no pull failed
   pub more : List ℕ
   pub old_read : Consumes e.first.supply e.last.supply (r.copied ++ more)
   pub few : length more ≤ pull_room
   pub unfailed : e.last.failed ≡ e.first.failed
 
--- ---- Why a resumed decryption stopped, and what it did: before the old text, in it, in the blocks
--- that are skipped, or in the payload.
+-- ---- Why a resumed decryption stopped, and what it did: before the earlier output, in it, in the
+-- blocks that are skipped, or in the payload.
 
 -- | A stop                | with the fault              | What was written   | Position           |
 -- |-----------------------|-----------------------------|--------------------|--------------------|
@@ -91,8 +93,8 @@ pub record IsFrom (e : Resumption) (r : Run) : Type 0 where
 -- | in the skipped blocks | 20, 26, 29                  | the old text       | where it began     |
 -- | in the payload        | 17 to 22, 26, 27, 29        | that and more text | where it stopped   |
 
--- the file and the old text together gave bytes by 2^63 pulls, and so are taken for sources that
--- never end
+-- the file and the earlier output together gave bytes by 2^63 pulls, and so are taken for sources
+-- that never end
 abbrev pub NeverEndTogether : Resumption → Ports → Ports → Type 0
 NeverEndTogether e old new = (bytes : List ℕ) × (texts : List ℕ)
     × Consumes old.source.supply new.source.supply bytes
@@ -104,16 +106,16 @@ module _ (Allows : Header → List ℕ → Type 0) (e : Resumption) (old new : P
   HasOpened f = (rest : List ℕ) × (length rest ≤ pull_room)
       × Reads Allows old.source.supply new.source.supply f rest
 
-  -- Before the old text: the position is another file's, or wasn't made under this file's key; or
-  -- there is no payload
+  -- Before the earlier output: the position is another file's, or wasn't made under this file's
+  -- key; or there is no payload
   abbrev pub BeforeOldFails : (Header → KeyFault → Type 0) → FileFault → Type 0
   BeforeOldFails Refused OtherFile = (f : OpenedFile) × HasOpened f × (HasId e.position f → ⊥)
   BeforeOldFails Refused PositionForged =
       (f : OpenedFile) × HasOpened f × HasId e.position f × (HasTag e.position f → ⊥)
   BeforeOldFails Refused fault = StartFails Allows Refused old.source new.source fault
 
-  -- While the old text is copied, a failed read of it leaves all that it gave written; so does its
-  -- end, and a source that never ends
+  -- While the earlier output is copied, a failed read of it leaves all that it gave written; so
+  -- does its end, and a source that never ends
   abbrev pub CopyFails : (pulled copied : List ℕ) → FileFault → Type 0
   CopyFails pulled copied ShortText = (copied ≡ pulled) × IsAtEnd e.last.supply
   CopyFails pulled copied Read = (copied ≡ pulled) × NoneFailed old new
@@ -122,15 +124,15 @@ module _ (Allows : Header → List ℕ → Type 0) (e : Resumption) (old new : P
   CopyFails pulled copied Write = WriteFailed old new × (e.last.failed ≡ e.first.failed)
   CopyFails pulled copied other = ⊥
 
-  -- all of it up to the position was copied, and isn't the text that the position was made for; or
-  -- less was copied
+  -- all of it up to the position was copied, and isn't the plaintext that the position was made
+  -- for; or less was copied
   abbrev pub InOldFails : (pulled copied : List ℕ) → FileFault → Type 0
   InOldFails pulled copied OldTextDiffers = (length copied ≡ e.position.index * chunk_length)
       × (chain_over e.position.index copied ≢ e.position.chain)
   InOldFails pulled copied fault = (length copied < e.position.index * chunk_length)
       × CopyFails pulled copied fault
 
-  -- a stop in the old text has no position
+  -- a stop in the earlier output has no position
   pub record StopsInOld (stopped : Stopped) : Type 0 where
     pub file : OpenedFile
     pub opened : HasOpened file
@@ -140,7 +142,7 @@ module _ (Allows : Header → List ℕ → Type 0) (e : Resumption) (old new : P
     pub nowhere : stopped.position ≡ None
     pub why : InOldFails writes.pulled copied stopped.fault
 
-  -- While blocks are skipped, the file ends, after a number of whole ones that the fault names, or
+  -- While blocks are skipped, the file ends, after a number of full ones that the fault names, or
   -- no more comes of it
   abbrev pub InSkippedFails : (skipped : List ℕ) → FileFault → Type 0
   InSkippedFails skipped (Stream fault) = (fault.kind ≡ Truncated)
@@ -150,8 +152,8 @@ module _ (Allows : Header → List ℕ → Type 0) (e : Resumption) (old new : P
   InSkippedFails skipped ReadNeverEnds = NeverEndTogether e old new
   InSkippedFails skipped other = ⊥
 
-  -- a stop in the blocks that are skipped has the old text written, and the position that the call
-  -- began from, whether positions are kept or dropped
+  -- a stop in the blocks that are skipped has the earlier output written, and the position that the
+  -- call began from, whether positions are kept or dropped
   pub record StopsInSkipped (stopped : Stopped) : Type 0 where
     pub file : OpenedFile
     pub skipped : List ℕ
@@ -165,13 +167,13 @@ module _ (Allows : Header → List ℕ → Type 0) (e : Resumption) (old new : P
     pub here : stopped.position ≡ Some e.position
     pub why : InSkippedFails skipped stopped.fault
 
-  -- a stop before the old text wrote nothing, and has no position
+  -- a stop before the earlier output wrote nothing, and has no position
   abbrev pub StopsBeforeOld : (Header → KeyFault → Type 0) → Stopped → Type 0
   StopsBeforeOld Refused stopped = WritesNone old new stopped × (e.last ≡ e.first)
       × BeforeOldFails Refused stopped.fault
 
--- how a decryption begins from a position: it stops before the old text, in it, in the blocks that are
--- skipped, or in the payload
+-- how a decryption begins from a position: it stops before the earlier output, in it, in the blocks
+-- that are skipped, or in the payload
 abbrev pub from_position : (Header → List ℕ → Type 0) → (Header → KeyFault → Type 0) → Resumption → Beginning
 from_position Allows Refused e = record {
   run = IsFrom e;
@@ -188,16 +190,16 @@ from_either Allows Refused (Some e) = from_position Allows Refused e
 
 -- ---- A file that is undamaged from a position on.
 
--- an undamaged file of this text is to be resumed at this position
+-- an undamaged file of this plaintext is to be resumed at this position
 pub record IsUndamagedRest (Allows : Header → List ℕ → Type 0) (Refused : Header → KeyFault → Type 0)
     (e : Resumption) (coming : Supply) (text : List ℕ) : Type 0 where
   pub is : IsUndamagedFile Allows Refused coming text
-  -- the position is of a chunk that the text has
+  -- the position is of a chunk that the plaintext has
   pub below : e.position.index < chunk_count chunk_length text
   -- the position is the file's, and was made under its key
   pub own : e.position.file_id ≡ file_id is.whole.file.front is.whole.nonce
   pub tagged : IsTagged e.position is.whole.key is.whole.nonce
-  -- the position carries the chain over the text's first chunks
+  -- the position carries the chain over the plaintext's first chunks
   pub carries : e.position.chain ≡ chain_over e.position.index text
-  -- the old text begins with these chunks
+  -- the earlier output begins with these chunks
   pub old_text : BeginsWith e.position e.first.supply text

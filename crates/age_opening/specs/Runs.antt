@@ -21,7 +21,7 @@ use Rattle.age_position.specs.declared.position.PositionPolicy.TheVariants.{Kept
 use Rattle.age_intake.specs.{Ports, NoneFailed, ReadFailed, WriteFailed}
 
 -- ---- A run: what was read of an age file, and what was written. A decryption is a run that begins
--- with chunk 0; a resumed one begins with the chunk of its position, after the old text.
+-- with chunk 0; a resumed one begins with the chunk of its position, after the earlier output.
 
 -- a file whose header was opened and whose nonce was read
 pub record OpenedFile : Type 0 where
@@ -30,9 +30,9 @@ pub record OpenedFile : Type 0 where
   pub key : List ℕ
   pub nonce : List ℕ
 
--- a run: the file that was opened, the chunk that the run begins with, the old text that was copied
--- and the blocks that were skipped before it, the bytes that were read after them, whether the
--- source ended there, and what was written after the old text
+-- a run: the file that was opened, the chunk that the run begins with, the earlier output that was
+-- copied and the blocks that were skipped before it, the bytes that were read after them, whether
+-- the source ended there, and what was written after the earlier output
 pub record Run : Type 0 where
   pub file : OpenedFile
   pub first : ℕ
@@ -51,7 +51,7 @@ pub record IsFromStart (r : Run) : Type 0 where
 abbrev pub segment_of : Run → Segment
 segment_of r = record { start = r.first; bytes = r.bytes; ended = r.ended; late = false }
 
--- the outcome of the bytes, and the text that they release: every chunk of it was opened
+-- the outcome of the bytes, and the plaintext that they release: every chunk of it was opened
 abbrev pub run_outcome : Run → Outcome
 run_outcome r = outcome (unbox r.file.key r.file.nonce) chunk_length (segment_of r)
 
@@ -70,8 +70,8 @@ pub record Reads (Allows : Header → List ℕ → Type 0) (old new : Supply) (f
   pub size : length f.nonce ≡ 16
   pub read : Consumes old new ((f.header_bytes ++ f.nonce) ++ rest)
 
--- the run matches what was read and written: this many bytes, the old text and then the beginning
--- of the text that was released
+-- the run matches what was read and written: this many bytes, the earlier output and then a prefix
+-- of the plaintext that was released
 pub record IsRun (Allows : Header → List ℕ → Type 0) (old new : Ports) (written : ℕ) (r : Run)
     : Type 0 where
   pub reads : Reads Allows old.source.supply new.source.supply r.file (r.skipped ++ r.bytes)
@@ -84,13 +84,13 @@ pub record IsRun (Allows : Header → List ℕ → Type 0) (old new : Ports) (wr
 
 -- ---- A run that is authentic.
 
--- every block that is tried and opens is one that the writer of this text sealed there
+-- every block that is tried and opens is one that the writer of this plaintext sealed there
 abbrev pub IsTexts : List ℕ → Run → Type 0
 IsTexts text r = IsAuthentic (box r.file.key r.file.nonce) (unbox r.file.key r.file.nonce)
     chunk_length text (segment_of r)
 
--- the blocks of a run are a text's, and the old text is that text's before the chunk that the run
--- begins with
+-- the blocks of a run are a plaintext's, and the earlier output is that plaintext's before the
+-- chunk that the run begins with
 pub record IsAuthenticRun (r : Run) (text : List ℕ) : Type 0 where
   pub few : chunk_count chunk_length text ≤ chunk_limit
   pub old_text : r.copied ≡ take (r.first * chunk_length) text
@@ -113,15 +113,15 @@ HasTag p f = IsTagged p f.key f.nonce
 abbrev pub BelongsTo : Position → OpenedFile → Type 0
 BelongsTo p f = HasId p f × HasTag p f
 
--- a position stands after chunks of a text, and carries the chain over them
+-- a position stands after chunks of a plaintext, and carries the chain over them
 abbrev pub CarriesText : List ℕ → Position → Type 0
 CarriesText text p = (p.index * chunk_length ≤ length text) × (p.chain ≡ chain_over p.index text)
 
--- how many chunks are written: the whole ones, copied or released as not last
+-- how many chunks are written: the full ones, copied or released as not last
 abbrev pub whole_chunks : Run → ℕ
 whole_chunks r = min (length (held r) / chunk_length) (run_outcome r).index
 
--- where a reader may continue: after the whole chunks, with the file's id, the chain over those
+-- where a reader may continue: after the full chunks, with the file's id, the chain over those
 -- chunks, and the tag
 pub record IsPositionOf (r : Run) (p : Position) : Type 0 where
   pub index : p.index ≡ whole_chunks r
@@ -135,13 +135,13 @@ GivesPosition Dropped Is position = position ≡ None
 
 -- ---- Where a reader may continue within a part of what was written: marks.
 
--- what the marks of a run are over: the position key and the id of its file, and its whole chunks
+-- what the marks of a run are over: the position key and the id of its file, and its full chunks
 pub record MarksView : Type 0 where
   pub key : List ℕ
   pub file_id : List ℕ
   pub chunks : List (List ℕ)
 
--- a position after some of these chunks, which are no more than so many bytes
+-- a position after some of these chunks, which are at most so many bytes
 pub record IsMarked (m : MarksView) (bytes : ℕ) (p : Position) : Type 0 where
   pub few : p.index ≤ length m.chunks
   pub within : p.index * chunk_length ≤ bytes
@@ -150,7 +150,7 @@ pub record IsMarked (m : MarksView) (bytes : ℕ) (p : Position) : Type 0 where
   pub chain_is : p.chain ≡ chain (take p.index m.chunks)
   pub tagged : p.tag ≡ position_tag m.key p.index p.file_id p.chain
 
--- where a reader may continue if only so many bytes of what a run wrote are there: the run's own
+-- where a reader may continue if only so many bytes of what a run wrote exist: the run's own
 -- position if its chunks are no more than these, and else one after fewer that is near
 pub record IsPositionWithin (r : Run) (bytes : ℕ) (p : Position) : Type 0 where
   pub few : p.index ≤ whole_chunks r
@@ -178,9 +178,9 @@ pub record WritesNone (old new : Ports) (stopped : Stopped) : Type 0 where
 abbrev pub HasNoFault : Run → Type 0
 HasNoFault r = (r.ended ≡ false) × (has_failed (run_outcome r).status ≡ false)
 
--- when each fault comes in a payload. Unless the sink failed, all text was written; no more came
--- only if what did has no fault; and if the sink failed, some text was not written, or the end of
--- the file was seen and only the flush was left
+-- when each fault comes in a payload. Unless the sink failed, all plaintext was written; no more
+-- came only if what did has no fault; and if the sink failed, some plaintext was not written, or
+-- the end of the file was seen and only the flush was left
 abbrev pub PayloadFails : (Never : Type 0) → Ports → Ports → Run → FileFault → Type 0
 PayloadFails Never old new r (Stream fault) = (r.out ≡ run_text r)
     × ((run_outcome r).status ≡ Failed fault) × NoneFailed old new
@@ -197,7 +197,7 @@ pub record StopsInPayload (keep : PositionPolicy) (Allows : Header → List ℕ 
   pub here : GivesPosition keep (IsPositionOf r) stopped.position
   pub why : PayloadFails Never old new r stopped.fault
 
--- a run that wrote all of its text and saw the end
+-- a run that wrote all of its plaintext and saw the end
 pub record IsDone (Allows : Header → List ℕ → Type 0) (old new : Ports) (written : ℕ) (r : Run)
     : Type 0 where
   pub is : IsRun Allows old new written r

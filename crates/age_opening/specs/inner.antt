@@ -105,9 +105,9 @@ pub record StartsAt (Allows : Header → List ℕ → Type 0) (old : SourceView)
       ((front ++ unlocked.nonce) ++ new.unread.bytes)
   pub unfailed : new.source.failed ≡ old.failed
 
--- ---- What of a source was passed over, and what of an old text was copied.
+-- ---- What of a source was passed over, and what of an earlier output was copied.
 
--- the source ended after a number of whole blocks of n bytes, or failed before all were passed over
+-- the source ended after a number of full blocks of n bytes, or failed before all were passed over
 abbrev pub SkipFails : ℕ → ℕ → ReaderView → ReaderView → FileFault → Type 0
 SkipFails n blocks old new fault = (bytes : List ℕ) × (length bytes < blocks * n)
     × Dries (Stream (record { kind = Truncated; chunk = length bytes / n })) old new bytes fault
@@ -118,7 +118,7 @@ SkipsBlocks n blocks old new (Ok done) = (bytes : List ℕ) × (length bytes ≡
     × Passes old new bytes
 SkipsBlocks n blocks old new (Err fault) = SkipFails n blocks old new fault
 
--- ---- What was copied of an old text. A chunk has n bytes.
+-- ---- What was copied of an earlier output. A chunk has n bytes.
 
 -- one chunk more can be copied
 pub record CanCopy (t : Tally) : Type 0 where
@@ -180,7 +180,7 @@ abbrev pub CopiesAll : ℕ → ℕ → ReaderView → ReaderView → WriterView 
 CopiesAll n chunks old new was now result = Copies (ChunksGo n chunks old new was now)
     (ShortCopy (chunks * n) old new was now) was now result
 
--- why the old text was not copied, or is not the one whose chain this is
+-- why the earlier output was not copied, or is not the one whose chain this is
 abbrev pub TextFails : ℕ → ℕ → List ℕ → ReaderView → ReaderView → WriterView → WriterView
     → List ℕ → FileFault → Type 0
 TextFails n chunks links old new was now out fault = ShortCopy (chunks * n) old new was now out fault
@@ -195,7 +195,7 @@ TextGoes keep n chunks links old new was now out = (length out ≡ chunks * n) �
     × (now.tally.chain ≡ chain_if keep (first_chunks n chunks out))
     × (chain (first_chunks n chunks out) ≡ links) × (length new.unread.bytes ≤ pull_room)
 
--- the old text was copied, and has this chain; its pulls are counted together with the file's
+-- the earlier output was copied, and has this chain; its pulls are counted together with the file's
 pub record CopiesOld (keep : PositionPolicy) (p : Position) (old new : SourceView)
     (before after : Unread) (was now : WriterView) (result : Result (Unit {0}) FileFault)
     : Type 0 where
@@ -210,7 +210,7 @@ pub record CopiesOld (keep : PositionPolicy) (p : Position) (old new : SourceVie
 
 -- ---- How a run's tally counts the chunks that were written. A chunk has n bytes.
 
--- all of the text except for a part was written: the chunks that are counted are the whole ones
+-- all of the plaintext except for a part was written: the chunks that are counted are the full ones
 -- that were released as not last, and the chain is over them, whatever bytes follow
 pub record CountsChunks (keep : PositionPolicy) (opening : List ℕ → List ℕ → Option (List ℕ)) (n : ℕ)
     (base : List ℕ) (s : Segment) (unwritten : List ℕ) (p : Tally) : Type 0 where
@@ -219,7 +219,7 @@ pub record CountsChunks (keep : PositionPolicy) (opening : List ℕ → List ℕ
       (outcome opening n (with_piece s more)).index
   pub chain_is : p.chain ≡ chain_if keep (first_chunks n p.index (base ++ released opening n s))
 
--- all of this text was written, for this segment
+-- all of this plaintext was written, for this segment
 pub record HasCounted (keep : PositionPolicy) (opening : List ℕ → List ℕ → Option (List ℕ)) (n : ℕ)
     (text : List ℕ) (s : Segment) (p : Tally) : Type 0 where
   pub index : p.index ≡ min (length text / n) (outcome opening n s).index
@@ -241,7 +241,8 @@ module _ (opening : List ℕ → List ℕ → Option (List ℕ)) (n : ℕ) where
   abbrev pub IsUnderWay : Segment → Type 0
   IsUnderWay s = (s.ended ≡ false) × (has_failed (outcome opening n s).status ≡ false)
 
-  -- all of the text was written, and the fault is where the segment stands; unless the sink failed
+  -- all of the plaintext was written, and the fault is where the segment stands; unless the sink
+  -- failed
   abbrev pub SegmentFails : Stage → Stage → Segment → List ℕ → FileFault → Type 0
   SegmentFails old new s out (Stream fault) = ((outcome opening n s).status ≡ Failed fault)
       × (out ≡ released opening n s) × NoneFailed (ports_at old) (ports_at new)
@@ -259,7 +260,7 @@ module _ (opening : List ℕ → List ℕ → Option (List ℕ)) (n : ℕ) where
   SegmentDone old new s out = (s.ended ≡ true) × ((outcome opening n s).status ≡ AllDone)
       × (out ≡ released opening n s) × NoneFailed (ports_at old) (ports_at new)
 
-  -- the bytes that were pulled are a segment, and the beginning of its text was written
+  -- the bytes that were pulled are a segment, and a prefix of its plaintext was written
   pub record DecryptsPayload (start : ℕ) (old new : Stage) (result : Result (Unit {0}) FileFault)
       : Type 0 where
     pub bytes : List ℕ
@@ -279,14 +280,14 @@ module _ (opening : List ℕ → List ℕ → Option (List ℕ)) (n : ℕ) where
         → HasCounted keep opening n (base ++ out) (segment start bytes ended) new.writer.tally
     pub answered : MatchResult result (λ _. SegmentDone old new (segment start bytes ended) out)
         (SegmentFails old new (segment start bytes ended) out)
-    -- after Ok the sink sent on what it took
+    -- after Ok the sink has passed on what it took
     pub flushed : OnOk result (new.writer.sink.flushed ≡ true)
 
--- ---- What an opener was fed, and what of its text was written. A chunk has n bytes.
+-- ---- What an opener was fed, and what of its plaintext was written. A chunk has n bytes.
 
 module _ {B : Type 0} (opening : B → List ℕ → List ℕ → Option (List ℕ)) (n : ℕ) where
-  -- since the first of these, an opener of this key was given a segment, whose text was written, but
-  -- for a part; after any base, the tally counts the chunks that were written
+  -- since the first of these, an opener of this key was given a segment, whose plaintext was
+  -- written, except for a part; after any base, the tally counts the chunks that were written
   pub record HasReleased (key : B) (first : WriterView) (o : OpenerView B) (now : WriterView)
       (s : Segment) (unwritten : List ℕ) : Type 0 where
     pub out : List ℕ
@@ -300,7 +301,7 @@ module _ {B : Type 0} (opening : B → List ℕ → List ℕ → Option (List �
         → CountsChunks keep (opening key) n base s unwritten now.tally
 
   -- a fault of the opener, or of the sink, with what was left of the piece and not written: some
-  -- text, unless the opener came to the end
+  -- plaintext, unless the opener came to the end
   abbrev pub FeedFails : OpenerView B → WriterView → WriterView → List ℕ → List ℕ → FileFault
       → Type 0
   FeedFails new was now left unwritten (Stream fault) = (new.status ≡ Failed fault) × (left ≡ [])
@@ -316,7 +317,7 @@ module _ {B : Type 0} (opening : B → List ℕ → List ℕ → Option (List �
       ≤ length old.held + was.tally.written + length fed)
       × (now.sink.failed ≡ was.sink.failed) × (has_failed new.status ≡ false)
 
-  -- a front of these bytes was fed since the opener was made, and then it stopped
+  -- a prefix of these bytes was fed since the opener was made, and then it stopped
   pub record StopsFeed (key : B) (k : ℕ) (first : WriterView) (o : OpenerView B)
       (was now : WriterView) (bytes : List ℕ) (fault : FileFault) : Type 0 where
     pub fed : List ℕ

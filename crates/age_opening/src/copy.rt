@@ -1,4 +1,4 @@
-//! Copies an old text, chunk by chunk, with the chain over it.
+//! Copies an earlier output, chunk by chunk, with the chain over it.
 
 ghost use Rattle.std.specs.Prelude.{◌≡◌, ◌<◌, []};
 ghost use Rattle.age_position.specs.declared.position.PositionPolicy.TheVariants.{Kept};
@@ -45,7 +45,7 @@ fn copy_chunk<S: Source, O: Sink>(
     Ok(())
 }
 
-/// Copies this many chunks of an old text from its start.
+/// Copies this many chunks of an earlier output from its start.
 pub(crate) fn copy_chunks<S: Source, O: Sink>(
     reader: &mut Reader<'_, S>,
     chunks: u64,

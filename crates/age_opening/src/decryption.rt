@@ -35,9 +35,9 @@ pub struct Stopped {
     pub fault: FileFault,
     /// How many bytes were written.
     pub written: u128,
-    /// Where a reader may continue, once the payload nonce was read, and the old text of a resumed
-    /// decryption was found to be the position's: after the whole chunks before the last that were
-    /// written. `None` if positions are dropped.
+    /// Where a reader may continue, once the payload nonce was read, and the earlier output of a
+    /// resumed decryption was found to match the position: after the full chunks before the last
+    /// that were written. `None` if positions are dropped.
     pub position: Option<Position>,
 }
 
@@ -122,15 +122,15 @@ pub(crate) fn open_payload<S: Source, O: Sink>(
     ended(run, unlocked, &writer.tally)
 }
 
-/// Decrypts a file: opens its header, and writes each chunk of the text once the tag of its block
-/// was checked (<https://c2sp.org/age>). It reads to the end of the source, and flushes before it
-/// returns `Ok`. The position of a stop is handed out; [`decrypt_marked`] can do without.
+/// Decrypts a file: opens its header, and writes each chunk of the plaintext once the tag of its
+/// block has been checked (<https://c2sp.org/age>). It reads to the end of the source, and flushes
+/// before it returns `Ok`. A stop returns its position; [`decrypt_marked`] can do without.
 /// docs/LIBRARY.md has an example, `text_of`.
 ///
 /// It stops with the header's fault (1 to 8), the unlocker's or a wrong header MAC (9 to 15),
 /// `NonceCut` (16), a fault of the payload (17 to 22), `Read` (26), `Write` (27), `Memory` (28) and
 /// `ReadNeverEnds` (29). If the bytes that it read have a fault of 1 to 22, it stops with that, not
-/// with 26 or 29. All memory is taken before the payload nonce is read, so if it is refused,
+/// with 26 or 29. All memory is allocated before the payload nonce is read, so if it runs out,
 /// nothing was written.
 pub fn decrypt<U: Unlock, S: Source, O: Sink>(
     alloc: Global,

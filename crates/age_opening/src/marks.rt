@@ -9,7 +9,7 @@ use age_keys::position_key;
 use age_position::{Links, Position, Tally};
 use std::marker::Model;
 
-/// Where a decryption that came to its payload can be continued: after the whole chunks before the
+/// Where a decryption that came to its payload can be continued: after the full chunks before the
 /// last that it wrote, and after fewer of them. A contract sees the position key and the id of its
 /// file, and those chunks.
 #[derive(Drop)]
@@ -50,9 +50,9 @@ impl Marks {
         }
     }
 
-    /// The position at a mark within so many bytes of the text; if all whole chunks are within them,
-    /// it is the position of the stop. The mark is at most four times as far from the last whole
-    /// chunk as these bytes are.
+    /// The position at a mark within so many bytes of the plaintext; if all full chunks are within
+    /// them, it is the position of the stop. The mark is at most four times as far from the last
+    /// full chunk as these bytes are.
     pub fn within(&self, bytes: u64) -> Position
         ensures { IsMarked self.now bytes result }
     {

@@ -1,4 +1,4 @@
-//! Opens what a source gives, and writes each chunk once its tag was checked.
+//! Opens what a source gives, and writes each chunk once its tag has been checked.
 
 ghost use Rattle.std.specs.Prelude.{◌≡◌, ◌+◌, ◌^◌, ◌<◌, length, OnOk, true, false};
 ghost use Rattle.age_stream.specs.{has_failed};
@@ -18,7 +18,7 @@ use age_stream::{BLOCK_LEN, Opener};
 /// What opens the blocks of a payload.
 type PayloadOpener<'a> = Opener<'a, PayloadKey, BLOCK_LEN>;
 
-/// Feeds a whole piece, and writes the chunks that come out.
+/// Feeds all of a piece, and writes the chunks that come out.
 fn feed_piece<O: Sink>(
     opener: &mut PayloadOpener<'_>,
     piece: &[u8],
@@ -62,8 +62,8 @@ fn finish<O: Sink>(
     flush_all(writer.sink)
 }
 
-/// Opens what a source gives from a chunk on, up to its end, and writes each chunk once its tag was
-/// checked.
+/// Opens what a source gives from a chunk on, up to its end, and writes each chunk once its tag has
+/// been checked.
 pub(crate) fn decrypt_payload<S: Source, O: Sink>(
     key: &PayloadKey,
     index: u64,

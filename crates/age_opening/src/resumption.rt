@@ -23,7 +23,7 @@ use age_keys::{Unlock, position_key};
 use age_position::{Position, PositionPolicy, Tally, Writer, tag_of};
 use std::alloc::Global;
 
-/// Whether a position is this file's, and was made under its key.
+/// Whether a position is for this file, and was made under its key.
 fn verify(unlocked: &Unlocked, position: &Position) -> Result<(), FileFault>
     ensures { VerdictOn position.now unlocked.now.id unlocked.now.key unlocked.now.nonce result }
 {
@@ -38,7 +38,8 @@ fn verify(unlocked: &Unlocked, position: &Position) -> Result<(), FileFault>
     Ok(())
 }
 
-/// Reads a file up to its payload, drops what opened it, and refuses a position that isn't its.
+/// Reads a file up to its payload, drops what opened it, and refuses a position that isn't for this
+/// file.
 fn start_for<U: Unlock + Drop, S: Source>(
     alloc: Global,
     unlock: U,
@@ -57,8 +58,8 @@ fn start_for<U: Unlock + Drop, S: Source>(
     Ok(unlocked)
 }
 
-/// Copies the old text that a position was made for, before a file is read on: the pulls of both
-/// count together.
+/// Copies the earlier output that a position was made for, before more of the file is read: the
+/// pulls of both count together.
 fn copy_old<L: Source, O: Sink>(
     positions: PositionPolicy,
     position: &Position,
@@ -90,7 +91,7 @@ fn copy_old<L: Source, O: Sink>(
     Ok(())
 }
 
-/// Skips the blocks of the old text, and decrypts the payload from there on.
+/// Skips the blocks of the earlier output, and decrypts the payload from there on.
 fn resume_rest<S: Source, O: Sink>(
     unlocked: &Unlocked,
     index: u64,
@@ -110,17 +111,18 @@ fn resume_rest<S: Source, O: Sink>(
 }
 
 /// Continues a decryption that stopped: opens the file's header, copies the earlier output up to
-/// the position, skips the blocks of that text, and writes each later chunk once the tag of its
-/// block was checked. What was written in the end is the whole text, not only its rest.
+/// the position, skips the blocks of that plaintext, and writes each later chunk once the tag of
+/// its block has been checked. In the end it has written the complete plaintext, not only its rest.
 ///
 /// Up to the payload nonce it stops as [`decrypt`](crate::decrypt) does. Then it stops with
 /// `OtherFile` (24) if the position belongs to another file, and with `PositionForged` (30) if its
 /// tag wasn't made under the file's key; nothing was written. `ShortText` (25) means that the
 /// earlier output ended before the position, and `OldTextDiffers` (31) that its chunks aren't those
-/// that the position was made for; what was copied stays. `Truncated` (20), with its chunk, means
+/// that the position was made for; what was copied remains. `Truncated` (20), with its chunk, means
 /// that the source ends in the blocks that are skipped. Otherwise it stops as `decrypt` does. A
-/// position is handed out once the earlier output was found to be the position's; of a stop in the
-/// blocks that are skipped it is `position`. All memory is taken before the payload nonce is read.
+/// position is returned once the earlier output was found to match the position; for a stop in the
+/// blocks that are skipped it is `position`. All memory is allocated before the payload nonce is
+/// read.
 pub fn resume<U: Unlock, S: Source, L: Source, O: Sink>(
     alloc: Global,
     unlock: &U,

@@ -1,4 +1,4 @@
-//! Reads a file up to its payload, and passes over the blocks of it that were opened before.
+//! Reads a file up to its payload, and passes over the blocks that were opened before.
 
 ghost use Rattle.std.specs.Prelude.{◌≡◌, ◌+◌, ◌-◌, ◌≤◌, ℕ, List, [], ◌++◌, length, take, min};
 ghost use Rattle.std.specs.Prelude.{IfOk, IfErr, OnOk};
@@ -68,8 +68,8 @@ pub(crate) fn need_bytes<S: Source>(
     Ok(())
 }
 
-/// Uses what was pulled, and passes over as much of what is to come as the source can: at most this
-/// many bytes, and returns how many.
+/// Uses what was pulled, and passes over as much of what is to come as the source can, at most this
+/// many bytes; returns how many.
 fn skip_some<S: Source>(reader: &mut Reader<'_, S>, most: u128) -> u128
     ensures bound { result ≤ most }
     ensures skipped { (bytes : List ℕ) × (length bytes ≡ result)

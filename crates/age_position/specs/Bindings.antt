@@ -1,4 +1,4 @@
--- What binds a position to its file and to the text before it. Not of the age format.
+-- What binds a position to its file and to the plaintext before it. Not of the age format.
 use Rattle.std.specs.Prelude.{ℕ, List, ◌++◌, codes, replicate, fold}
 use Rattle.std.specs.Fmt.{decimal}
 use Rattle.std.specs.Simd.{first_chunks}
@@ -7,7 +7,7 @@ use Rattle.age_stanza.specs.{base64_text}
 use Rattle.age_kdf.specs.{hmac}
 use Rattle.age_chunk.specs.{chunk_length}
 
--- ---- The chain over a text.
+-- ---- The chain over a plaintext.
 
 -- the chain over chunks, one link a chunk: each is the digest of the link before it and the chunk
 abbrev pub link : List ℕ → List ℕ → List ℕ
@@ -16,7 +16,7 @@ link so_far chunk = sha256 (so_far ++ chunk)
 unfoldable pub chain : List (List ℕ) → List ℕ
 chain chunks = fold link (replicate 32 0) chunks
 
--- the chain over this many chunks of a text, the first ones
+-- the chain over this many chunks of a plaintext, the first ones
 abbrev pub chain_over : ℕ → List ℕ → List ℕ
 chain_over count text = chain (first_chunks chunk_length count text)
 

@@ -11,7 +11,7 @@ use Rattle.age_position.specs.declared.position.PositionPolicy.TheVariants.{Kept
 abbrev pub IsNear : (chunks bytes index : ℕ) → Type 0
 IsNear chunks bytes index = chunks ≤ index + 4 * (chunks - bytes / chunk_length)
 
--- ---- How the chain over a text goes on, if positions are kept.
+-- ---- How the chain over a plaintext goes on, if positions are kept.
 
 -- the chunks of the chain if positions are kept, and none if they are dropped
 abbrev pub chain_if : PositionPolicy → List (List ℕ) → Option (List (List ℕ))

@@ -1,4 +1,4 @@
-//! The chunks of a text, for contracts alone.
+//! The chunks of a plaintext, for contracts alone.
 
 ghost use Rattle.std.specs.Prelude.{◌≡◌, [], ◌∷◌, ◌++◌, List, ℕ, option_map, unwrap_or};
 ghost use Rattle.std.specs.Borrow.{ftrue};
@@ -49,7 +49,7 @@ impl Model for ChunkTape {
 }
 
 impl ChunkTape {
-    /// No chunk so far.
+    /// No chunks so far.
     pub(crate) fn new() -> ChunkTape
         ensures { result ≡ [] }
     {

@@ -1,7 +1,8 @@
 //! Positions: how far a run over an age file has come, and where another can continue after a stop.
 //!
-//! A [`Tally`] counts what a [`Writer`]'s sink took, and keeps the chain over the text's chunks. A
-//! [`Position`] stands after some of these, and is bound to the file and to the text before it.
+//! A [`Tally`] counts what a [`Writer`]'s sink took, and keeps the chain over the plaintext's
+//! chunks. A [`Position`] is after some of these, and is bound to the file and to the plaintext
+//! before it.
 #![tactic(auto)]
 
 mod chunk_tape;

@@ -1,4 +1,4 @@
-//! The chain over the chunks of a text, and the marks that are kept of it.
+//! The chain over the chunks of a plaintext, and the marks that are kept of it.
 
 ghost use Rattle.std.specs.Prelude.{◌≡◌, ◌++◌, ◌∷◌, ◌<◌, ◌≤◌, ◌+◌, ◌*◌, ◌/◌, ◌↔◌, [], true, length, List, ℕ};
 ghost use Rattle.sha2.specs.Hashers.{Holds256};
@@ -16,7 +16,7 @@ use std::marker::Model;
 /// How many distances marks are kept at: each power of two below 2^48.
 const DISTANCES: usize = 48;
 
-/// The chain over the first chunks of a text, this many.
+/// The chain over the first chunks of a plaintext, this many.
 #[derive(Clone, Copy)]
 pub struct Mark {
     pub index: u64,
@@ -66,7 +66,7 @@ impl Pair {
         }
     }
 
-    /// After a chunk more, with the mark of all.
+    /// After one more chunk, with the mark of all.
     fn after(&self, mark: Mark) -> Pair
         ensures pair { (chunks : List (List ℕ)) (chunk : List ℕ) → IsPair chunks self.now
             → IsMark (chunks ++ chunk ∷ []) mark → mark.index ≡ length chunks + 1
@@ -95,7 +95,7 @@ fn start_pairs() -> [Pair; DISTANCES]
     pairs
 }
 
-/// The pairs after a chunk more, with the mark of all.
+/// The pairs after one more chunk, with the mark of all.
 fn pairs_after(pairs: &[Pair; DISTANCES], mark: Mark) -> [Pair; DISTANCES]
     ensures { (chunks : List (List ℕ)) (chunk : List ℕ) → ArePairs chunks pairs.now
         → IsMark (chunks ++ chunk ∷ []) mark → mark.index ≡ length chunks + 1
@@ -108,8 +108,8 @@ fn pairs_after(pairs: &[Pair; DISTANCES], mark: Mark) -> [Pair; DISTANCES]
     next
 }
 
-/// The older mark of the first pair of which that is within this many bytes of the text; before the
-/// first chunk, if there is none.
+/// The older mark of the first pair of which that is within this many bytes of the plaintext;
+/// before the first chunk, if there is none.
 fn older_within(pairs: &[Pair; DISTANCES], bytes: u64) -> Mark
     ensures { (chunks : List (List ℕ)) → ArePairs chunks pairs.now → length chunks < chunk_limit
         → bytes / chunk_length < length chunks
@@ -124,11 +124,11 @@ fn older_within(pairs: &[Pair; DISTANCES], bytes: u64) -> Mark
     Mark::start()
 }
 
-/// The chain over the chunks of a text, one link a chunk. A contract sees the chunks.
+/// The chain over the chunks of a plaintext, one link a chunk. A contract sees the chunks.
 ///
-/// Marks are kept of it, so that a run can also be continued before its end: for each power of two
-/// two that are so far from each other. So within all but the last `d` chunks there is a mark less
-/// than `4 * d` before the end.
+/// Marks are kept of it, so that a run can also be continued before its end: two for each power of
+/// two, that far from each other. So within all but the last `d` chunks there is a mark less than
+/// `4 * d` before the end.
 #[derive(Drop)]
 pub struct Links {
     last: Mark,
@@ -152,7 +152,7 @@ impl Model for Links {
 }
 
 impl Links {
-    /// No chunk so far.
+    /// No chunks so far.
     pub(crate) fn new() -> Links
         ensures { result ≡ [] }
     {
@@ -209,8 +209,8 @@ impl Links {
         self.link(digest, &text);
     }
 
-    /// A mark within this many bytes of the text: of all chunks, if these are, and near the last one
-    /// that is, if not.
+    /// A mark within this many bytes of the plaintext: of all chunks, if these are, and near the
+    /// last one that is, if not.
     pub fn mark_within(&self, bytes: u64) -> Mark
         requires { length self.now < chunk_limit }
         ensures mark { IsMarkWithin self.now bytes result }

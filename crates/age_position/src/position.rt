@@ -15,9 +15,9 @@ use sha2::{Digest, Sha256};
 /// What every position's text begins with.
 pub(crate) const VERSION: &[u8; 16] = b"age-position/v2 ";
 
-/// A place in a payload at which a reader continues after a stop, bound to the file and to the text
-/// before it. [`text`](Position::text) writes it down, and [`read`](Position::read) reads it. It is
-/// no part of the age format; docs/FORMAT.md says what it holds.
+/// A place in a payload at which a reader continues after a stop, bound to the file and to the
+/// plaintext before it. [`text`](Position::text) writes it down, and [`read`](Position::read) reads
+/// it. It is no part of the age format; docs/FORMAT.md says what it holds.
 #[derive(Clone, Copy, Debug, PartialEq, Eq)]
 pub struct Position {
     /// The chunk at which reading continues, counted from 0; below 2^48.
@@ -33,12 +33,12 @@ pub struct Position {
 }
 
 /// Whether a decryption keeps the position at which a reader can continue after a stop. Keeping it
-/// takes a SHA-256 over the text.
+/// costs a SHA-256 of the plaintext.
 #[derive(Clone, Copy, Debug, PartialEq, Eq)]
 pub enum PositionPolicy {
-    /// A stop hands out its position.
+    /// A stop returns its position.
     Kept,
-    /// A stop hands out none.
+    /// A stop returns none.
     Dropped,
 }
 
@@ -91,7 +91,7 @@ pub fn file_id(mut digest: Sha256, nonce: &[u8; 16]) -> [u8; 32]
 }
 
 impl Position {
-    /// How many bytes of the text come before it.
+    /// How many bytes of the plaintext come before it.
     pub fn old_len(&self) -> u128
         ensures { result ≡ self.now.index * chunk_length }
     {

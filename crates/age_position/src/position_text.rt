@@ -108,7 +108,7 @@ fn position_of(index: u64, fields: &[u8]) -> Option<Position>
 impl Position {
     /// The text of a position: `age-position/v2 INDEX ID CHAIN TAG` and a line feed, INDEX in
     /// decimal, the others as the 43 characters of unpadded base64 (RFC 4648, section 4). It fails
-    /// only if memory is refused.
+    /// only if memory runs out.
     pub fn text(&self, alloc: Global) -> Result<Vec<u8>, FileFault>
         ensures text { IfOk result (λ text. text.items ≡ position_text self.now) }
         ensures memory { IfErr result (λ fault. fault ≡ Memory) }
@@ -116,8 +116,9 @@ impl Position {
         Ok(text_of(alloc, self)?)
     }
 
-    /// Reads the text of a position. It refuses every other text with `BadPosition`, one with
-    /// leading zeros, without the line feed or with characters after it too. It takes no memory.
+    /// Reads the text of a position. It refuses every other text with `BadPosition`, even one that
+    /// differs only in leading zeros, in the line feed or in characters after it. It allocates
+    /// nothing.
     pub fn read(text: &[u8]) -> Result<Position, FileFault>
         ensures read { IfOk result (λ position. text.now ≡ position_text position) }
         ensures fault { IfErr result (λ fault. fault ≡ BadPosition) }

@@ -13,8 +13,8 @@ use crate::position::PositionPolicy;
 use age_io::Tape;
 use sha2::{Digest, Sha256};
 
-/// How far a run has come: how many bytes it wrote, how many whole chunks before the last these
-/// make from the start of the text, and the chain over those, if positions are kept.
+/// How far a run has come: how many bytes it wrote, how many full chunks before the last these make
+/// from the start of the plaintext, and the chain over those, if positions are kept.
 #[derive(Drop)]
 pub struct Tally {
     pub written: u128,
@@ -27,7 +27,7 @@ pub struct Tally {
 impl Tally {
     ghost use Rattle.age_position.specs.Tallies.{AdvancesTally};
 
-    /// Nothing was written.
+    /// Nothing has been written.
     pub fn new(positions: PositionPolicy) -> Tally
         ensures written { result.written ≡ 0 }
         ensures index { result.index ≡ 0 }
@@ -57,8 +57,8 @@ impl Tally {
         }
     }
 
-    /// Counts a chunk that was written, unless it was the last of its text: a last chunk doesn't
-    /// raise the opener's index, and isn't linked.
+    /// Counts a chunk that was written, unless it was the last of its plaintext: a last chunk
+    /// doesn't raise the opener's index, and isn't linked.
     pub fn count(&mut self, index: u64, chunk: &[u8])
         requires { index < chunk_limit }
         ensures same { self.new.written ≡ self.old.written }

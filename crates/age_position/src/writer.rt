@@ -1,4 +1,4 @@
-//! A sink with how far a run has come.
+//! A sink, and how far a run has come.
 
 use crate::tally::Tally;
 

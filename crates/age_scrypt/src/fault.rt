@@ -3,7 +3,7 @@ ghost use Rattle.std.specs.Prelude.{◌≡◌};
 use std::alloc::AllocError;
 use thiserror::Error;
 
-/// Memory was refused.
+/// Out of memory.
 #[derive(Clone, Copy, Debug, PartialEq, Eq, Error)]
 #[error("out of memory")]
 pub struct Memory;
@@ -16,7 +16,7 @@ impl Memory {
         28
     }
 
-    /// The line or chunk of the fault: this one has none.
+    /// The line or chunk of the fault, which this one doesn't have.
     pub fn place(&self) -> Option<u64>
         ensures { result ≡ None }
     {

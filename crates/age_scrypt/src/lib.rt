@@ -1,11 +1,11 @@
-//! scrypt with r = 8 and p = 1 (RFC 7914), which makes a key of 32 bytes out of a passphrase and a
+//! scrypt with r = 8 and p = 1 (RFC 7914), which derives a key of 32 bytes from a passphrase and a
 //! salt. It is how an age file's file key is wrapped under a passphrase
 //! (<https://c2sp.org/age#scrypt-recipient-stanza>).
 //!
 //! PBKDF2 makes one block of 1,024 bytes. ROMix mixes it `2^log` times by BlockMix, keeping each
-//! block on the way in a table, and then as often again, each time after an exclusive or with the
-//! block of the table that its own last part names. PBKDF2 makes the key out of the block that is
-//! left. The definition has no table: it says which mixture of the first block is meant.
+//! block on the way in a table, and then as often again, each time after an XOR with the block of
+//! the table that its own last part names. PBKDF2 makes the key from the resulting block. The
+//! definition has no table, but says which mixture of the first block is meant.
 //!
 //! The table is one flat vector of words, filled by appending. BlockMix reads one block and writes
 //! another, and its core, Salsa20/8, works on vectors of four words. So a key at work factor 18
@@ -36,7 +36,7 @@ pub use steps::Steps;
 /// The greatest work factor that a caller may allow, 22: its table has 4 GiB.
 pub const WORK_FACTOR_LIMIT: u32 = 22;
 
-/// The key, in memory that the caller took.
+/// The key, in memory that the caller allocated.
 #[tactic(auto, unfolding(crate::specs::Scrypt::scrypt))]
 fn derive_in(
     pass: &[u8],
@@ -66,8 +66,8 @@ fn derive_in(
 /// [`WORK_FACTOR_LIMIT`]: scrypt with N = `2^log`, r = 8, p = 1 and 32 bytes of output (RFC 7914,
 /// section 6).
 ///
-/// It takes `1,024 * 2^log` bytes of memory and two blocks of 1,024 bytes, all of them before the
-/// first step. If memory is refused, no step is counted.
+/// It allocates `1,024 * 2^log` bytes and two blocks of 1,024 bytes, all of them before the first
+/// step. If memory runs out, no step is counted.
 pub fn derive(
     alloc: Global,
     pass: &[u8],

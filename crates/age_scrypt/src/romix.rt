@@ -52,7 +52,7 @@ fn fill(table: &mut Vec<u32>, x: &mut [u32], n: usize, steps: &mut Steps)
     ensures counted { steps.new ≡ steps.old + n }
 {
     for i in 0..n {
-        // there is room, so this takes no memory and can't fail
+        // there is room, so this allocates nothing and can't fail
         table.extend_from_slice(x).unwrap();
         block_mix(&table[256 * i..256 * i + 256], x, steps);
     }
@@ -75,7 +75,7 @@ fn look_up(table: &[u32], x: &mut [u32], y: &mut [u32], n: usize, steps: &mut St
     }
 }
 
-/// ROMix of the block `x` in place, with `y` for a block in between.
+/// ROMix of the block `x` in place, with `y` as a buffer for a block.
 pub(crate) fn romix(table: &mut Vec<u32>, x: &mut [u32], y: &mut [u32], log: u32, steps: &mut Steps)
     requires log { log ≤ work_factor_limit }
     requires workspace { IsWorkspace (2 ^ log) table.old x.old y.old }

@@ -1,7 +1,7 @@
 //! The Salsa20/8 core (RFC 7914, section 3), on vectors of four words.
 //!
-//! Of sixteen words as four rows of four, the diagonals stand in four vectors, each word in the
-//! lane of its column. So the four quarter rounds of the columns are one on vectors. The rows of a
+//! The diagonals of sixteen words, as four rows of four, are in four vectors, each word in the lane
+//! of its column. So the four quarter rounds of the columns are one on vectors. The rows of a
 //! matrix are the columns of its transpose, whose diagonals are the same words, in other lanes.
 
 ghost use Rattle.std.specs.Prelude.{◌≡◌, ℕ, ◌<◌, List, [], ◌∷◌, length, map, bit_xor, slice_index};

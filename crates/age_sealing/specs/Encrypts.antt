@@ -1,4 +1,4 @@
--- What an encryption promises: which file it writes of a text, or how much of it.
+-- What an encryption promises: which file it writes of a plaintext, or how much of it.
 use Rattle.std.specs.Prelude.{ℕ, List, ◌≡◌, ◌-◌, ◌^◌, ◌<◌, ◌≤◌, ◌++◌, length}
 use Rattle.age_io.specs.Taken.{Appends}
 use Rattle.age_io.specs.{Consumes, IsAtEnd}
@@ -22,9 +22,9 @@ pub record SecretView : Type 0 where
   pub key : List ℕ
   pub nonce : List ℕ
 
--- ---- The age file of a text, and how an encryption ended with it.
+-- ---- The age file of a plaintext, and how an encryption ended with it.
 
--- the header's text and the payload nonce, with which the age file of each text begins
+-- the header's text and the payload nonce, with which the age file of each plaintext begins
 pub record BeginsFile (s : SecretView) (bytes : List ℕ) : Type 0 where
   pub front : List ℕ
   pub head : HeadText (scrypt_head s.pass s.log s.salt s.key) front
@@ -40,7 +40,7 @@ pub record FrontView : Type 0 where
 abbrev pub IsFrontOf : SecretView → FrontView → Type 0
 IsFrontOf s f = BeginsFile s f.bytes × (f.key ≡ payload_key s.key s.nonce)
 
--- the bytes are the age file of the text for the passphrase: its header has one scrypt stanza
+-- the bytes are the age file of the plaintext for the passphrase: its header has one scrypt stanza
 abbrev pub AgeFile : SecretView → List ℕ → List ℕ → Type 0
 AgeFile s text bytes = FileOf (scrypt_head s.pass s.log s.salt s.key) s.key s.nonce text bytes
 
@@ -48,11 +48,11 @@ AgeFile s text bytes = FileOf (scrypt_head s.pass s.log s.salt s.key) s.key s.no
 pub record Encrypts (s : SecretView) (old new : Ports) (written : Written) : Type 0 where
   pub text : List ℕ
   pub file : List ℕ
-  -- the text has no more than 2^48 chunks
+  -- the plaintext has no more than 2^48 chunks
   pub few : chunk_count chunk_length text ≤ chunk_limit
-  -- the file is the text's
+  -- the file is the plaintext's
   pub is : AgeFile s text file
-  -- the text is all that the source gave
+  -- the plaintext is all that the source gave
   pub read : Consumes old.source.supply new.source.supply text
   pub at_end : IsAtEnd new.source.supply
   -- the sink took the file
@@ -65,14 +65,14 @@ pub record Encrypts (s : SecretView) (old new : Ports) (written : Written) : Typ
 
 -- ---- How an encryption stopped.
 
--- the file of a text without its last block: the header's text, the payload nonce, and the blocks
--- before the last
+-- the file of a plaintext without its last block: the header's text, the payload nonce, and the
+-- blocks before the last
 abbrev pub without_last : SecretView → (front text : List ℕ) → List ℕ
 without_last s front text = (front ++ s.nonce)
     ++ block_bytes (sealed_before_last (box s.key s.nonce) chunk_length text)
 
--- why it stopped, after this text was read and these bytes were written. If a pull failed, or the
--- source never ended, the last block is missing: they are no whole file
+-- why it stopped, after this plaintext was read and these bytes were written. If a pull failed, or
+-- the source never ended, the last block is missing, so they are no complete file
 abbrev pub WhyStopped : SecretView → Ports → Ports → (front text out : List ℕ) → FileFault
     → Type 0
 WhyStopped s old new front text out (Stream fault) = (2 ^ 64 < length text)
@@ -83,7 +83,7 @@ WhyStopped s old new front text out ReadNeverEnds = (out ≡ without_last s fron
     × IsByAllPulls (length text) × NoneFailed old new
 WhyStopped s old new front text out other = ⊥
 
--- a front of the age file of what was read was written
+-- a prefix of the age file of what was read was written
 pub record EncryptsFront (s : SecretView) (old new : Ports) (fault : FileFault) : Type 0 where
   pub text : List ℕ
   pub file : List ℕ

@@ -60,7 +60,7 @@ pub record IsFeeding {B : Type 0} (s : SealerView B) : Type 0 where
   pub unfinished : s.finished ≡ false
   pub sound : s.failed ≡ false
 
--- why a text wasn't sealed: it has more than 2^48 chunks, or the sink failed
+-- why a plaintext wasn't sealed: it has more than 2^48 chunks, or the sink failed
 abbrev pub SealFails : ℕ → WriterView → WriterView → List ℕ → FileFault → Type 0
 SealFails n first now text (Stream fault) = (chunk_limit * n < length text)
     × (fault ≡ too_many (chunk_limit - 1)) × (now.sink.failed ≡ first.sink.failed)
@@ -68,8 +68,8 @@ SealFails n first now text Write = HasFailed first.sink.failed now.sink.failed n
 SealFails n first now text other = ⊥
 
 module _ {B : Type 0} (sealing : B → List ℕ → List ℕ → List ℕ) (n : ℕ) where
-  -- since the first of these, a sealer of this key was fed a text, and its blocks before the last
-  -- were written
+  -- since the first of these, a sealer of this key was fed a plaintext, and its blocks before the
+  -- last were written
   pub record HasSealedFront (key : B) (first : WriterView) (s : SealerView B) (now : WriterView)
       (text : List ℕ) : Type 0 where
     pub key_is : s.key ≡ key
@@ -78,7 +78,7 @@ module _ {B : Type 0} (sealing : B → List ℕ → List ℕ → List ℕ) (n : 
     pub wrote : Wrote first now (front_of (sealing key) n text)
     pub same : now.sink.failed ≡ first.sink.failed
 
-  -- a front of the payload of a text was written, and then it stopped
+  -- a prefix of the payload of a plaintext was written, and then it stopped
   pub record CutsPayload (key : B) (first now : WriterView) (text : List ℕ) (fault : FileFault)
       : Type 0 where
     pub out : List ℕ
@@ -86,8 +86,8 @@ module _ {B : Type 0} (sealing : B → List ℕ → List ℕ → List ℕ) (n : 
     pub prefix : IsPrefixOf out (payload (sealing key) n text)
     pub why : SealFails n first now text fault
 
-  -- what was written and is still to be written fits its count: the blocks of a text that isn't too
-  -- long, and something before them
+  -- what was written and is still to be written fits its count: the blocks of a plaintext that
+  -- isn't too long, and something before them
   pub record HasRoom (s : SealerView B) (now : WriterView) (more : ℕ) : Type 0 where
     pub key : B
     pub first : WriterView
@@ -96,7 +96,7 @@ module _ {B : Type 0} (sealing : B → List ℕ → List ℕ → List ℕ) (n : 
     pub small : length text + more ≤ 2 ^ 96
     pub count : first.tally.written ≤ 2 ^ 126
 
-  -- a piece was fed after any text
+  -- a piece was fed after any plaintext
   abbrev pub SealsPiece : SealerView B → SealerView B → WriterView → WriterView → List ℕ
       → Result (Unit {0}) FileFault → Type 0
   SealsPiece old new was now piece result = (key : B) (first : WriterView) (text : List ℕ)
@@ -104,7 +104,7 @@ module _ {B : Type 0} (sealing : B → List ℕ → List ℕ → List ℕ) (n : 
       → MatchResult result (λ _. HasSealedFront key first new now (text ++ piece))
       (CutsPayload key first now (text ++ piece))
 
-  -- the last block of any text was written, or a front of it
+  -- the last block of any plaintext was written, or a prefix of it
   abbrev pub SealsRest : SealerView B → WriterView → WriterView → Result (Unit {0}) FileFault
       → Type 0
   SealsRest old was now result = (key : B) (first : WriterView) (text : List ℕ)
@@ -112,7 +112,7 @@ module _ {B : Type 0} (sealing : B → List ℕ → List ℕ → List ℕ) (n : 
       × MatchResult result (λ _. Wrote first now (payload (sealing key) n text)
       × (now.sink.failed ≡ first.sink.failed)) (CutsPayload key first now text)
 
--- ---- A whole source.
+-- ---- A source, to its end.
 
 -- this much was read from a source, and this much written
 pub record ReadsWrites (old new : Ports) (written_old written_new : ℕ) (text out : List ℕ)
@@ -134,7 +134,7 @@ module _ (sealing : List ℕ → List ℕ → List ℕ) (n : ℕ) where
       × IsByAllPulls (length text) × NoneFailed old new
   SealingFails old new text out other = ⊥
 
-  -- a source was read to its end, and its text was sealed and written
+  -- a source was read to its end, and its plaintext was sealed and written
   pub record SealsAll (old new : Ports) (written_old written_new plain : ℕ) : Type 0 where
     pub text : List ℕ
     pub few : chunk_count n text ≤ chunk_limit
@@ -143,7 +143,7 @@ module _ (sealing : List ℕ → List ℕ → List ℕ) (n : ℕ) where
     pub plain_is : plain ≡ length text
     pub none_failed : NoneFailed old new
 
-  -- a source wasn't sealed to its end, and a front of the payload of what was read was written
+  -- a source wasn't sealed to its end, and a prefix of the payload of what was read was written
   pub record SealsFront (old new : Ports) (written_old written_new : ℕ) (fault : FileFault)
       : Type 0 where
     pub text : List ℕ
@@ -155,11 +155,11 @@ module _ (sealing : List ℕ → List ℕ → List ℕ) (n : ℕ) where
   -- a source was sealed, to its end or up to a fault
   pub record SealsSource (old new : Ports) (written_old written_new : ℕ)
       (result : Result Written FileFault) : Type 0 where
-    -- after Ok all of its text was sealed and written, and its length is answered
+    -- after Ok all of its plaintext was sealed and written, and its length is answered
     pub done : IfOk result (λ w. SealsAll old new written_old written_new w.plain)
     -- after Ok the count of all bytes that were written is answered
     pub counted : IfOk result (λ w. w.file ≡ written_new)
-    -- after a fault, a front of the payload was written
+    -- after a fault, a prefix of the payload was written
     pub fails : IfErr result (SealsFront old new written_old written_new)
     -- after Ok the sink sent on what it took
     pub flushed : OnOk result (new.sink.flushed ≡ true)

@@ -29,8 +29,8 @@ pub struct Written {
     pub file: u128,
 }
 
-/// What stands before the payload: the header's text and the payload nonce. It fails only if memory
-/// is refused.
+/// What comes before the payload: the header's text and the payload nonce. It fails only if memory
+/// runs out.
 fn front_of(alloc: Global, secret: &Secret<'_>) -> Result<Vec<u8>, FileFault>
     ensures front { IfOk result (λ v. BeginsFile secret.now v.items) }
     ensures memory { IfErr result (λ fault. fault ≡ Memory) }
@@ -42,8 +42,8 @@ fn front_of(alloc: Global, secret: &Secret<'_>) -> Result<Vec<u8>, FileFault>
     Ok(front)
 }
 
-/// What the age file of each text begins with for a secret, the key of its payload, and the buffer
-/// for what is read: all that an encryption takes memory for. A contract sees the first two.
+/// What the age file of each plaintext begins with for a secret, the key of its payload, and the
+/// buffer for what is read: all that an encryption allocates. A contract sees the first two.
 #[derive(Drop)]
 pub struct Front {
     bytes: Vec<u8>,
@@ -77,7 +77,7 @@ impl Front {
     }
 }
 
-/// Writes what stands before the payload.
+/// Writes what comes before the payload.
 fn write_front<O: Sink>(front: &[u8], writer: &mut Writer<'_, O>) -> Result<(), FileFault>
     requires { writer.old.tally.written ≡ 0 }
     ensures wrote { WritesFront front.now (view_of_writer O.view writer.old)
@@ -87,8 +87,8 @@ fn write_front<O: Sink>(front: &[u8], writer: &mut Writer<'_, O>) -> Result<(), 
     write_all(writer.sink, front, &mut writer.tally.written)
 }
 
-/// Encrypts all that a source gives, after what the file begins with, as [`encrypt`] does. It takes
-/// no memory, so it doesn't refuse with `Memory`.
+/// Encrypts all that a source gives, after the beginning of the file, as [`encrypt`] does. It
+/// allocates nothing, so it never fails with `Memory`.
 pub fn encrypt_after<S: Source, O: Sink>(
     front: Front,
     reader: &mut S,
@@ -127,11 +127,11 @@ pub fn encrypt_after<S: Source, O: Sink>(
 /// It refuses with [`FileFault::Memory`] (28) before it reads or writes anything, with `Read` (26),
 /// `Write` (27) and `ReadNeverEnds` (29), and with `TooManyChunks` (22) if the source gave more
 /// than 2^64 bytes. What was written by then is a prefix of the age file of what was read. After 26
-/// and 29 its last block is missing, so it is never a whole file of a shorter text.
+/// and 29 its last block is missing, so it is never a complete file of a shorter plaintext.
 ///
 /// [`Front::of`] and [`encrypt_after`] do the same in two steps.
 ///
-/// `age_vectors/src/stops.rt` encrypts, decrypts and resumes over memory.
+/// `age_vectors/src/stops.rt` encrypts, decrypts and resumes in memory.
 pub fn encrypt<S: Source, O: Sink>(
     alloc: Global,
     secret: &Secret<'_>,

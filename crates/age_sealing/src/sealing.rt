@@ -18,7 +18,7 @@ use age_stream::{BLOCK_LEN, Sealer};
 /// What seals the chunks of a payload.
 type PayloadSealer<'a> = Sealer<'a, PayloadKey, BLOCK_LEN>;
 
-/// Feeds a whole piece, and writes the blocks that come out.
+/// Feeds all of a piece, and writes the blocks that come out.
 fn seal_piece<O: Sink>(
     sealer: &mut PayloadSealer<'_>,
     piece: &[u8],

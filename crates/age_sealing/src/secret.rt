@@ -7,8 +7,8 @@ ghost use Rattle.age_sealing.specs.Encrypts.{SecretView};
 use age_keys::{PASSPHRASE_LIMIT, WORK_FACTOR_LIMIT};
 use std::marker::Model;
 
-/// What an age file for a passphrase is made of. Salt, file key and payload nonce have to be new
-/// random bytes for each file; nothing here can see that they are. A contract sees all five parts.
+/// What an age file for a passphrase is made of. Salt, file key and payload nonce must be new
+/// random bytes for each file, which nothing here can check. A contract sees all five parts.
 #[derive(Drop)]
 pub struct Secret<'a> {
     pub(crate) pass: &'a [u8],

@@ -40,19 +40,19 @@ StandsFor complete bytes = HasHeader bytes
 StandsFor (refused fault) bytes = (fault ≡ memory_fault)
     ⊎ ((¬ HasHeader bytes) × IsFault bytes fault)
 
--- it doesn't matter how the bytes were cut into pieces
+-- it doesn't matter how the bytes were split into pieces
 abbrev pub AnyPieces : Type 0
 AnyPieces = (pieces : List (List ℕ)) (parser : Parsing) → Fed pieces parser
     → StandsFor parser (concat pieces)
 
--- ---- Laws over the definitions alone.
+-- ---- Laws about the definitions alone.
 
 -- a text has at most one header, and no header's text begins another's
 abbrev pub OneHeader : Type 0
 OneHeader = (h k : Header) (a b x y : List ℕ) → Spells h a → Spells k b → a ++ x ≡ b ++ y
     → (h ≡ k) × (a ≡ b)
 
--- bytes have no more than one first fault
+-- bytes have at most one first fault
 abbrev pub OneFault : Type 0
 OneFault = (bytes : List ℕ) (fault other : HeadFault) → IsBytes bytes → IsFault bytes fault
     → IsFault bytes other → fault ≡ other

@@ -29,7 +29,7 @@ Begins bytes = (h : Header) × (rest : List ℕ) × Spells h (bytes ++ rest)
 abbrev pub IsLine : List ℕ → Type 0
 IsLine l = AllByRecursion (λ c. c ≢ 10) l
 
--- nothing, or whole lines
+-- nothing, or complete lines
 abbrev pub AreLines : List ℕ → Type 0
 AreLines bytes = (bytes ≡ []) ⊎ ((lines : List ℕ) × (bytes ≡ line lines))
 
@@ -45,7 +45,7 @@ pub record FirstFault (bytes before l : List ℕ) : Type 0 where
   -- no header's text begins with these lines and the line
   pub faulty : ¬ Begins (before ++ line l)
 
--- the version line and whole stanzas
+-- the version line and complete stanzas
 abbrev pub stanzas_text : List Stanza → List ℕ
 stanzas_text ss = line version ++ flat_map stanza_text ss
 
@@ -71,7 +71,7 @@ pub record RefusesLine (before l : List ℕ) (kind : HeadKind) : Type 0 where
   -- the first line is an armored file's, or no age file's
   pub first : before ≡ []
       → kind ≡ (if bytes_eq l armor || bytes_eq l (armor ++ 13 ∷ []) then Armored else NotAge)
-  -- a line after the version line and whole stanzas
+  -- a line after the version line and complete stanzas
   pub between : (ss : List Stanza) → AllByRecursion IsStanza ss → before ≡ stanzas_text ss
       → RefusesBetween l kind
   -- any other line is one of a body
@@ -141,8 +141,8 @@ FeedsParser (reading held) piece (Err fault) new = (new ≡ refused fault)
 FeedsParser complete piece result new = Unit {0}
 FeedsParser (refused fault) piece result new = (result ≡ Err fault) × (new ≡ refused fault)
 
--- what is returned at the end of the input: that the header is cut, in the line that the end comes
--- in, or the earlier fault
+-- what is returned at the end of the input: that the header is truncated, in the line in which the
+-- end comes, or the earlier fault
 abbrev pub Cuts : Parsing → HeadFault → Parsing → Type 0
 Cuts (reading held) fault new = (fault ≡ record { kind = HeadCut; line = line_after held })
     × (new ≡ refused fault) × (¬ HasHeader held) × NoFault held

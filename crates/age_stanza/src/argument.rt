@@ -17,7 +17,7 @@ enum Letters {
 }
 
 /// An argument of a stanza (<https://c2sp.org/age#header>). The value takes 24 bytes, and up to 8
-/// bytes of the argument lie in the value itself. So a header of many short arguments takes no
+/// bytes of the argument lie in the value itself. So a header of many short arguments needs no
 /// allocation for each. A contract sees the list of the argument's bytes.
 #[derive(Debug, Drop)]
 pub struct Argument {
@@ -35,7 +35,7 @@ impl Model for Argument {
 
 impl Argument {
     /// A copy of some bytes, whether or not [`is_argument`](crate::is_argument) holds of them. Up
-    /// to 8 bytes take no memory, so only for more may memory be refused.
+    /// to 8 bytes need no allocation, so only more can run out of memory.
     pub fn from_slice(alloc: Global, bytes: &[u8]) -> Result<Argument, AllocError>
         ensures copied { IfOk result (λ argument. argument ≡ bytes.now) }
         ensures refused { OnErr result (8 < length bytes.now) }

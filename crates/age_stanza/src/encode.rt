@@ -105,8 +105,8 @@ fn whole_text(alloc: Global, header: &Header, len: usize) -> Result<Vec<u8>, All
 }
 
 /// The text of a header (<https://c2sp.org/age#header>). It requires
-/// [`is_header`](crate::is_header). All memory is taken at once; the only fault is a refusal of it
-/// ([`HeadKind::Memory`](crate::HeadKind::Memory)).
+/// [`is_header`](crate::is_header). All memory is allocated at once; the only fault is running out
+/// of it ([`HeadKind::Memory`](crate::HeadKind::Memory)).
 pub fn encode_head(alloc: Global, header: &Header) -> Result<Vec<u8>, HeadFault>
     requires { HasText header.now }
     ensures text { IfOk result (λ bytes. HeadText header.now bytes.items) }
@@ -120,8 +120,8 @@ pub fn encode_head(alloc: Global, header: &Header) -> Result<Vec<u8>, HeadFault>
 
 /// The part of a header's text that its MAC covers: from the version line up to and with the `---`
 /// of the end line, without the space that follows (<https://c2sp.org/age#header-mac>). It requires
-/// [`is_header`](crate::is_header). All memory is taken at once; the only fault is a refusal of it
-/// ([`HeadKind::Memory`](crate::HeadKind::Memory)).
+/// [`is_header`](crate::is_header). All memory is allocated at once; the only fault is running out
+/// of it ([`HeadKind::Memory`](crate::HeadKind::Memory)).
 #[tactic(auto, using(crate::proofs::TextLengthLemmas::head_least))]
 pub fn mac_text(alloc: Global, header: &Header) -> Result<Vec<u8>, HeadFault>
     requires { HasText header.now }

@@ -5,7 +5,7 @@ use crate::header::Header;
 /// What a piece led to, if not to a fault.
 #[derive(Drop)]
 pub enum HeadStep {
-    /// The bytes so far are the beginning of a header; the whole piece was taken.
+    /// The bytes so far are the beginning of a header; all of the piece was taken.
     More,
     /// The header is complete with the first `taken` bytes of the piece. The last of these is the
     /// end line's LF.

@@ -4,16 +4,16 @@
 //! One or more recipient stanzas follow, each an argument line (`-> ` and arguments separated by
 //! single spaces) and a body in base64 (RFC 4648, section 4, without padding, canonical). The body
 //! is wrapped at 64 characters, and its last line is shorter than 64 and may be empty. The end line
-//! is `--- ` and the 43 characters of the header's MAC. The binary payload follows at once.
+//! is `--- ` and the 43 characters of the header's MAC. The binary payload follows immediately.
 //!
 //! A [`Header`] has recipient [`Stanzas`] and a MAC. A [`Stanza`] has [`Arguments`], each an
 //! [`Argument`], and a body, which is `Bytes`. Each of the three is a `List` of `age_io`.
 //!
-//! [`HeadParser`] takes a file's bytes in pieces, however they are cut, and returns the header as
-//! soon as its last byte came, or the first fault with its line. It accepts exactly the texts of
-//! the grammar and takes no byte of the payload. [`encode_head`] writes the one text of a header,
-//! and [`mac_text`] the part of it that the MAC covers. [`read_base64`] reads the bytes of an
-//! argument out of its base64.
+//! [`HeadParser`] takes a file's bytes in pieces, however they are split, and returns the header as
+//! soon as its last byte has arrived, or the first fault with its line. It accepts exactly the
+//! texts of the grammar and takes no byte of the payload. [`encode_head`] writes the one text of a
+//! header, and [`mac_text`] the part of it that the MAC covers. [`read_base64`] reads the bytes of
+//! an argument out of its base64.
 #![tactic(auto)]
 
 mod argument;

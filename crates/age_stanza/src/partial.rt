@@ -47,7 +47,7 @@ fn fault_at(kind: HeadKind, line: u64) -> HeadFault
 }
 
 /// Where a line leads if its first characters were kept, and its last ones came just now. A line
-/// that came whole is judged where it lies, without a copy.
+/// that came in one piece is judged where it lies, without a copy.
 fn step_whole(
     alloc: Global,
     place: Place,
@@ -73,7 +73,7 @@ impl PartialHeader {
     ghost use Rattle.age_stanza.specs.Grammar.{line};
     ghost use Rattle.age_stanza.specs.inner.LineMachine.{EndsLine, Fails};
 
-    /// Nothing came yet. Takes no memory.
+    /// Nothing has come yet. Allocates nothing.
     pub(crate) fn new(alloc: Global) -> PartialHeader
         ensures { result ≡ [] }
     {
@@ -138,7 +138,7 @@ impl PartialHeader {
         }
     }
 
-    /// The fault of a header that the input's end cut.
+    /// The fault of a header that the end of the input truncated.
     pub(crate) fn cut_fault(&self) -> HeadFault
         ensures { result ≡ record { kind = HeadKind.HeadCut; line = line_after self.now } }
     {

@@ -1,4 +1,4 @@
-//! One piece more of a header.
+//! One more piece of a header.
 
 ghost use Rattle.std.specs.Prelude.{◌≡◌, ◌==◌, ◌+◌, ◌<◌, ◌≤◌, length, take};
 ghost use Rattle.std.specs.List.{position};

@@ -10,7 +10,7 @@ ghost use Rattle.age_stanza.specs.{base64_text};
 use base64::engine::general_purpose::STANDARD_NO_PAD;
 
 /// Reads the bytes of a body's line into `room`, and returns how many there are; `None` if it is no
-/// canonical text. So a line takes no allocation of its own.
+/// canonical text. So a line needs no allocation of its own.
 pub(crate) fn decode_line(line: &[u8], room: &mut [u8]) -> Option<usize>
     requires line { length line.now ≤ 64 }
     requires room { length room.old ≡ 48 }
@@ -23,7 +23,7 @@ pub(crate) fn decode_line(line: &[u8], room: &mut [u8]) -> Option<usize>
 
 /// Reads as many bytes as there is room for, at most 32, out of a text in canonical base64 without
 /// padding (RFC 4648, sections 3.5 and 4). False means that the text doesn't spell this many bytes,
-/// and leaves `bytes` as they were.
+/// and leaves `bytes` unchanged.
 pub fn read_base64(characters: &[u8], bytes: &mut [u8]) -> bool
     requires { length bytes.old ≤ 32 }
     ensures read { OnTrue result (characters.now ≡ base64_text bytes.new) }

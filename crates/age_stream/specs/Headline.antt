@@ -16,13 +16,13 @@ use Rattle.age_stream.specs.declared.step.Status.TheVariants.{Done}
 -- ---- The premise: what opens is the writer's. A chunk has n bytes.
 
 module _ (sealing : Seals) (opening : OpensBlock) (n : ℕ) (text : List ℕ) where
-  -- if the block opens at the nonce, the writer of the text sealed it there
+  -- if the block opens at the nonce, the writer of the plaintext sealed it there
   abbrev pub IsWriters : List ℕ → List ℕ → Type 0
   IsWriters nonce block = IsSome (opening nonce block)
       → Contains (sealed sealing n text) (nonce, block)
 
   -- each block that the segment tries is the writer's, if it opens: the blocks in front and the
-  -- next one, each if it is whole, as not the last; and the next one as the last
+  -- next one, each if it is complete, as not the last; and the next one as the last
   pub record IsAuthentic (s : Segment) : Type 0 where
     pub not_last : (j : ℕ) → j ≤ length (stop opening n s).texts
         → length (block_at n s.bytes j) ≡ n + tag_length
@@ -96,13 +96,13 @@ module _ (sealing : Seals) (opening : OpensBlock) (n : ℕ) (text : List ℕ) wh
         → IsFirstWrong sealing n text s i
     pub few : (i : ℕ) → status ≢ failed TooManyChunks i
 
--- ---- What then holds of the text.
+-- ---- What then holds of the plaintext.
 
 abbrev pub IsPrefixOf : List ℕ → List ℕ → Type 0
 IsPrefixOf xs ys = (rest : List ℕ) × (xs ++ rest ≡ ys)
 
 module _ (sealing : Seals) (opening : OpensBlock) (n : ℕ) (text : List ℕ) where
-  -- what is held is the beginning of the text, its end is reported only with all of it and only of
+  -- what is held is a prefix of the plaintext, its end is reported only with all of it and only of
   -- a segment that starts within it, what is undamaged gives all of it and its end, and each block
   -- of the current segment stands in its place
   pub record IsRight (Undamaged : Type 0) (s : Segment) (held : List ℕ)
@@ -116,16 +116,16 @@ module _ (sealing : Seals) (opening : OpensBlock) (n : ℕ) (text : List ℕ) wh
 -- ---- The headline.
 
 module _ (sealing : Seals) (opening : OpensBlock) (n : ℕ) where
-  -- the headline: for every text of at most 2^48 chunks, while no delivered block opens except as
-  -- its writer sealed it
+  -- the headline: for every plaintext of at most 2^48 chunks, while no delivered block opens except
+  -- as its writer sealed it
   abbrev pub HoldsWritten : List Delivery → List ℕ → Status → Type 0
   HoldsWritten deliveries held status = (text : List ℕ) → chunk_count n text ≤ chunk_limit
       → AreAuthentic sealing opening n text deliveries
       → IsRight sealing opening n text ((k : ℕ) × IsUndamaged sealing opening n text k deliveries)
       (standing opening n deliveries).segment held status
 
-  -- the headline of one segment, which may start at any chunk, also past the end of the text: of
-  -- the text before its start, and what it released
+  -- the headline of one segment, which may start at any chunk, also past the end of the plaintext:
+  -- of the plaintext before its start, and what it released
   abbrev pub ReleasesWritten : Segment → List ℕ → Status → Type 0
   ReleasesWritten s released status = (text : List ℕ) → chunk_count n text ≤ chunk_limit
       → s.start < chunk_limit → IsAuthentic sealing opening n text s

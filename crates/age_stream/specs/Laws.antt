@@ -16,34 +16,37 @@ use Rattle.age_stream.specs.declared.delivery.Delivery.{Delivery}
 use Rattle.age_stream.specs.declared.delivery.Delivery.TheVariants.{Piece, End}
 use Rattle.age_stream.specs.declared.step.Status.TheVariants.{Done, Open, Failed}
 
--- ---- How long a text and its payload are, in chunks of 65,536 bytes (C2SP age.md, "Payload").
+-- ---- How long a plaintext and its payload are, in chunks of 65,536 bytes (C2SP age.md,
+-- "Payload").
 
--- how many chunks a text of this many bytes has
+-- how many chunks a plaintext of this many bytes has
 abbrev pub chunks_for : ℕ → ℕ
 chunks_for len = (len - 1) / chunk_length + 1
 
--- a text of `len` bytes has a payload of `size` bytes, and no more chunks than a payload may have
+-- a plaintext of `len` bytes has a payload of `size` bytes, and no more chunks than a payload may
+-- have
 abbrev pub IsTextLength : ℕ → ℕ → Type 0
 IsTextLength size len =
     (len + tag_length * chunks_for len ≡ size) × (chunks_for len ≤ chunk_limit)
 
--- the length of the texts whose payload has this many bytes, or none if no payload has this length
+-- the length of the plaintexts whose payload has this many bytes, or none if no payload has this
+-- length
 abbrev pub IsTextLengthOf : ℕ → Option ℕ → Type 0
 IsTextLengthOf size len =
     MatchOption len ((l : ℕ) → IsTextLength size l → ⊥) (IsTextLength size)
 
--- if the payloads of two texts have the same length, so have the texts, and a text has the length
--- that its payload says
+-- if the payloads of two plaintexts have the same length, so have the plaintexts, and a plaintext
+-- has the length that its payload says
 abbrev pub LengthsAreOne : Type 0
 LengthsAreOne = ((size len other : ℕ) → IsTextLength size len → IsTextLength size other
     → len ≡ other)
     × OfAllBoxes (λ sealing opening. (text : List ℕ) → chunk_count chunk_length text ≤ chunk_limit
     → IsTextLength (length (payload sealing chunk_length text)) (length text))
 
--- ---- The chunks of a text, in the words of the standard. A chunk has n bytes.
+-- ---- The chunks of a plaintext, in the words of the standard. A chunk has n bytes.
 
--- the parts join to the text; all but the last have n bytes; the last has 1 to n, or the text is
--- empty and there is one empty part
+-- the parts join to the plaintext; all but the last have n bytes; the last has 1 to n, or the
+-- plaintext is empty and there is one empty part
 pub record AreChunks (n : ℕ) (text : List ℕ) (parts : List (List ℕ)) : Type 0 where
   pub front : List (List ℕ)
   pub last : List ℕ
@@ -52,7 +55,7 @@ pub record AreChunks (n : ℕ) (text : List ℕ) (parts : List (List ℕ)) : Typ
   pub full : AllByRecursion (λ (part : List ℕ). length part ≡ n) front
   pub rest : ((0 < length last) × (length last ≤ n)) ⊎ ((text ≡ []) × (parts ≡ [] ∷ []))
 
--- a text has exactly one list of chunks
+-- a plaintext has exactly one list of chunks
 abbrev pub ChunksAreOne : Type 0
 ChunksAreOne = (n : ℕ) (text : List ℕ) → 0 < n
     → AreChunks n text (chunks n text)
@@ -69,8 +72,8 @@ SealsChunks = (sealing : Seals) (n : ℕ) (text : List ℕ) (parts : List (List 
       sealing (nonce_bytes i (i + 1 == length parts)) (slice_index_or parts i []),
     ))
 
--- ---- When the headline's premise is met: the payload of a writer, delivered as it is. A chunk has
--- n bytes.
+-- ---- When the headline's premise is met: the payload of a writer, delivered unchanged. A chunk
+-- has n bytes.
 
 -- the bytes come once, in any pieces, and then an end
 pub record AreWhole (bytes : List ℕ) (deliveries : List Delivery) : Type 0 where
@@ -78,7 +81,7 @@ pub record AreWhole (bytes : List ℕ) (deliveries : List Delivery) : Type 0 whe
   pub are : deliveries ≡ map Piece pieces ++ End ∷ []
   pub join : flat_map (λ (piece : Bor (List ℕ)). piece.now) pieces ≡ bytes
 
--- if these bytes are delivered whole, the text is held, and its end was reported
+-- if all of these bytes are delivered, the plaintext is held, and its end was reported
 abbrev pub GivesBack : OpensBlock → ℕ → List ℕ → List ℕ → Type 0
 GivesBack opening n bytes text = (deliveries : List Delivery) → AreWhole bytes deliveries
     → (text_held opening n (standing opening n deliveries) ≡ text)
@@ -92,14 +95,14 @@ module _ (sealing : Seals) (opening : OpensBlock) (n : ℕ) (text : List ℕ) wh
       (sealing (nonce_bytes (last_index n text) true) (last_chunk n text))
       ≡ None
 
-  -- a box that meets its law seals the text in chunks of n bytes, and the payload is closed
+  -- a box that meets its law seals the plaintext in chunks of n bytes, and the payload is closed
   pub record IsSealable : Type 0 where
     pub valid : IsChunkBox sealing opening
     pub some : 0 < n
     pub few : chunk_count n text ≤ chunk_limit
     pub closed : IsClosed
 
--- a claim about every such box and text
+-- a claim about every such box and plaintext
 abbrev pub OfAllSealable : (Seals → OpensBlock → ℕ → List ℕ → Type 0) → Type 0
 OfAllSealable Claim = (sealing : Seals) (opening : OpensBlock) (n : ℕ) (text : List ℕ)
     → IsSealable sealing opening n text → Claim sealing opening n text
@@ -117,29 +120,29 @@ UndamagedIsAuthentic = OfAllSealable (λ sealing opening n text. (k : ℕ)
     → AllByRecursion (IsAuthentic sealing opening n text) (standing opening n rest.front).given_up
     → AreAuthentic sealing opening n text deliveries)
 
--- deliveries of a whole payload are authentic
+-- deliveries of a complete payload are authentic
 abbrev pub WholeIsAuthentic : Type 0
 WholeIsAuthentic = OfAllSealable (λ sealing opening n text. (deliveries : List Delivery)
     → AreWhole (payload sealing n text) deliveries → AreAuthentic sealing opening n text deliveries)
 
--- a sealable payload gives its text back
+-- a sealable payload gives its plaintext back
 abbrev pub PayloadRoundTrip : Type 0
 PayloadRoundTrip = OfAllSealable (λ sealing opening n text.
     GivesBack opening n (payload sealing n text) text)
 
--- in the clear every text of at most 2^48 chunks is sealable
+-- in the clear every plaintext of at most 2^48 chunks is sealable
 abbrev pub ClearIsSealable : Type 0
 ClearIsSealable = (n : ℕ) (text : List ℕ) → 0 < n → chunk_count n text ≤ chunk_limit
     → IsSealable clear_sealing clear_opening n text
 
--- ---- Laws over the definitions. A chunk has n bytes.
+-- ---- Laws about the definitions. A chunk has n bytes.
 
 -- no two chunks of a payload have the same nonce
 abbrev pub NoncesDiffer : Type 0
 NoncesDiffer = (i j : ℕ) (a b : Bool) → i < chunk_limit → j < chunk_limit
     → nonce_bytes i a ≡ nonce_bytes j b → (i ≡ j) × (a ≡ b)
 
--- different texts seal to different blocks
+-- different plaintexts seal to different blocks
 abbrev pub SealingsDiffer : Type 0
 SealingsDiffer = OfAllBoxes (λ sealing opening. (nonce text other : List ℕ) → length nonce ≡ 12
     → sealing nonce text ≡ sealing nonce other → text ≡ other)
@@ -149,7 +152,7 @@ abbrev pub PiecesJoin : Type 0
 PiecesJoin = (s : Segment) (piece more : List ℕ)
     → with_piece (with_piece s piece) more ≡ with_piece s (piece ++ more)
 
--- with more bytes the text that was released only grows, and the index never falls
+-- with more bytes the plaintext that was released only grows, and the index never falls
 abbrev pub ReleasedGrows : Type 0
 ReleasedGrows = (opening : OpensBlock) (n : ℕ) (s : Segment) (piece : List ℕ)
     → (s.ended ≡ false → s.late ≡ false)
@@ -192,7 +195,8 @@ PayloadIsLonger = OfAllBoxes (λ sealing opening. (n : ℕ) (text : List ℕ)
     × (length (block_bytes (sealed_before_last sealing n text))
     ≡ last_index n text * (n + tag_length)))
 
--- the payload of a text, without its last block, begins the payload of the text and more
+-- the payload of a plaintext, without its last block, is a prefix of the payload of any longer
+-- plaintext that begins with that plaintext
 abbrev pub SealedGrows : Type 0
 SealedGrows = (sealing : Seals) (n : ℕ) (text more : List ℕ) → 0 < n
     → IsPrefixOf (block_bytes (sealed_before_last sealing n text))
@@ -202,8 +206,8 @@ SealedGrows = (sealing : Seals) (n : ℕ) (text more : List ℕ) → 0 < n
 abbrev pub counted_chunks : OpensBlock → ℕ → Segment → List (List ℕ)
 counted_chunks opening n s = take ((outcome opening n s).index - s.start) (outcome opening n s).texts
 
--- after a base of as many whole chunks as stand before the segment, the chunks that it counts are
--- the first of all text so far; while it is open they are all that it released
+-- after a base of as many full chunks as stand before the segment, the chunks that it counts are
+-- the first of all plaintext so far; while it is open they are all that it released
 pub record IsCounted (opening : OpensBlock) (n : ℕ) (base : List ℕ) (s : Segment) : Type 0 where
   pub count : s.start + length (counted_chunks opening n s) ≡ (outcome opening n s).index
   pub within : (outcome opening n s).index * n ≤ length (base ++ released opening n s)

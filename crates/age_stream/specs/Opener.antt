@@ -15,12 +15,12 @@ use Rattle.age_stream.specs.declared.step.Step.{Step}
 
 -- ---- What a call lends.
 
--- the bytes of the block or text that is lent, or none
+-- the bytes of the block or plaintext that is lent, or none
 abbrev pub chunk_bytes : Option (Bor (List ℕ)) → List ℕ
 chunk_bytes None = []
 chunk_bytes (Some chunk) = chunk.now
 
--- the text that is lent, or none
+-- the plaintext that is lent, or none
 abbrev pub chunk_texts : Option (Bor (List ℕ)) → List (List ℕ)
 chunk_texts None = []
 chunk_texts (Some chunk) = chunk.now ∷ []
@@ -50,7 +50,7 @@ has_failed (Failed fault) = true
 has_failed other = false
 
 -- an opener was given this segment: it stands where the outcome says, and holds what is left after
--- all whole blocks
+-- all full blocks
 pub record Stands {B : Type 0} (opening : B → OpensBlock) (n : ℕ) (o : OpenerView B)
     (s : Segment) : Type 0 where
   pub index : o.index ≡ (outcome (opening o.key) n s).index
@@ -63,7 +63,7 @@ abbrev pub given : {T : Type 0} → (T → ℕ) → Result T StreamFault → Lis
 given taken (Ok step) piece = take (taken step) piece
 given taken (Err fault) piece = piece
 
--- the texts that an answer hands over
+-- the plaintexts that an answer hands over
 abbrev pub handed : {T : Type 0} → (T → List (List ℕ)) → Result T StreamFault → List (List ℕ)
 handed texts (Ok step) = texts step
 handed texts (Err fault) = []
@@ -78,15 +78,15 @@ abbrev pub while_open : Status → ℕ → ℕ
 while_open Open len = len
 while_open other len = 0
 
--- how much text this many bytes hold: of each whole block what isn't its tag
+-- how much plaintext this many bytes hold: of each full block what isn't its tag
 abbrev pub whole_text : ℕ → ℕ → ℕ
 whole_text n len = len / (n + tag_length) * n
 
--- how much text an end releases, if it releases any: what is held, without the tag
+-- how much plaintext an end releases, if it releases any: what is held, without the tag
 abbrev pub text_at_end : {B : Type 0} → OpenerView B → ℕ
 text_at_end o = while_open o.status (text_length (length o.held))
 
--- how much text a piece releases at most
+-- how much plaintext a piece releases at most
 abbrev pub text_of_piece : {B : Type 0} → ℕ → OpenerView B → ℕ → ℕ
 text_of_piece n o len = while_open o.status (whole_text n (length o.held + len))
 
@@ -112,7 +112,7 @@ module _ {B : Type 0} (sealing : B → Seals) (opening : B → OpensBlock) (n : 
     pub fault : IfErr answer (λ fault. new.status ≡ Failed fault)
     -- after Ok it isn't refused
     pub unfailed : OnOk answer (has_failed new.status ≡ false)
-    -- a text that is lent is a whole chunk and ended the block that was open; nothing is held
+    -- a plaintext that is lent is a full chunk and ended the block that was open; nothing is held
     pub lent : IfOk answer (λ step. IfSome step.chunk (λ chunk. (length chunk.now ≡ n)
         × (length old.held + step.taken ≡ n + tag_length) × (new.held ≡ [])))
     -- if nothing is lent, all that was taken is held
@@ -122,7 +122,8 @@ module _ {B : Type 0} (sealing : B → Seals) (opening : B → OpensBlock) (n : 
     pub refused : OnErr answer (new.held ≡ [])
     -- an empty piece changes nothing
     pub unchanged : length piece ≡ 0 → new ≡ old
-    -- the headline: while what opens is the writer's, what was released begins the text
+    -- the headline: while what opens is the writer's, what was released is a prefix of the
+    -- plaintext
     pub written : (s : Segment) → Stands opening n old s
         → ReleasesWritten (sealing old.key) (opening old.key) n (fed s piece answer)
         (released (opening old.key) n s
@@ -142,7 +143,7 @@ module _ {B : Type 0} (sealing : B → Seals) (opening : B → OpensBlock) (n : 
     pub done : OnOk answer (new.status ≡ Done)
     -- it holds nothing
     pub nothing_held : new.held ≡ []
-    -- the headline: while what opens is the writer's, Ok comes only with all of the text
+    -- the headline: while what opens is the writer's, Ok comes only with all of the plaintext
     pub written : (s : Segment) → Stands opening n old s
         → ReleasesWritten (sealing old.key) (opening old.key) n (with_end s)
         (released (opening old.key) n s ++ handed_bytes answer) new.status
@@ -172,11 +173,12 @@ module _ {B : Type 0} (opening : B → OpensBlock) (size : ℕ) (old : OpenerVie
     pub was_open : OnOk answer (0 < length piece → old.status ≡ Open)
 
   pub record Ends (answer : Result (Bor (List ℕ)) StreamFault) : Type 0 where
-    -- the text that is lent is what the segment releases at its end
+    -- the plaintext that is lent is what the segment releases at its end
     pub text : (s : Segment) → Stands opening (text_length size) old s
         → released (opening old.key) (text_length size) (with_end s)
         ≡ released (opening old.key) (text_length size) s ++ handed_bytes answer
-    -- the text that is lent is as long as what was held, without a tag; empty if no block was open
+    -- the plaintext that is lent is as long as what was held, without a tag; empty if no block was
+    -- open
     pub len : IfOk answer (λ text. length text.now ≡ text_at_end old)
     -- a fault that came before comes again
     pub again : IfErr answer

@@ -1,4 +1,4 @@
--- What text a replay holds after any deliveries, and what a drill answers.
+-- What plaintext a replay holds after any deliveries, and what a drill answers.
 use Rattle.std.specs.Prelude.{◌≡◌, ◌<◌, ◌≤◌, ◌+◌, ℕ, List, [], ◌∷◌, ◌++◌, length, vec_capacity, Result, OnOk}
 use Rattle.std.specs.Prelude.{OnErr}
 use Rattle.age_chunk.specs.{Seals, OpensBlock}
@@ -18,9 +18,9 @@ pub record ReplayView (B : Type 0) : Type 0 where
   pub key : B
   -- the opener of the current segment
   pub opener : OpenerView B
-  -- the text that is held
+  -- the plaintext that is held
   pub text : List ℕ
-  -- how many bytes of text there is room for with no more memory
+  -- how many bytes of plaintext there is room for with no more memory
   pub capacity : ℕ
   -- how many restarts were refused
   pub refused : ℕ
@@ -49,14 +49,14 @@ module _ {B : Type 0} (opening : B → OpensBlock) (n : ℕ) where
   abbrev pub Replays : ReplayView B → List Delivery → Type 0
   Replays r deliveries = IsReplayAt r (standing (opening r.key) n deliveries)
 
--- how many bytes of text a delivery releases at most: room for no more is asked for
+-- how many bytes of plaintext a delivery releases at most: room for no more is asked for
 abbrev pub could_release : {B : Type 0} → ℕ → OpenerView B → Delivery → ℕ
 could_release n o (Piece piece) = text_of_piece n o (length piece.now)
 could_release n o End = text_at_end o
 could_release n o (Restart k) = 0
 
--- the delivery could release some text, and there is no room for as much of it as it could: so it
--- is never a restart
+-- the delivery could release some plaintext, and there is no room for as much of it as it could: so
+-- it is never a restart
 pub record IsCramped {B : Type 0} (n : ℕ) (r : ReplayView B) (delivery : Delivery) : Type 0 where
   pub some : 0 < could_release n r.opener delivery
   pub full : r.capacity < length r.text + could_release n r.opener delivery
@@ -68,18 +68,18 @@ module _ {B : Type 0} (sealing : B → Seals) (opening : B → OpensBlock) (n : 
     -- whatever deliveries it was given before, it was then given these and this one
     pub held : OnOk answer ((deliveries : List Delivery) → Replays opening n old deliveries
         → Replays opening n new (deliveries ++ delivery ∷ []))
-    -- the headline: while no block opens except as the writer of a text sealed it, what is held is
-    -- the beginning of that text, the end is reported only with all of it, an undamaged payload, or
-    -- its rest, gives all of it, and each block stands in its place
+    -- the headline: while no block opens except as the writer of a plaintext sealed it, what is
+    -- held is a prefix of that plaintext, the end is reported only with all of it, an undamaged
+    -- payload, or its rest, gives all of it, and each block stands in its place
     pub written : OnOk answer ((deliveries : List Delivery) → Replays opening n old deliveries
         → HoldsWritten (sealing old.key) (opening old.key) n (deliveries ++ delivery ∷ [])
         new.text new.opener.status)
-    -- if memory is refused nothing changes
+    -- if memory runs out, nothing changes
     pub err : OnErr answer (new ≡ old)
-    -- memory is refused only if the delivery could release more text than there is room for: never
-    -- at a restart, nor after the last chunk or a fault
+    -- memory runs out only if the delivery could release more plaintext than there is room for:
+    -- never at a restart, nor after the last chunk or a fault
     pub memory : OnErr answer (IsCramped n old delivery)
-    -- the room for text doesn't shrink
+    -- the room for plaintext doesn't shrink
     pub capacity : old.capacity ≤ new.capacity
     -- its key stays
     pub key : new.key ≡ old.key

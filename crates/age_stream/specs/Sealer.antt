@@ -1,4 +1,4 @@
--- What a sealer stands for, what its calls answer, and how a whole text is sealed.
+-- What a sealer stands for, what its calls answer, and how a complete plaintext is sealed.
 use Rattle.std.specs.Prelude.{◌≡◌, ℕ, ◌-◌, List, [], ◌∷◌, Option, Some, None, length, min, Bool, nat_lt, ◌==◌}
 use Rattle.std.specs.Prelude.{◌&&◌, ◌||◌, if◌then◌else◌, ◌<◌, ◌++◌, take, true, false, Result, IfOk, IfErr}
 use Rattle.std.specs.Prelude.{IfSome, OnOk, OnErr, ◌+◌, ◌*◌, ◌≤◌}
@@ -17,8 +17,8 @@ use Rattle.age_stream.specs.declared.whole_text.SealFault.TheVariants.{Stream, M
 
 -- ---- What a sealer stands for, and what its calls answer. A chunk has n bytes.
 
--- a sealer's key, the text of the chunk that is open, that chunk's number, whether it was refused,
--- and whether the last chunk was sealed
+-- a sealer's key, the plaintext of the chunk that is open, that chunk's number, whether it was
+-- refused, and whether the last chunk was sealed
 pub record SealerView (B : Type 0) : Type 0 where
   pub key : B
   pub held : List ℕ
@@ -26,8 +26,8 @@ pub record SealerView (B : Type 0) : Type 0 where
   pub failed : Bool
   pub finished : Bool
 
--- the text of the open chunk: what the buffer holds; or, while the buffer's block is lent, the one
--- byte that is kept beside it
+-- the plaintext of the open chunk: what the buffer holds; or, while the buffer's block is lent, the
+-- one byte that is kept beside it
 abbrev pub text_beside : Option ℕ → List ℕ → List ℕ
 text_beside None text = text
 text_beside (Some byte) text = byte ∷ []
@@ -46,7 +46,7 @@ module _ {B : Type 0} {n : ℕ} {g : _} where
     finished = s.finished;
   }
 
--- a sealer was given this text: it holds the last chunk, and its index is that chunk's
+-- a sealer was given this plaintext: it holds the last chunk, and its index is that chunk's
 pub record Holds {B : Type 0} (n : ℕ) (s : SealerView B) (text : List ℕ) : Type 0 where
   pub index : s.index ≡ last_index n text
   pub held : s.held ≡ last_chunk n text
@@ -88,10 +88,10 @@ module _ {B : Type 0} (n : ℕ) (old : SealerView B) where
     pub index : IfOk answer (λ step. step.index ≡ new.index)
     -- after Ok it isn't refused
     pub unfailed : OnOk answer (new.failed ≡ false)
-    -- it was given the text that it was given before, and what was taken
+    -- the plaintext that it was given has grown by what was taken
     pub holds : IfOk answer (λ step. (text : List ℕ) → Holds n old text
         → Holds n new (text ++ take step.taken piece))
-    -- a refusal leaves all else as it was
+    -- a refusal leaves all else unchanged
     pub refused : OnErr answer (IsRefused old new)
     -- an empty piece changes nothing
     pub unchanged : length piece ≡ 0 → new ≡ old
@@ -109,7 +109,7 @@ module _ {B : Type 0} (n : ℕ) (old : SealerView B) where
     pub index : OnOk answer (new.index ≡ old.index)
     -- it holds the block that it lent
     pub held : IfOk answer (λ block. new.held ≡ block.now)
-    -- a refusal leaves all else as it was
+    -- a refusal leaves all else unchanged
     pub refused : OnErr answer (IsRefused old new)
     -- a refusal doesn't finish the sealer
     pub unfinished : OnErr answer (new.finished ≡ false)
@@ -126,7 +126,7 @@ module _ {B : Type 0} (sealing : B → Seals) (size : ℕ) (old : SealerView B) 
         (text ++ take step.taken piece))
         ≡ block_bytes (sealed_before_last (sealing old.key) (text_length size) text)
         ++ chunk_bytes step.chunk)
-    -- a block that is lent is a whole one
+    -- a block that is lent is a full one
     pub whole : IfOk answer (λ step. IfSome step.chunk (λ block. length block.now ≡ size))
     -- no byte that is taken needs a chunk too many
     pub fits : IfOk answer (λ _. needs_too_many (text_length size) old piece ≡ false)
@@ -136,7 +136,7 @@ module _ {B : Type 0} (sealing : B → Seals) (size : ℕ) (old : SealerView B) 
         × (fault ≡ too_many old.index))
 
   pub record Finishes (answer : Result (Bor (List ℕ)) StreamFault) : Type 0 where
-    -- the block that is lent ends the payload of the text that the sealer was given
+    -- the block that is lent ends the payload of the plaintext that the sealer was given
     pub chunk : IfOk answer (λ block. (text : List ℕ) → Holds (text_length size) old text
         → payload (sealing old.key) (text_length size) text
         ≡ block_bytes (sealed_before_last (sealing old.key) (text_length size) text)
@@ -148,10 +148,10 @@ module _ {B : Type 0} (sealing : B → Seals) (size : ℕ) (old : SealerView B) 
     -- the end is refused only if a feed was, with the same fault
     pub refused : IfErr answer (λ fault. (old.failed ≡ true) × (fault ≡ too_many old.index))
 
--- ---- How a whole text is sealed, and why it isn't. A chunk has n bytes.
+-- ---- How a complete plaintext is sealed, and why it isn't. A chunk has n bytes.
 
--- a text has more than 2^48 chunks, which is reported at the last that a payload may have; or
--- memory was refused, if the payload has more bytes than there was room for
+-- a plaintext has more than 2^48 chunks, which is reported at the last that a payload may have; or
+-- memory ran out, if the payload has more bytes than there was room for
 abbrev pub SealRefuses : ℕ → List ℕ → ℕ → SealFault → Type 0
 SealRefuses n text room (Stream fault) = (chunk_limit * n < length text)
     × (fault ≡ too_many (chunk_limit - 1))
@@ -163,7 +163,7 @@ module _ (sealing : Seals) (n : ℕ) (text : List ℕ) where
       (new : List ℕ) : Type 0 where
     -- the payload is appended
     pub sealed : OnOk answer (new ≡ old ++ payload sealing n text)
-    -- Ok comes only for a text of at most 2^48 chunks
+    -- Ok comes only for a plaintext of at most 2^48 chunks
     pub few : OnOk answer (chunk_count n text ≤ chunk_limit)
     -- a refusal has a reason
     pub refused : IfErr answer (SealRefuses n text room)
@@ -175,10 +175,10 @@ module _ (sealing : Seals) (opening : OpensBlock) (n : ℕ) (text : List ℕ) wh
   pub record SealsPayload {Z : Type 0} (answer : Result (Vec ℕ Z) SealFault) : Type 0 where
     -- the answer is the payload
     pub sealed : IfOk answer (λ bytes. bytes.items ≡ payload sealing n text)
-    -- Ok comes only for a text of at most 2^48 chunks
+    -- Ok comes only for a plaintext of at most 2^48 chunks
     pub few : OnOk answer (chunk_count n text ≤ chunk_limit)
-    -- the payload, delivered in any pieces and then an end, is held as the text again, with the
-    -- status Done
+    -- the payload, delivered in any pieces and then an end, is held as the plaintext again, with
+    -- the status Done
     pub gives_back : IfOk answer (λ bytes. IsClosed sealing opening n text
         → GivesBack opening n bytes.items text)
     -- a refusal has a reason; there was no room before

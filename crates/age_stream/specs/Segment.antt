@@ -1,4 +1,4 @@
--- What an opener makes of a payload, and what text is held after any deliveries of it.
+-- What an opener makes of a payload, and what plaintext is held after any deliveries of it.
 use Rattle.std.specs.Prelude.{ℕ, ◌+◌, ◌*◌, ◌/◌, Bool, true, false, not, ◌||◌, ◌&&◌, ◌==◌, nat_lt, List, []}
 use Rattle.std.specs.Prelude.{◌∷◌, ◌++◌, length, take, drop, Option, Some, None, is_some, is_none}
 use Rattle.std.specs.Prelude.{if◌then◌else◌, nat_le, min}
@@ -24,7 +24,8 @@ pub record Segment : Type 0 where
   pub ended : Bool
   pub late : Bool
 
--- what a segment gives: the texts that are released, the chunk at which it stands, and the status
+-- what a segment gives: the plaintexts that are released, the chunk at which it stands, and the
+-- status
 pub record Outcome : Type 0 where
   pub texts : List (List ℕ)
   pub index : ℕ
@@ -43,8 +44,8 @@ rest_bytes n bytes = drop (length bytes / (n + tag_length) * (n + tag_length)) b
 abbrev pub block_at : ℕ → List ℕ → ℕ → List ℕ
 block_at n bytes j = take (n + tag_length) (drop (j * (n + tag_length)) bytes)
 
--- where a segment stands: the texts of the blocks in front, the number of the next block, what came
--- of it, whether that is all of it, whether bytes came after it, and whether the input ended
+-- where a segment stands: the plaintexts of the blocks in front, the number of the next block, what
+-- came of it, whether that is all of it, whether bytes came after it, and whether the input ended
 pub record Frontier : Type 0 where
   pub texts : List (List ℕ)
   pub index : ℕ
@@ -88,7 +89,7 @@ unless_greatest i None = None
 unless_greatest i (Some text) = if nat_lt (i + 1) chunk_limit then Some text else None
 
 module _ (opening : OpensBlock) where
-  -- the text of block number i as one before the last
+  -- the plaintext of block number i as one before the last
   abbrev pub text_before_last : ℕ → List ℕ → Option (List ℕ)
   text_before_last i block = unless_greatest i (opening (nonce_bytes i false) block)
 
@@ -96,7 +97,7 @@ module _ (opening : OpensBlock) where
   text_then None texts = []
   text_then (Some text) texts = text ∷ texts
 
-  -- the texts of the blocks in front that open as not last, the first of them at number i
+  -- the plaintexts of the blocks in front that open as not last, the first of them at number i
   abbrev pub front_texts : ℕ → List (List ℕ) → List (List ℕ)
   front_texts i [] = []
   front_texts i (block ∷ blocks) = text_then (text_before_last i block) (front_texts (i + 1) blocks)
@@ -115,7 +116,7 @@ module _ (opening : OpensBlock) where
         ended = s.ended;
       }
 
-  -- a whole block that opens as one before the last, though it isn't in front: its number is the
+  -- a full block that opens as one before the last, though it isn't in front: its number is the
   -- greatest
   abbrev pub is_too_many : Frontier → Bool
   is_too_many b = b.whole && is_some (opening (nonce_bytes b.index false) b.block)
@@ -124,7 +125,7 @@ module _ (opening : OpensBlock) where
   abbrev pub is_damaged : Frontier → Bool
   is_damaged b = is_none (opening (nonce_bytes b.index true) b.block)
 
-  -- the text of the last block is released
+  -- the plaintext of the last block is released
   abbrev pub releases_last : Frontier → Status → Outcome
   releases_last b status =
       let texts = text_then (opening (nonce_bytes b.index true) b.block) [] in
@@ -153,8 +154,8 @@ module _ (opening : OpensBlock) where
 
 -- ---- What is held after a list of deliveries.
 
--- what deliveries leave: the segments that were given up, the text before the current segment, that
--- segment, and how many restarts were refused
+-- what deliveries leave: the segments that were given up, the plaintext before the current segment,
+-- that segment, and how many restarts were refused
 pub record Standing : Type 0 where
   pub given_up : List Segment
   pub base : List ℕ
@@ -176,7 +177,7 @@ abbrev pub with_end : Segment → Segment
 with_end s = record s { ended = true }
 
 module _ (opening : OpensBlock) (n : ℕ) where
-  -- the text before the current segment, and what that segment released
+  -- the plaintext before the current segment, and what that segment released
   abbrev pub text_held : Standing → List ℕ
   text_held s = s.base ++ flat_map (λ text. text) (outcome opening n s.segment).texts
 

@@ -47,7 +47,7 @@ status_ended Done = Done
 status_ended Open = Open
 
 module _ (opening : OpensBlock) where
-  -- what the last bytes of a segment give after these texts, if they make no whole block
+  -- what the last bytes of a segment give after these plaintexts, if they make no full block
   abbrev pub final_block : List (List ℕ) → ℕ → List ℕ → Bool → Bool → Outcome
   final_block texts i rest late ended = verdict opening (record {
     texts = texts;
@@ -58,8 +58,8 @@ module _ (opening : OpensBlock) where
     ended = ended;
   })
 
-  -- tried as the last block, with its text if it opened, whether bytes followed it, and whether the
-  -- input ended
+  -- tried as the last block, with its plaintext if it opened, whether bytes followed it, and
+  -- whether the input ended
   abbrev pub after_last : List (List ℕ) → ℕ → Option (List ℕ) → Bool → Bool → Outcome
   after_last texts i None followed ended =
       record { texts = texts; index = i; status = failed ChunkDamaged i }
@@ -70,7 +70,7 @@ module _ (opening : OpensBlock) where
         status = first_line ((followed, failed Trailing i) ∷ (ended, Done) ∷ []) LastSeen;
       }
 
-  -- a whole block, with its text if it opened as one before the last: then its number is the
+  -- a full block, with its plaintext if it opened as one before the last: then its number is the
   -- greatest; else it is tried as the last
   abbrev pub at_block : List (List ℕ) → ℕ → List ℕ → Bool → Bool → Option (List ℕ)
       → Outcome
@@ -79,7 +79,7 @@ module _ (opening : OpensBlock) where
   at_block texts i block followed ended None =
       after_last texts i (opening (nonce_bytes i true) block) followed ended
 
-  -- what one whole block alone gives, at number i
+  -- what one full block alone gives, at number i
   abbrev pub after_front : Option (List ℕ) → ℕ → List ℕ → Outcome
   after_front (Some text) i block = record { texts = text ∷ []; index = i + 1; status = Open }
   after_front None i block = at_block [] i block false false (opening (nonce_bytes i false) block)
@@ -95,8 +95,8 @@ front_bytes (Ok len) buffer = take len buffer
 front_bytes (Err fault) buffer = []
 
 module _ {B : Type 0} {n : ℕ} {g : _} where
-  -- the opener stands where the outcome says; it has its text in front of the buffer, or none, and
-  -- the answer says which
+  -- the opener stands where the outcome says; it has its plaintext in front of the buffer, or none,
+  -- and the answer says which
   pub record IsTried (outcome : Outcome) (old : OpenerState B n g)
       (answer : Result (Unit {0}) StreamFault) (new : OpenerState B n g) : Type 0 where
     pub key : new.key ≡ old.key
@@ -119,7 +119,7 @@ module _ {B : Type 0} {n : ℕ} {g : _} where
         (λ fault. new.status ≡ Failed fault)
 
   -- an end came: Ok only if no call before was refused, and then this many bytes in front of the
-  -- buffer are the text that it gave
+  -- buffer are the plaintext that it gave
   pub record OpenerEndsAs (outcome : Outcome) (old : OpenerState B n g) (answer : Result ℕ StreamFault)
       (new : OpenerState B n g) : Type 0 where
     pub key : new.key ≡ old.key
@@ -153,8 +153,8 @@ stepped chunk index (Err fault) = Err fault
 
 module _ {B : Type 0} {n : ℕ} {g : _} (sealing : B → Seals) (opening : B → OpensBlock)
     (old : OpenerState B n g) where
-  -- what `advance` does with a piece: what `feed` ensures of its step, which lends the text in front
-  -- of the buffer
+  -- what `advance` does with a piece: what `feed` ensures of its step, which lends the plaintext in
+  -- front of the buffer
   pub record OpenerAdvances (piece : List ℕ) (answer : Result (ℕ × Bool) StreamFault)
       (new : OpenerState B n g) : Type 0 where
     pub fed : (chunk : Bor (List ℕ)) → chunk.now ≡ take (text_length n) new.buffer.items
@@ -179,7 +179,7 @@ module _ {B : Type 0} {n : ℕ} {g : _} (opening : B → OpensBlock) where
     -- the key stays
     pub key : new.key ≡ old.key
 
-  -- what a delivery does: it is taken, or memory is refused and nothing changes
+  -- what a delivery does: it is taken, or memory runs out and nothing changes
   pub record Delivers (old : ReplayState B n g) (delivery : Delivery)
       (answer : Result (Unit {0}) Memory) (new : ReplayState B n g) : Type 0 where
     pub goes : OnOk answer (Goes old new
@@ -194,7 +194,7 @@ module _ {B : Type 0} {n : ℕ} {g : _} (opening : B → OpensBlock) where
     pub taken : IfSome answer (λ taken. (0 < taken) × (taken ≤ length piece))
     -- the segment is then that with the bytes that were taken
     pub fed : IfSome answer (λ taken. Goes old new (λ s. with_bytes s (take taken piece)))
-    -- there is room for all text that the rest of the piece may release
+    -- there is room for all plaintext that the rest of the piece may release
     pub room : IfSome answer (λ taken. vec_len new.text
         + whole_text (text_length n) (length new.opener.held + (length piece - taken))
         ≤ vec_capacity new.text)
@@ -209,14 +209,15 @@ block_or_none None = []
 block_or_none (Some block) = block
 
 module _ {B : Type 0} (sealing : B → List ℕ → List ℕ → List ℕ) (n : ℕ) where
-  -- the held text grew by what was taken
+  -- the held plaintext grew by what was taken
   pub record Grows (old : SealerView B) (piece : List ℕ) (taken : ℕ)
       (new : SealerView B) : Type 0 where
     pub room : length old.held + taken ≤ n
     pub held : new.held ≡ old.held ++ take taken piece
     pub index : new.index ≡ old.index
 
-  -- the held text became a block that isn't the last, and the byte that was taken is the next text
+  -- the held plaintext became a block that isn't the last, and the byte that was taken is the next
+  -- plaintext
   pub record SealerCloses (old : SealerView B) (piece : List ℕ) (taken : ℕ) (block : List ℕ)
       (new : SealerView B) : Type 0 where
     pub full : length old.held ≡ n
@@ -247,7 +248,7 @@ module _ {B : Type 0} {n : ℕ} {g : _} (sealing : B → Seals) (old : SealerSta
     -- bytes are taken, and the buffer may then be a block to lend
     pub ok : IfOk answer (λ s. IsStep sealing (text_length n) (sealer_view old) piece s.0
         (block_lent new.buffer.items s) (sealer_view new))
-    -- the block is a whole one
+    -- the block is a full one
     pub whole : IfOk answer (λ s. s.1 ≡ true → length new.buffer.items ≡ n)
     -- no byte that is taken needs a chunk too many
     pub fits : IfOk answer
@@ -261,7 +262,7 @@ module _ {B : Type 0} {n : ℕ} {g : _} (sealing : B → Seals) (old : SealerSta
     -- an empty piece changes nothing
     pub still : length piece ≡ 0 → sealer_view new ≡ sealer_view old
 
--- what sealing the last chunk leaves, whichever text it is of
+-- what sealing the last chunk leaves, whichever plaintext it is of
 module _ {B : Type 0} {n : ℕ} {g : _} (old : SealerState B n g) where
   pub record SealerSealsLast (answer : Result (Unit {0}) StreamFault)
       (new : SealerState B n g) : Type 0 where
@@ -277,7 +278,7 @@ module _ {B : Type 0} {n : ℕ} {g : _} (old : SealerState B n g) where
     -- the key stays
     pub key : new.key ≡ old.key
 
--- ---- The steps of sealing a whole text.
+-- ---- The steps of sealing a complete plaintext.
 
 module _ (sealing : Seals) (n : ℕ) (text : List ℕ) where
   -- what `seal_within` does with the bytes before the call
@@ -285,7 +286,7 @@ module _ (sealing : Seals) (n : ℕ) (text : List ℕ) where
       (new : List ℕ) : Type 0 where
     -- the payload is appended
     pub sealed : OnOk answer (new ≡ old ++ payload sealing n text)
-    -- Ok comes only for a text of at most 2^48 chunks
+    -- Ok comes only for a plaintext of at most 2^48 chunks
     pub few : OnOk answer (chunk_count n text ≤ chunk_limit)
     -- any other is refused, at the last chunk that a payload may have
     pub refused : IfErr answer (λ fault. SealRefuses n text 0 (Stream fault))

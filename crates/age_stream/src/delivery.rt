@@ -3,7 +3,7 @@
 /// A step of a transfer.
 #[derive(Clone, Copy, Debug)]
 pub enum Delivery<'a> {
-    /// Bytes of the payload, or what stands in their place.
+    /// Bytes of the payload, or whatever came in their place.
     Piece(&'a [u8]),
     /// The input ended.
     End,

@@ -9,8 +9,8 @@ use crate::replay::{Drill, Replay};
 use age_chunk::{ChunkBox, Memory};
 use std::alloc::Global;
 
-/// Gives deliveries to a new [`Replay`], and returns what it then holds, unless memory is refused.
-/// Requires `SEALED`, the length of a whole block in bytes, from 17 to 65,552.
+/// Gives deliveries to a new [`Replay`], and returns what it then holds, unless memory runs out.
+/// Requires `SEALED`, the length of a full block in bytes, from 17 to 65,552.
 pub fn drill<B: ChunkBox, const SEALED: usize>(
     alloc: Global,
     key: &B,
@@ -21,13 +21,13 @@ pub fn drill<B: ChunkBox, const SEALED: usize>(
     ensures held { IfOk result
         (λ drill. IsHeldAfter (B.opening key.now) (text_length SEALED) events.now drill) }
 
-    // While no block opens except as the writer of a text sealed it, what is held is the beginning
-    // of that text, the end is reported only with all of it, an undamaged payload, or its rest,
-    // gives all of it, and each block stands in its place.
+    // While no block opens except as the writer of a plaintext sealed it, what is held is a prefix
+    // of that plaintext, the end is reported only with all of it, an undamaged payload, or its
+    // rest, gives all of it, and each block is in its place.
     ensures written { IfOk result (λ drill. HoldsWritten (B.sealing key.now) (B.opening key.now)
         (text_length SEALED) events.now drill.text.items drill.status) }
 
-    // Memory is refused only if more bytes are delivered than a tag has.
+    // Memory runs out only if more bytes are delivered than a tag has.
     ensures memory { OnErr result (tag_length < length (flat_map bytes_in events.now)) }
 {
     let mut replay = Replay::<B, SEALED>::new(alloc, key);

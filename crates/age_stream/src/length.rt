@@ -1,15 +1,15 @@
-//! How long a text is, by the length of its payload.
+//! How long a plaintext is, by the length of its payload.
 ghost use Rattle.std.specs.Prelude.{◌<◌, ◌^◌};
 ghost use Rattle.age_stream.specs.{IsTextLengthOf};
 
 use age_chunk::{BLOCK_LEN, CHUNK_LIMIT, TAG_LEN};
 
-/// The lengths of a tag and a whole block.
+/// The lengths of a tag and a full block.
 const TAG: u128 = TAG_LEN as u128;
 
 const BLOCK: u128 = BLOCK_LEN as u128;
 
-/// The length in bytes of the text whose payload has this many bytes, in chunks of
+/// The length in bytes of the plaintext whose payload has this many bytes, in chunks of
 /// [`CHUNK_LEN`](crate::CHUNK_LEN); `None` if no payload has that length. Requires less than 2^127
 /// bytes.
 pub fn text_len_of(size: u128) -> Option<u128>

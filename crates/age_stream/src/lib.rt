@@ -1,16 +1,16 @@
 //! The payload of an age file (<https://c2sp.org/age#payload>).
 //!
-//! A text is cut into chunks of [`CHUNK_LEN`] bytes; the last has fewer or as many, but none only
-//! if the whole text is empty. Each chunk is sealed with a tag of [`TAG_LEN`] bytes at a nonce of
-//! its own: eleven bytes of its number from 0, the highest first, and one byte that is 1 for the
+//! A plaintext is split into chunks of [`CHUNK_LEN`] bytes; the last has fewer or as many, but none
+//! only if the plaintext is empty. Each chunk is sealed with a tag of [`TAG_LEN`] bytes at a nonce
+//! of its own: eleven bytes of its number from 0, the highest first, and one byte that is 1 for the
 //! last chunk and 0 for the others. The blocks follow one another, and nothing comes after the
 //! last.
 //!
-//! A [`Sealer`] takes a text in pieces and lends the blocks, and an [`Opener`] takes the blocks in
-//! pieces and lends the text, each out of one buffer of `SEALED` bytes, the length of a whole
-//! block; for age files that is [`BLOCK_LEN`]. Neither takes memory. A [`ChunkBox`] is what seals
-//! and opens a chunk. [`Replay`] and [`drill`] hold the text that came of any list of pieces, ends
-//! and restarts. docs/LIBRARY.md says what to use for what.
+//! A [`Sealer`] takes a plaintext in pieces and lends the blocks, and an [`Opener`] takes the
+//! blocks in pieces and lends the plaintext, each out of one buffer of `SEALED` bytes, the length
+//! of a full block; for age files that is [`BLOCK_LEN`]. Neither allocates memory. A [`ChunkBox`]
+//! is what seals and opens a chunk. [`Replay`] and [`drill`] hold the plaintext that results from
+//! any list of pieces, ends and restarts. docs/LIBRARY.md says what to use for what.
 #![tactic(auto)]
 
 mod buffer;

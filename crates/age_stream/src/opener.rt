@@ -1,4 +1,4 @@
-//! The reader's side: sealed chunks in, text out.
+//! The reader's side: sealed chunks in, plaintext out.
 ghost use Rattle.std.specs.Prelude.{◌≡◌, ◌≢◌, ◌+◌, ◌-◌, ◌<◌, ◌≤◌, [], length, take, IfOk, Some, None, true};
 ghost use Rattle.std.specs.Prelude.{false, if◌then◌else◌, nat_lt, ◌==◌, ◌&&◌};
 ghost use Rattle.std.specs.Bool.{OnTrue, OnFalse};
@@ -18,7 +18,7 @@ use std::marker::Model;
 #[derive(Drop)]
 struct OpenerState<'k, B: ChunkBox, const SEALED: usize> {
     key: &'k B,
-    // the bytes of the block that is open; or, if lent, the text and the tag of one that was
+    // the bytes of the block that is open; or, if lent, the plaintext and the tag of one that was
     // opened, until the next call
     buffer: ArrayVec<u8, SEALED>,
     lent: bool,
@@ -37,7 +37,7 @@ impl<'k, B: ChunkBox, const SEALED: usize> OpenerState<'k, B, SEALED> {
     ghost use Rattle.age_stream.specs.inner.{OpenerEndsAs, end_of_open, end_of_closed};
     ghost use Rattle.age_stream.specs.Opener.{held_bytes};
 
-    /// Empties the buffer of a text that was lent.
+    /// Empties the buffer of a plaintext that was lent.
     fn reclaim(&mut self)
         ensures buffer { self.new.buffer.items ≡ held_bytes self.old }
         ensures lent { self.new.lent ≡ false }
@@ -108,7 +108,7 @@ impl<'k, B: ChunkBox, const SEALED: usize> OpenerState<'k, B, SEALED> {
     }
 
     /// Takes the beginning of a piece; returns how many bytes, and whether the buffer now holds a
-    /// text.
+    /// plaintext.
     fn advance(&mut self, piece: &[u8]) -> Result<(usize, bool), StreamFault>
         ensures { OpenerAdvances B.sealing B.opening self.old piece.now result self.new }
     {
@@ -154,7 +154,7 @@ impl<'k, B: ChunkBox, const SEALED: usize> OpenerState<'k, B, SEALED> {
         Ok(0)
     }
 
-    /// Ends, and says how many bytes at the beginning of the buffer are the last text.
+    /// Ends, and says how many bytes at the beginning of the buffer are the last plaintext.
     fn close(&mut self) -> Result<usize, StreamFault>
         ensures open { self.old.status ≡ Status.Open
             → OpenerEndsAs (end_of_open B.opening self.old) self.old result self.new }
@@ -185,18 +185,19 @@ impl<'k, B: ChunkBox, const SEALED: usize> OpenerState<'k, B, SEALED> {
     }
 }
 
-/// Opens a payload that comes in pieces, however they are cut (<https://c2sp.org/age#payload>). A
-/// whole block is tried at the nonce of a chunk that isn't the last, and then at the nonce of the
-/// last one; what is left at the end of the input is tried as the last alone. A text is lent only
-/// once its tag was checked.
+/// Opens a payload that comes in pieces, however they are split (<https://c2sp.org/age#payload>). A
+/// full block is tried at the nonce of a chunk that isn't the last, and then at the nonce of the
+/// last one; what is left at the end of the input is tried as the last alone. A plaintext is lent
+/// only once its tag was checked.
 ///
 /// A contract sees the key, the bytes of the block that is open, the chunk's number and the status.
-/// They are what the outcome of a segment says: of all bytes since the opener was made, and of the
-/// end of the input.
+/// They are what the outcome of a segment says about all bytes since the opener was made, and about
+/// the end of the input.
 ///
-/// `SEALED` is the length of a whole block in bytes, from 17 to 65,552
+/// `SEALED` is the length of a full block in bytes, from 17 to 65,552
 /// ([`BLOCK_LEN`](crate::BLOCK_LEN), which age files have); each call that makes an opener requires
-/// this. `feed_piece` in `age_file/src/payload.rt` feeds whole pieces and writes what is lent.
+/// this. `feed_piece` in `age_opening/src/payload.rt` feeds complete pieces and writes what is
+/// lent.
 #[derive(Drop)]
 pub struct Opener<'k, B: ChunkBox, const SEALED: usize> {
     state: OpenerState<'k, B, SEALED>,
@@ -215,7 +216,7 @@ impl<'k, B: ChunkBox, const SEALED: usize> Opener<'k, B, SEALED> {
     ghost use Rattle.age_stream.specs.Opener.{Stands, has_failed, Feeds, IsFed, Ends, IsEnded};
     ghost use Rattle.age_stream.specs.Rows.{opener_row};
 
-    /// An opener of a whole payload. Takes no memory.
+    /// An opener of a complete payload. Allocates nothing.
     pub fn new(key: &'k B) -> Self
         requires least { tag_length < SEALED }
         requires most { SEALED ≤ block_length }
@@ -227,7 +228,7 @@ impl<'k, B: ChunkBox, const SEALED: usize> Opener<'k, B, SEALED> {
     }
 
     /// An opener of a payload from a chunk on, by the chunk's number, which is below
-    /// [`CHUNK_LIMIT`]. Takes no memory.
+    /// [`CHUNK_LIMIT`]. Allocates nothing.
     #[tactic(auto, using(crate::proofs::GoingLemmas::fresh_outcome, crate::proofs::GoingLemmas::fresh_rest))]
     pub fn at(key: &'k B, index: u64) -> Self
         requires least { tag_length < SEALED }
@@ -242,7 +243,7 @@ impl<'k, B: ChunkBox, const SEALED: usize> Opener<'k, B, SEALED> {
 
     /// An opener that holds no byte of the block that is open, by the number of its chunk, which is
     /// below [`CHUNK_LIMIT`], and its status: for a caller that keeps both itself between two
-    /// calls. Takes no memory.
+    /// calls. Allocates nothing.
     pub fn between(key: &'k B, index: u64, status: Status) -> Self
         requires least { tag_length < SEALED }
         requires most { SEALED ≤ block_length }
@@ -311,10 +312,10 @@ impl<'k, B: ChunkBox, const SEALED: usize> Opener<'k, B, SEALED> {
         (SEALED - TAG_LEN) as u64
     }
 
-    /// Takes bytes of the payload, up to the end of the block that is open, and lends the text of a
-    /// block that is full. Takes nothing of an empty piece. A full block that opens neither as its
-    /// chunk nor as the last is [`ChunkDamaged`](StreamKind::ChunkDamaged), one that opens as chunk
-    /// number [`CHUNK_LIMIT`] less one and not the last is
+    /// Takes bytes of the payload, up to the end of the block that is open, and lends the plaintext
+    /// of a block that is full. Takes nothing from an empty piece. A full block that opens neither
+    /// as its chunk nor as the last is [`ChunkDamaged`](StreamKind::ChunkDamaged), one that opens
+    /// as chunk number [`CHUNK_LIMIT`] less one and not the last is
     /// [`TooManyChunks`](StreamKind::TooManyChunks), and bytes after the last chunk are
     /// [`Trailing`](StreamKind::Trailing). After a refusal each call is refused with the same
     /// fault.
@@ -341,11 +342,12 @@ impl<'k, B: ChunkBox, const SEALED: usize> Opener<'k, B, SEALED> {
         })
     }
 
-    /// The input ended: what is held is tried as the last chunk, and its text is lent. The text is
-    /// empty if the last chunk came before. It is refused as [`Truncated`](StreamKind::Truncated)
-    /// if nothing is held, as [`ChunkCut`](StreamKind::ChunkCut) if fewer bytes than a tag has are
-    /// held, and as [`EmptyLast`](StreamKind::EmptyLast) if a tag alone is held after other chunks,
-    /// since a writer makes an empty chunk only for the empty text. What doesn't open is
+    /// The input ended: what is held is tried as the last chunk, and its plaintext is lent. The
+    /// plaintext is empty if the last chunk came before. It is refused as
+    /// [`Truncated`](StreamKind::Truncated) if nothing is held, as
+    /// [`ChunkCut`](StreamKind::ChunkCut) if fewer bytes than a tag has are held, and as
+    /// [`EmptyLast`](StreamKind::EmptyLast) if a tag alone is held after other chunks, since a
+    /// writer makes an empty chunk only for the empty plaintext. What doesn't open is
     /// [`ChunkDamaged`](StreamKind::ChunkDamaged). After a refusal each call is refused with the
     /// same fault.
     pub fn end(&mut self) -> Result<&[u8], StreamFault>
@@ -378,7 +380,7 @@ fn open_block<B: ChunkBox, const SEALED: usize>(
     key.open_at(&nonce_of(index, last), buffer.as_mut_slice())
 }
 
-/// Whether this many bytes, at an end, are a chunk without text after others, which no writer
+/// Whether this many bytes, at an end, are a chunk without plaintext after others, which no writer
 /// makes.
 fn is_empty_last(len: usize, index: u64) -> bool
     ensures { result ≡ (len == tag_length && nat_lt 0 index) }

@@ -15,7 +15,7 @@ use std::marker::Model;
 /// What is held after a list of deliveries.
 #[derive(Debug, Drop)]
 pub struct Drill {
-    /// The text that is held.
+    /// The plaintext that is held.
     pub text: Vec<u8>,
     /// The status of the opener of the last segment.
     pub status: Status,
@@ -60,7 +60,7 @@ impl<'k, B: ChunkBox, const SEALED: usize> ReplayState<'k, B, SEALED> {
         }
     }
 
-    /// Feeds a whole piece, for whose text there is room.
+    /// Feeds all of a piece, for whose plaintext there is room.
     fn feed_all(&mut self, piece: &[u8])
         requires { self.old.opener.status ≡ Status.Open → vec_len self.old.text
             + whole_text (text_length SEALED) (length self.old.opener.held + length piece.now)
@@ -76,7 +76,7 @@ impl<'k, B: ChunkBox, const SEALED: usize> ReplayState<'k, B, SEALED> {
         }
     }
 
-    /// How much text a piece releases at most.
+    /// How much plaintext a piece releases at most.
     fn piece_room(&self, piece: &[u8]) -> usize
         ensures { result ≡ text_of_piece (text_length SEALED) self.now.opener (length piece.now) }
     {
@@ -86,7 +86,7 @@ impl<'k, B: ChunkBox, const SEALED: usize> ReplayState<'k, B, SEALED> {
         }
     }
 
-    /// How much text an end releases, if it releases any.
+    /// How much plaintext an end releases, if it releases any.
     fn end_room(&self) -> usize
         ensures { result ≡ text_at_end self.now.opener }
     {
@@ -96,7 +96,7 @@ impl<'k, B: ChunkBox, const SEALED: usize> ReplayState<'k, B, SEALED> {
         }
     }
 
-    /// Takes a piece. Its text is made room for first.
+    /// Takes a piece, after making room for its plaintext.
     fn take_piece(&mut self, piece: &[u8]) -> Result<(), Memory>
         ensures { Delivers B.opening self.old (Piece piece.entry) result self.new }
     {
@@ -106,7 +106,7 @@ impl<'k, B: ChunkBox, const SEALED: usize> ReplayState<'k, B, SEALED> {
         Ok(())
     }
 
-    /// Ends the opener, for whose last text there is room.
+    /// Ends the opener, for whose last plaintext there is room.
     fn end_opener(&mut self)
         requires { vec_len self.old.text + text_at_end self.old.opener
             ≤ vec_capacity self.old.text }
@@ -118,7 +118,7 @@ impl<'k, B: ChunkBox, const SEALED: usize> ReplayState<'k, B, SEALED> {
         }
     }
 
-    /// Takes an end. Its text is made room for first.
+    /// Takes an end, after making room for its plaintext.
     fn take_end(&mut self) -> Result<(), Memory>
         ensures { Delivers B.opening self.old End result self.new }
     {
@@ -137,7 +137,7 @@ impl<'k, B: ChunkBox, const SEALED: usize> ReplayState<'k, B, SEALED> {
         k < CHUNK_LIMIT && k * self.opener.chunk_len() <= self.text.len() as u64
     }
 
-    /// Starts again at a chunk, if the text reaches it.
+    /// Starts again at a chunk, if the plaintext reaches it.
     fn restart(&mut self, k: u64)
         ensures { Goes B.opening self.old self.new
             (λ s. after_delivery (B.opening self.old.key.now) (text_length SEALED) s (Restart k)) }
@@ -165,13 +165,13 @@ impl<'k, B: ChunkBox, const SEALED: usize> ReplayState<'k, B, SEALED> {
     }
 }
 
-/// Feeds deliveries to an opener, and holds the text that it released. A restart cuts the text to
-/// the chunks before it and makes a new opener. [`drill`](crate::drill) gives a whole list of
-/// deliveries to a new replay.
+/// Feeds deliveries to an opener, and holds the plaintext that it released. A restart truncates the
+/// plaintext to the chunks before it and makes a new opener. [`drill`](crate::drill) gives a whole
+/// list of deliveries to a new replay.
 ///
-/// A contract sees the key, the opener of the current segment, the text that is held and the number
-/// of restarts that were refused. `SEALED` is the length of a whole block in bytes, from 17 to
-/// 65,552.
+/// A contract sees the key, the opener of the current segment, the plaintext that is held and the
+/// number of restarts that were refused. `SEALED` is the length of a full block in bytes, from 17
+/// to 65,552.
 #[derive(Drop)]
 pub struct Replay<'k, B: ChunkBox, const SEALED: usize> {
     state: ReplayState<'k, B, SEALED>,
@@ -188,7 +188,7 @@ impl<'k, B: ChunkBox, const SEALED: usize> Model for Replay<'k, B, SEALED> {
 impl<'k, B: ChunkBox, const SEALED: usize> Replay<'k, B, SEALED> {
     ghost use Rattle.age_stream.specs.Replay.{Replays, TakesDelivery};
 
-    /// A replay that was given nothing yet. Requires `SEALED` from 17 to 65,552. Takes no memory.
+    /// A replay that was given nothing yet. Requires `SEALED` from 17 to 65,552. Allocates nothing.
     #[tactic(auto, using(crate::proofs::GoingLemmas::fresh_outcome))]
     pub fn new(alloc: Global, key: &'k B) -> Self
         requires least { tag_length < SEALED }
@@ -207,7 +207,7 @@ impl<'k, B: ChunkBox, const SEALED: usize> Replay<'k, B, SEALED> {
         }
     }
 
-    /// The text that is held.
+    /// The plaintext that is held.
     pub fn text(&self) -> &[u8]
         ensures { result.now ≡ self.now.text }
     {
@@ -235,7 +235,7 @@ impl<'k, B: ChunkBox, const SEALED: usize> Replay<'k, B, SEALED> {
         self.state.refused
     }
 
-    /// What it holds, with its text.
+    /// What it holds, with its plaintext.
     pub(crate) fn into_drill(self) -> Drill
         ensures text { result.text.items ≡ self.entry.text }
         ensures status { result.status ≡ self.entry.opener.status }
@@ -253,12 +253,12 @@ impl<'k, B: ChunkBox, const SEALED: usize> Replay<'k, B, SEALED> {
         }
     }
 
-    /// Takes a delivery. Of a piece all bytes are taken, unless a fault comes, which then is the
+    /// Takes a delivery. All bytes of a piece are taken, unless there is a fault, which is then the
     /// status. A restart at chunk k is refused if k is [`CHUNK_LIMIT`] or more, or fewer than k
-    /// whole chunks are held. If memory is refused nothing changes.
+    /// full chunks are held. If memory runs out, nothing changes.
     ///
-    /// While no block opens except as the writer of a text sealed it, what is held is the beginning
-    /// of that text, and [`Done`](Status::Done) comes only with all of it.
+    /// While no block opens except as the writer of a plaintext sealed it, what is held is a prefix
+    /// of that plaintext, and [`Done`](Status::Done) comes only with all of it.
     pub fn take(&mut self, delivery: &Delivery<'_>) -> Result<(), Memory>
         ensures { TakesDelivery B.sealing B.opening (text_length SEALED)
             self.old delivery.now result self.new }
@@ -267,7 +267,7 @@ impl<'k, B: ChunkBox, const SEALED: usize> Replay<'k, B, SEALED> {
     }
 }
 
-/// Appends bytes to a text that has room for them.
+/// Appends bytes to a plaintext that has room for them.
 fn push_text(text: &mut Vec<u8>, bytes: &[u8])
     requires { vec_len text.old + length bytes.now ≤ vec_capacity text.old }
     ensures items { text.new.items ≡ text.old.items ++ bytes.now }
@@ -277,7 +277,7 @@ fn push_text(text: &mut Vec<u8>, bytes: &[u8])
     let _ = text.extend_from_slice(bytes);
 }
 
-/// Appends what is lent, if anything is, to a text that has room for it.
+/// Appends what is lent, if anything is, to a plaintext that has room for it.
 pub(crate) fn push_lent(text: &mut Vec<u8>, chunk: Option<&[u8]>)
     requires { vec_len text.old + length (chunk_bytes chunk) ≤ vec_capacity text.old }
     ensures items { text.new.items ≡ text.old.items ++ chunk_bytes chunk.entry }

@@ -1,4 +1,4 @@
-//! The writer's side: text in, sealed chunks out.
+//! The writer's side: plaintext in, sealed chunks out.
 ghost use Rattle.std.specs.Prelude.{◌≡◌, ◌+◌, ◌<◌, ◌≤◌, [], length, OnOk, None, IsNone, true, false};
 ghost use Rattle.std.specs.Borrow.{sem};
 ghost use Rattle.std.specs.Io.BufRead.{Rests};
@@ -14,7 +14,7 @@ use std::marker::Model;
 #[derive(Drop)]
 struct SealerState<'k, B: ChunkBox, const SEALED: usize> {
     key: &'k B,
-    /// the text of the chunk that is open; or its block, until the next call
+    /// the plaintext of the chunk that is open; or its block, until the next call
     buffer: ArrayVec<u8, SEALED>,
     /// the next chunk's first byte, while the block is lent
     beside: Option<u8>,
@@ -101,12 +101,12 @@ impl<'k, B: ChunkBox, const SEALED: usize> SealerState<'k, B, SEALED> {
     }
 }
 
-/// Seals a text that comes in pieces, however they are cut (<https://c2sp.org/age#payload>). A
-/// whole chunk is sealed once a byte after it came, since only then it isn't the last.
+/// Seals a plaintext that comes in pieces, however they are split (<https://c2sp.org/age#payload>).
+/// A full chunk is sealed once a byte after it came, since only then it isn't the last.
 ///
-/// A contract sees the key, the text of the chunk that is open, its number, and whether the sealer
-/// was refused or finished. `SEALED` is the length of a whole block in bytes, from 17 to 65,552
-/// ([`BLOCK_LEN`](crate::BLOCK_LEN), which age files have). docs/LIBRARY.md has an example,
+/// A contract sees the key, the plaintext of the chunk that is open, its number, and whether the
+/// sealer was refused or finished. `SEALED` is the length of a full block in bytes, from 17 to
+/// 65,552 ([`BLOCK_LEN`](crate::BLOCK_LEN), which age files have). docs/LIBRARY.md has an example,
 /// `seal_to`.
 #[derive(Drop)]
 pub struct Sealer<'k, B: ChunkBox, const SEALED: usize> {
@@ -125,7 +125,7 @@ impl<'k, B: ChunkBox, const SEALED: usize> Sealer<'k, B, SEALED> {
     ghost use Rattle.age_stream.specs.Sealer.{Takes, IsTaken, Finishes, IsFinished};
     ghost use Rattle.age_stream.specs.Rows.{sealer_row};
 
-    /// A sealer that was given nothing yet. Requires `SEALED` from 17 to 65,552. Takes no memory.
+    /// A sealer that was given nothing yet. Requires `SEALED` from 17 to 65,552. Allocates nothing.
     pub fn new(key: &'k B) -> Self
         requires least { tag_length < SEALED }
         requires most { SEALED ≤ block_length }
@@ -166,8 +166,8 @@ impl<'k, B: ChunkBox, const SEALED: usize> Sealer<'k, B, SEALED> {
         self.state.index
     }
 
-    /// How many bytes of the text of the open chunk are held. After the last chunk was sealed, the
-    /// length of its block.
+    /// How many bytes of the plaintext of the open chunk are held. After the last chunk was sealed,
+    /// the length of its block.
     pub fn held_len(&self) -> usize
         ensures len { result ≡ length self.now.held }
         ensures fits { result ≤ SEALED }
@@ -179,9 +179,9 @@ impl<'k, B: ChunkBox, const SEALED: usize> Sealer<'k, B, SEALED> {
         }
     }
 
-    /// Takes bytes of the text: what the open chunk has room for, or one byte after a chunk that is
-    /// full. That byte begins the next chunk, and the full one is sealed as not the last and lent.
-    /// Takes nothing of an empty piece. Requires that the sealer [isn't
+    /// Takes bytes of the plaintext: what the open chunk has room for, or one byte after a chunk
+    /// that is full. That byte begins the next chunk, and the full one is sealed as not the last
+    /// and lent. Takes nothing from an empty piece. Requires that the sealer [isn't
     /// finished](Sealer::is_finished). It is refused as
     /// [`TooManyChunks`](StreamKind::TooManyChunks) if a byte would need chunk number
     /// [`CHUNK_LIMIT`]; then each call is refused so.
@@ -222,7 +222,7 @@ impl<'k, B: ChunkBox, const SEALED: usize> Sealer<'k, B, SEALED> {
     }
 }
 
-/// Puts the tag after the text in the buffer, and seals both in place.
+/// Puts the tag after the plaintext in the buffer, and seals both in place.
 fn seal_in<B: ChunkBox, const SEALED: usize>(
     key: &B,
     index: u64,

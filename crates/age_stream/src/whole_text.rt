@@ -1,4 +1,4 @@
-//! A caller of the sealer: it feeds a text, and copies out the blocks that are lent.
+//! A caller of the sealer: it feeds a plaintext, and copies out the blocks that are lent.
 ghost use Rattle.std.specs.Prelude.{◌≡◌, ◌-◌, ◌≤◌, ◌<◌, ◌+◌, ◌*◌, ◌/◌, ◌^◌, length, IfSome, IfNone};
 ghost use Rattle.std.specs.Prelude.{vec_capacity};
 ghost use Rattle.age_chunk.specs.{chunk_count, block_length};
@@ -13,13 +13,13 @@ use age_chunk::{ChunkBox, StreamFault, TAG_LEN};
 use std::alloc::{AllocError, Global};
 use thiserror::Error;
 
-/// Why a text wasn't sealed.
+/// Why a plaintext wasn't sealed.
 #[derive(Clone, Copy, Debug, PartialEq, Eq, Error)]
 pub enum SealFault {
-    /// The sealer refused: the text has more chunks than a payload.
+    /// The sealer refused: the plaintext has more chunks than a payload can have.
     #[error("{0}")]
     Stream(StreamFault),
-    /// Memory was refused.
+    /// Out of memory.
     #[error("out of memory")]
     Memory,
 }
@@ -35,7 +35,7 @@ impl SealFault {
         }
     }
 
-    /// The chunk of the sealer's refusal, from 0. `None` if memory was refused.
+    /// The chunk of the sealer's refusal, from 0. `None` if memory ran out.
     pub fn place(&self) -> Option<u64>
         ensures { result ≡ seal_fault_place self.now }
     {
@@ -62,7 +62,7 @@ impl From<StreamFault> for SealFault {
     }
 }
 
-/// The payload of a text: its chunks, each sealed at its nonce, one after the other
+/// The payload of a plaintext: its chunks, each sealed at its nonce, one after the other
 /// (<https://c2sp.org/age#payload>), in chunks of `SEALED - TAG_LEN` bytes. Requires `SEALED` from
 /// 17 to 65,552. It refuses as [`seal_into`] does.
 pub fn seal_all<B: ChunkBox, const SEALED: usize>(
@@ -80,10 +80,10 @@ pub fn seal_all<B: ChunkBox, const SEALED: usize>(
     Ok(out)
 }
 
-/// Appends the payload of a text, in chunks of `SEALED - TAG_LEN` bytes. Requires `SEALED` from 17
-/// to 65,552. Memory is asked for once, before anything is sealed, and only if there is no room for
-/// the payload. Apart from that, only a text of more than 2^48 chunks is refused. A refusal adds
-/// nothing.
+/// Appends the payload of a plaintext, in chunks of `SEALED - TAG_LEN` bytes. Requires `SEALED`
+/// from 17 to 65,552. Memory is allocated once, before anything is sealed, and only if there is no
+/// room for the payload. Otherwise only a plaintext of more than 2^48 chunks is refused. A refusal
+/// adds nothing.
 pub fn seal_into<B: ChunkBox, const SEALED: usize>(
     key: &B,
     text: &[u8],
@@ -106,7 +106,7 @@ pub fn seal_into<B: ChunkBox, const SEALED: usize>(
     Ok(())
 }
 
-/// Appends the payload of a text if there is room for it, so that no memory is requested.
+/// Appends the payload of a plaintext if there is room for it, so that no memory is requested.
 fn seal_within<B: ChunkBox, const SEALED: usize>(
     key: &B,
     text: &[u8],
@@ -131,8 +131,8 @@ fn seal_within<B: ChunkBox, const SEALED: usize>(
     Ok(())
 }
 
-/// How many bytes the payload of a text has, in chunks of this many bytes, unless it is too long
-/// for any memory.
+/// How many bytes the payload of a plaintext has, in chunks of this many bytes, unless it is too
+/// long for any memory.
 fn payload_len(text_len: usize, chunk_len: usize) -> Option<usize>
     requires { 0 < chunk_len }
     ensures len { IfSome result

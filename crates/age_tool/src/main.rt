@@ -1,6 +1,6 @@
 //! Reads and writes age files: passes its arguments, the machine's files and its standard streams
 //! to `age_cli::run`, says what the machine answered if that is why it failed, and exits with the
-//! status that it returns. `help N` and `help NAME`, about a fault, it answers itself.
+//! status that it returns. It answers `help N` and `help NAME`, about a fault, itself.
 #![tactic(auto)]
 
 mod faults;
@@ -17,7 +17,7 @@ use std::alloc::Global;
 use std::io::{self, IsTerminal};
 use std::process::ExitCode;
 
-/// The words of the command line. Fails if memory is refused, or if some word is no text.
+/// The words of the command line. Fails if memory runs out, or if some word isn't UTF-8.
 fn args_of(rt: &HostRuntime) -> io::Result<Vec<String>> {
     Ok(std::env::args(rt)?.collect(rt.alloc())?)
 }
@@ -42,7 +42,7 @@ fn unread(rt: &HostRuntime, error: &io::Error) -> ExitCode {
     ExitCode::from(2)
 }
 
-/// Progress is shown on one line of a terminal, and in few lines of a log.
+/// Progress is shown on one line of a terminal, and in a few lines of a log.
 fn progress_style(rt: &HostRuntime) -> LineStyle {
     if rt.stderr().is_terminal() {
         LineStyle::Rewritten

@@ -50,15 +50,15 @@ const TRAILING: Ending = Some(StreamKind::Trailing);
 
 const EMPTY: Ending = Some(StreamKind::EmptyLast);
 
-/// The worked rows of a payload: whole texts, and what is held under swaps, repeats, restarts and
-/// bytes after the end. False also if memory is refused.
+/// The worked rows of a payload: complete texts, and what is held under swaps, repeats, restarts
+/// and bytes after the end. False also if memory runs out.
 pub fn delivery_rows(alloc: Global) -> bool {
     sealing_rows(alloc) && damage_rows(alloc) && is_refused(alloc) && at_the_greatest_number()
 }
 
 /// What a drill leaves of hostile bytes: a payload cut at every byte, with its blocks in other
-/// orders, started again at every chunk, and with each of its bits inverted. False also if memory is
-/// refused.
+/// orders, started again at every chunk, and with each of its bits inverted. False also if memory
+/// runs out.
 pub fn hostile_rows(alloc: Global) -> bool {
     are_cuts_right(alloc) && are_rows_right(alloc) && are_bits_right(alloc)
 }
@@ -244,7 +244,7 @@ fn is_cut_right(alloc: Global, cut: usize) -> bool {
     }
 }
 
-/// The three blocks in each order; and the whole payload, then again from each chunk on.
+/// The three blocks in each order; and the complete payload, then again from each chunk on.
 fn are_rows_right(alloc: Global) -> bool {
     let (first, rest) = TEN.split_at(20);
     let (second, third) = rest.split_at(20);

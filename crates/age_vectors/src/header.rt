@@ -61,7 +61,7 @@ const BODY_START: &[u8; 27] = b"age-encryption.org/v1\n-> x\n";
 /// A line of a body, of 48 zero bytes.
 const BODY_LINE: &[u8; 65] = b"AAAAAAAAAAAAAAAAAAAAAAAAAAAAAAAAAAAAAAAAAAAAAAAAAAAAAAAAAAAAAAAA\n";
 
-/// Lines with which a header of whole lines of a body has the greatest length, or a byte less.
+/// Lines with which a header of full lines of a body has the greatest length, or a byte less.
 const HALF_LINE: &[u8; 34] = b"AAAAAAAAAAAAAAAAAAAAAAAAAAAAAAAAAA";
 
 const SHORTER: &[u8; 33] = b"AAAAAAAAAAAAAAAAAAAAAAAAAAAAAAAAA";
@@ -268,7 +268,7 @@ fn limit_rows(alloc: Global) -> Result<bool, AllocError> {
 }
 
 /// The rows of the grammar and of its faults, of cut headers, and of headers at the limit of their
-/// length. False also if memory is refused.
+/// length. False also if memory runs out.
 pub fn header_rows(alloc: Global) -> bool
     ensures accepted { IsTrue result → AcceptedRows }
     ensures first_lines { IsTrue result → FirstLineRows }

@@ -133,7 +133,7 @@ pub fn rfc_pbkdf2() -> bool
 }
 
 /// The third case of RFC 7914, section 12, by the first 32 bytes of its output. False also if
-/// memory was refused.
+/// memory ran out.
 pub fn rfc_scrypt(alloc: Global) -> bool
     ensures { IsTrue result
         → scrypt (codes "pleaseletmein") (codes "SodiumChloride") 14 ≡ SCRYPT_CASE_3 }

@@ -172,8 +172,8 @@ fn stanza_rows(alloc: Global) -> Result<bool, AllocError> {
 }
 
 /// The rows of passphrases and known keys: a header that Python made, opened and written, and with
-/// another MAC and body; each shape that is refused, with its number. False also if memory is
-/// refused. True says that the definition gives Python's header.
+/// another MAC and body; each shape that is refused, with its number. False also if memory runs
+/// out. True says that the definition gives Python's header.
 pub fn key_rows(alloc: Global) -> bool
     ensures { IsTrue result → HeadText (scrypt_head (codes "kudebafon") 1 SALT FILE_KEY) WRITTEN }
 {

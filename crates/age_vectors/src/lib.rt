@@ -2,9 +2,9 @@
 //! of runs that stop.
 //!
 //! Each public function runs the vectors of one standard, or the worked examples of one layer, and
-//! answers whether every one came out. If it has a contract, true says more: that the definition
-//! itself, and not only this program, gives the values of the standard. The tests of `age_tests`
-//! ask each one.
+//! returns whether every one came out right. If it has a contract, true says more: that the
+//! definition itself, not only this program, gives the values of the standard. The tests of
+//! `age_tests` call each one.
 #![tactic(auto)]
 
 mod cipher;

@@ -79,7 +79,7 @@ fn refused_rows(alloc: Global, shared: &SharedSecret) -> Result<bool, AllocError
 }
 
 /// The rows of a shared secret: headers of one X25519 stanza and of two, another secret, a zero
-/// secret, and stanzas that are refused. False also if memory is refused. True says that the
+/// secret, and stanzas that are refused. False also if memory runs out. True says that the
 /// definition finds the file key in the headers that Python made of one stanza, and of two that
 /// open.
 pub fn shared_rows(alloc: Global) -> bool

@@ -49,11 +49,11 @@ struct Example {
 enum Engine {
     Encryption,
     Decryption,
-    /// After two chunks, over an old text of 150,000 bytes.
+    /// After two chunks, over an earlier output of 150,000 bytes.
     Resumption,
 }
 
-/// What a run calls: its input, its old text or its output.
+/// What a run calls: its input, its earlier output or its output.
 #[derive(Clone, Copy, PartialEq, Eq)]
 enum Call {
     Pull,
@@ -72,8 +72,8 @@ const NEVER: Failure = (Put, u64::MAX);
 /// a position, and from which on this much of the output is written. Each put adds a step to that.
 type Run = (Engine, Call, u64, u64, &'static [u64], &'static [usize]);
 
-/// A block is sealed once a byte after its chunk came, and opened once it is whole, the last one at
-/// the end. A resumed run copies the old text piece by piece of it, and chunk by chunk.
+/// A block is sealed once a byte after its chunk came, and opened once it is complete, the last one
+/// at the end. A resumed run copies the earlier output piece by piece of it, and chunk by chunk.
 const RUNS: [Run; 7] = [
     (Encryption, Pull, 21, 21, &[0, 7, 14, 20], &FILE_LENS),
     (Encryption, Put, 24, 24, &[1, 8, 15, 22, 23], &FILE_LENS),
@@ -94,11 +94,11 @@ const COPY_LENS: [usize; 5] = [65_536, 70_000, 131_072, 196_608, 200_000];
 /// as it says.
 type Ended = (u8, Option<Position>, Vec<u8>);
 
-/// Whether an encryption, a decryption and a resumed one of 200,000 bytes stop as they have to if one
-/// pull, one put or the flush fails, each in turn, until a run ends with no stop: with the fault of
-/// the source or of the sink, after as many bytes of the whole output as could be written by then,
-/// and with the position there, from which another run makes the whole text. False also if memory is
-/// refused.
+/// Whether an encryption, a decryption and a resumed one of 200,000 bytes stop as they have to if
+/// one pull, one put or the flush fails, each in turn, until a run ends with no stop: with the
+/// fault of the source or of the sink, after as many bytes of the complete output as could be
+/// written by then, and with the position there, from which another run makes the complete text.
+/// False also if memory runs out.
 pub fn stop_rows(alloc: Global) -> bool {
     make_example(alloc).is_some_and(|example| RUNS
         .iter()
@@ -175,7 +175,7 @@ fn len_before(run: &Run, turn: u64) -> usize {
 }
 
 /// Whether a run that wrote this much has no position, or the one of as many chunks, from which
-/// another run makes the whole text.
+/// another run makes the complete text.
 fn goes_on(alloc: Global, example: &Example, position: Option<Position>, old: &[u8]) -> bool {
     let Some(position) = position else {
         return true;
@@ -232,7 +232,7 @@ fn encrypted(alloc: Global, text: &[u8], failure: Failure) -> Option<Ended> {
     Some((number, None, output.into_bytes()))
 }
 
-/// A decryption, or one that is resumed at a position, over an old text.
+/// A decryption, or one that is resumed at a position, over an earlier output.
 fn decrypted(
     alloc: Global,
     example: &Example,

@@ -2,13 +2,13 @@
 //! readers and writers over them.
 #![no_std]
 
-/// Bytes of text in a whole chunk.
+/// Bytes of plaintext in a full chunk.
 pub const AGE_C_CHUNK: usize = 65_536;
 /// Bytes of its block.
 pub const AGE_C_BLOCK: usize = 65_552;
-/// With so many bytes of a file, a header is complete or refused.
+/// With this many bytes of a file, a header is complete or refused.
 pub const AGE_C_FRONT_MAX: usize = 1_048_592;
-/// Room that [`age_c_seal_passphrase`] asks for, and [`age_c_seal_key`] beside its stanzas.
+/// Room that [`age_c_seal_passphrase`] needs, and that [`age_c_seal_key`] needs beside its stanzas.
 pub const AGE_C_SEAL_FRONT: usize = 256;
 /// Bytes of a passphrase; at least 1.
 pub const AGE_C_PASS_MAX: usize = 65_536;
@@ -19,7 +19,7 @@ pub const AGE_C_MORE: u32 = 254;
 /// The call was misused.
 pub const AGE_C_MISUSED: u32 = 255;
 
-/// Where a stanza of a header stands: `age_c_stanza`.
+/// Where a stanza of a header is: `age_c_stanza`.
 #[repr(C)]
 #[derive(Clone, Copy, Default)]
 pub struct AgeCStanza {
@@ -107,7 +107,7 @@ const _: () = assert!(core::mem::size_of::<AgeCStream>() == 65_624);
 const _: () = assert!(core::mem::size_of::<AgeCWriteStream>() == 65_608);
 
 extern "C" {
-    /// The name of what a call returned, a text that ends in a zero byte and stays.
+    /// The name of what a call returned, a string that ends in a zero byte and is never freed.
     pub fn age_c_fault_name(answer: u32) -> *const core::ffi::c_char;
     pub fn age_c_version() -> u32;
     /// 1 if this processor has what the library is compiled for.

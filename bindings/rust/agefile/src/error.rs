@@ -5,7 +5,7 @@ use std::ffi::CStr;
 use std::fmt;
 use std::io::{self, ErrorKind};
 
-/// An argument that isn't allowed, which the library doesn't get.
+/// An argument that isn't allowed, which isn't passed to the library.
 pub(crate) fn refused(text: String) -> io::Error {
     io::Error::new(ErrorKind::InvalidInput, text)
 }
@@ -20,8 +20,8 @@ pub(crate) fn see_processor() -> io::Result<()> {
     Ok(())
 }
 
-/// The error of a source as it is passed on: one that was cut off itself doesn't say so by the kind
-/// that `read_exact` gives to the end of a text.
+/// The error of a source as it is passed on: a source that was truncated itself doesn't say so by
+/// the kind that `read_exact` uses for the end of a file.
 pub(crate) fn of_source(error: io::Error) -> io::Error {
     match error.kind() {
         ErrorKind::UnexpectedEof => io::Error::new(ErrorKind::InvalidData, error),
@@ -32,8 +32,8 @@ pub(crate) fn of_source(error: io::Error) -> io::Error {
 /// A fault, by its number in docs/FAULTS.md, and its chunk if it has one.
 ///
 /// An [`io::Error`] carries it: [`AgeError::of`] finds it there. The kind of that error is
-/// [`ErrorKind::InvalidData`], also of a file that is cut off: `UnexpectedEof` is what `read_exact`
-/// says at the end of a text that is whole. Only 28 is `OutOfMemory`, and 255 `InvalidInput`.
+/// [`ErrorKind::InvalidData`], even for a truncated file: `UnexpectedEof` is what `read_exact` says
+/// at the end of a complete plaintext. Only 28 is `OutOfMemory`, and 255 `InvalidInput`.
 #[derive(Clone, Copy, Debug, PartialEq, Eq)]
 pub struct AgeError {
     /// The number in docs/FAULTS.md. 254 says that the file ends in its header or in the 16 bytes
@@ -91,7 +91,7 @@ impl AgeError {
 
     /// The name of the fault, as age_tool prints it.
     pub fn name(&self) -> &'static str {
-        // SAFETY: it is a text that stays, whatever the number is.
+        // SAFETY: it is a string that is never freed, whatever the number is.
         let name = unsafe { CStr::from_ptr(age_c_fault_name(self.number)) };
         name.to_str().unwrap_or("Unknown")
     }
@@ -102,14 +102,14 @@ impl AgeError {
     }
 
     /// The file ends too early: in its header, before a chunk, or in the first 15 bytes of one. A
-    /// file that was cut elsewhere, as nearly every one is, can't be told from a damaged one: it is
-    /// [`AgeError::is_damaged`]. So treat both alike.
+    /// file that was truncated elsewhere, as nearly all are, can't be told from a damaged one: it
+    /// is [`AgeError::is_damaged`]. So treat both alike.
     pub fn is_truncated(&self) -> bool {
         matches!(self.number, 18 | 20 | AGE_C_MORE)
     }
 
-    /// The file isn't as its writer left it, which may be cut short, or no age program writes such
-    /// a file.
+    /// The file isn't as its writer left it (it may be truncated), or no age program writes such a
+    /// file.
     pub fn is_damaged(&self) -> bool {
         !self.is_wrong_key() && !self.is_truncated() && matches!(self.number, 3..=10 | 14..=22)
     }

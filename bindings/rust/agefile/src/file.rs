@@ -13,7 +13,7 @@ use std::io::{self, BufRead, ErrorKind, Read, Seek, SeekFrom};
 pub(crate) const CHUNK: u64 = AGE_C_CHUNK as u64;
 const BLOCK: u64 = AGE_C_BLOCK as u64;
 
-/// Opens a block, or what is left at the end, and returns the length of its text.
+/// Opens a block, or what is left at the end, and returns the length of its plaintext.
 pub(crate) fn open_block(
     reader: &mut AgeCReader,
     block: &[u8],
@@ -55,8 +55,8 @@ pub(crate) fn fill<R: Read>(file: &mut R, room: &mut [u8], have: &mut usize) -> 
     Ok(())
 }
 
-/// The text of an age file, which can be sought in. The length of the text was checked when the
-/// file was opened.
+/// The plaintext of an age file, which can be sought in. The length of the plaintext was checked
+/// when the file was opened.
 pub struct AgeFile<R> {
     file: R,
     begin: u64, // where the age file begins in the file
@@ -70,8 +70,8 @@ pub struct AgeFile<R> {
 }
 
 impl<R: Read + Seek> AgeFile<R> {
-    /// Opens the header, which begins where the file stands, and the last chunk, by which it checks
-    /// the length of the text.
+    /// Opens the header, which begins at the file's position, and the last chunk, by which it
+    /// checks the length of the plaintext.
     pub fn open(mut file: R, key: Key) -> io::Result<AgeFile<R>> {
         let begin = file.stream_position()?;
         let mut reader = State::<AgeCReader>::default();
@@ -100,8 +100,8 @@ impl<R: Read + Seek> AgeFile<R> {
         Ok(made)
     }
 
-    /// Opens the same age file once more, over a file of its own, for another thread, say: without
-    /// its key, and without the work of a passphrase. Another file is refused.
+    /// Opens the same age file once more, over another source, for another thread, say: without its
+    /// key, and without the work of a passphrase. Another file is refused.
     ///
     /// # Errors
     ///
@@ -115,7 +115,7 @@ impl<R: Read + Seek> AgeFile<R> {
         Key::FileKey(&self.reader.file_key)
     }
 
-    /// The length of the text.
+    /// The length of the plaintext.
     pub fn len(&self) -> u64 {
         self.len
     }
@@ -125,17 +125,17 @@ impl<R: Read + Seek> AgeFile<R> {
         &self.file
     }
 
-    /// Gives back the file, which stands anywhere.
+    /// Returns the file, at whatever position.
     pub fn into_inner(self) -> R {
         self.file
     }
 
-    /// Whether the text has no byte.
+    /// Whether the plaintext is empty.
     pub fn is_empty(&self) -> bool {
         self.len == 0
     }
 
-    /// Reads and opens a chunk, the last one as the last. Returns the length of its text.
+    /// Reads and opens a chunk, the last one as the last. Returns the length of its plaintext.
     fn hold(&mut self, chunk: u64) -> io::Result<usize> {
         if let Some((_, len)) = self.held.filter(|it| it.0 == chunk) {
             return Ok(len);
@@ -160,7 +160,7 @@ impl<R: Read + Seek> AgeFile<R> {
 }
 
 impl<R> fmt::Debug for AgeFile<R> {
-    /// Shows no key, and no text.
+    /// Shows no key, and no plaintext.
     fn fmt(&self, f: &mut fmt::Formatter<'_>) -> fmt::Result {
         f.debug_struct("AgeFile")
             .field("len", &self.len)
@@ -200,7 +200,7 @@ impl<R: Read + Seek> Read for AgeFile<R> {
 }
 
 impl<R: Read + Seek> Seek for AgeFile<R> {
-    /// Goes to a place of the text, without reading. After the end there is nothing to read.
+    /// Goes to a place in the plaintext, without reading. After the end there is nothing to read.
     fn seek(&mut self, to: SeekFrom) -> io::Result<u64> {
         let place = match to {
             SeekFrom::Start(place) => Some(place),

@@ -96,7 +96,7 @@ impl Header {
 }
 
 impl Stanza {
-    /// The stanza that stands there.
+    /// The stanza at this place.
     fn at(it: &AgeCStanza, front: &[u8], bodies: &[u8]) -> Stanza {
         let line = String::from_utf8_lossy(&front[it.args_at..it.args_at + it.args_len]);
         let mut words = line.split(' ').map(String::from);

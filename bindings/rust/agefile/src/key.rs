@@ -38,10 +38,10 @@ pub enum Key<'a> {
     },
 }
 
-/// The work factors that there are.
+/// The valid work factors.
 pub(crate) const WORK: RangeInclusive<u32> = 1..=MAX_WORK;
 
-/// What the library refuses of a passphrase.
+/// Which passphrases the library refuses.
 pub(crate) fn wrong_passphrase(passphrase: &[u8]) -> Option<&'static str> {
     let is_wrong = passphrase.is_empty() || passphrase.len() > AGE_C_PASS_MAX;
     is_wrong.then_some("the passphrase must have 1 to 65,536 bytes")

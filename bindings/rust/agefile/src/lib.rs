@@ -4,12 +4,12 @@
 //! that is [`std::io::Seek`] at any place, and [`AgeWriter`] writes. No byte is returned before its
 //! chunk has been authenticated. The end (`Ok(0)`) is reported only after the last chunk has been.
 //!
-//! A call returns the text of one chunk at most. So all of the text before a damaged chunk has been
-//! returned when a call returns the fault, and that call returns no byte.
+//! A call returns the plaintext of at most one chunk. So all of the plaintext before a damaged
+//! chunk has been returned when a call returns the fault, and that call returns no byte.
 //!
 //! When a reader or writer is dropped, its file key and what it holds of a chunk in the library's
-//! state are overwritten. Buffers of text aren't, nor what the library used of the stack and of
-//! memory that it freed.
+//! state are overwritten. Buffers of plaintext aren't, nor the stack and the freed memory that the
+//! library used.
 //!
 //! ```no_run
 //! use agefile::{AgeReader, Key};

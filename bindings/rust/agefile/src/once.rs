@@ -3,7 +3,7 @@
 use crate::{AgeReader, AgeWriter, Key};
 use std::io::{self, Read, Write};
 
-/// The age file of a text under a passphrase, as [`AgeWriter::create`] writes it.
+/// The age file of a plaintext under a passphrase, as [`AgeWriter::create`] writes it.
 ///
 /// # Errors
 ///
@@ -14,7 +14,7 @@ pub fn encrypt(text: &[u8], passphrase: &[u8], work: u32) -> io::Result<Vec<u8>>
     writer.finish()
 }
 
-/// The text of an age file: all of it, or an error.
+/// The plaintext of an age file: all of it, or an error.
 ///
 /// # Errors
 ///

@@ -77,7 +77,7 @@ pub struct Opening<'a, R> {
 }
 
 impl<'a, R: Read> Opening<'a, R> {
-    /// A file that nothing was read of.
+    /// A file of which nothing was read.
     pub fn new(file: R, key: Key<'a>) -> Opening<'a, R> {
         Opening {
             file,
@@ -107,7 +107,7 @@ impl<R> fmt::Debug for Opening<'_, R> {
     }
 }
 
-/// The text of an age file, from its beginning to its end.
+/// The plaintext of an age file, from its beginning to its end.
 pub struct AgeReader<R> {
     file: R,
     reader: State<AgeCReader>,
@@ -121,13 +121,13 @@ pub struct AgeReader<R> {
 }
 
 impl<R: Read> AgeReader<R> {
-    /// Opens the header. It reads no more of the file than it needs, and what comes along. For a
-    /// file that doesn't block there is [`Opening`].
+    /// Opens the header. It reads no more of the file than it needs, apart from what comes in the
+    /// same read. For a file that doesn't block there is [`Opening`].
     pub fn open(file: R, key: Key) -> io::Result<AgeReader<R>> {
         Opening::new(file, key).open().map_err(|(error, _)| error)
     }
 
-    /// A reader after the header, of which this was read of what follows: less than a block.
+    /// A reader after the header, if this was read of what follows: less than a block.
     fn after(file: R, reader: State<AgeCReader>, rest: &[u8]) -> AgeReader<R> {
         let mut block = vec![0; AGE_C_BLOCK];
         block[..rest.len()].copy_from_slice(rest);
@@ -149,13 +149,13 @@ impl<R: Read> AgeReader<R> {
         &self.file
     }
 
-    /// Gives back the file. More of it may have been read than text was returned.
+    /// Returns the file. More of it may have been read than was returned as plaintext.
     pub fn into_inner(self) -> R {
         self.file
     }
 
-    /// Reads the next block, or what is left at the end, and takes its text. What was read of it
-    /// when the file fails is kept.
+    /// Reads the next block, or what is left at the end, and takes its plaintext. What was read of
+    /// it when the file fails is kept.
     fn next(&mut self) -> io::Result<()> {
         if let Some(fault) = self.fault {
             return Err(fault.into());
@@ -178,7 +178,7 @@ impl<R: Read> AgeReader<R> {
 }
 
 impl<R> fmt::Debug for AgeReader<R> {
-    /// Shows no key, and no text.
+    /// Shows no key, and no plaintext.
     fn fmt(&self, f: &mut fmt::Formatter<'_>) -> fmt::Result {
         f.debug_struct("AgeReader")
             .field("chunk", &self.reader.chunk)

@@ -34,7 +34,7 @@ impl<W: Write> AgeWriter<W> {
     ///
     /// # Errors
     ///
-    /// [`InvalidInput`](io::ErrorKind::InvalidInput) if there is no recipient, or one is none.
+    /// [`InvalidInput`](io::ErrorKind::InvalidInput) if there is no recipient, or one isn't valid.
     pub fn create_x25519(
         out: W,
         exchange: Exchange,

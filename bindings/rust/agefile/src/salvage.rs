@@ -1,4 +1,4 @@
-//! What can be saved of a file that was damaged or cut.
+//! What can be saved of a damaged or truncated file.
 
 use crate::file::{fill, open_block};
 use crate::reader::open_header;
@@ -8,20 +8,20 @@ use age_c_sys::{age_c_seek, AgeCReader, AGE_C_BLOCK, AGE_C_CHUNK};
 use std::io::{self, Read, Write};
 use std::ops::Range;
 
-/// Bytes of a block that aren't text.
+/// Bytes of a block that aren't plaintext.
 const TAG: usize = 16;
 
-/// The reader's state after the last block, if that is whole.
+/// The reader's state after the last block, if that is full.
 const LAST_SEEN: u32 = 2;
 
 /// What [`salvage`] wrote.
 #[derive(Clone, Debug, Default, PartialEq, Eq)]
 pub struct Salvaged {
-    /// The length of the text that was written.
+    /// The length of the plaintext that was written.
     pub size: u64,
-    /// What is zeros in it, since its chunks didn't open.
+    /// The parts of it that are zeros, since their chunks didn't open.
     pub lost: Vec<Range<u64>>,
-    /// Whether the last chunk opened: else the text may have been longer.
+    /// Whether the last chunk opened: otherwise the plaintext may have been longer.
     pub ends: bool,
     /// Whether something was appended to the file, which is left out.
     pub followed: bool,
@@ -34,14 +34,14 @@ impl Salvaged {
     }
 }
 
-/// What is written to, and how much of the text it has.
+/// What is written to, and how much of the plaintext it has.
 struct Out<W> {
     out: W,
     size: u64,
 }
 
 impl<W: Write> Out<W> {
-    /// Writes a text at its place, after zeros.
+    /// Writes a plaintext at its place, after zeros.
     fn put(&mut self, at: u64, text: &[u8]) -> io::Result<()> {
         io::copy(&mut io::repeat(0).take(at - self.size), &mut self.out)?;
         self.out.write_all(text)?;
@@ -65,10 +65,11 @@ fn open_at(
     Ok(open_block(reader, block, text).ok())
 }
 
-/// Writes each chunk of a damaged or cut file that still opens, at its place, and zeros for each
-/// chunk that doesn't. What is written is authentic.
+/// Writes each chunk of a damaged or truncated file that still opens, at its place, and zeros for
+/// each chunk that doesn't. What is written is authentic.
 ///
-/// The header has to be whole. Nothing is written before a chunk opened: if none does, `size` is 0.
+/// The header must be complete. Nothing is written before a chunk has opened: if none does, `size`
+/// is 0.
 pub fn salvage<R: Read, W: Write>(mut file: R, key: Key, out: W) -> io::Result<Salvaged> {
     let mut reader = State::<AgeCReader>::default();
     let front = open_header(&mut file, key, &mut reader)?;

@@ -3,7 +3,7 @@
 use std::ops::{Deref, DerefMut};
 use std::sync::atomic::{compiler_fence, Ordering};
 
-/// Plain numbers in a place of their own, which stays the same when their owner moves, and which is
+/// Plain numbers in memory of their own, which doesn't move with their owner, and which is
 /// overwritten when they are dropped.
 pub(crate) struct State<T: Plain>(Box<T>);
 

@@ -9,12 +9,12 @@ use std::panic::resume_unwind;
 use std::sync::atomic::{AtomicU64, Ordering};
 use std::thread;
 
-/// Decrypts a file by 1 to [`MAX_WORKERS`] threads, each a part of it, and returns the length of the
-/// text. Each reads a file of its own, which `source` opens, and gives `out` pieces of the text and their
-/// places.
+/// Decrypts a file by 1 to [`MAX_WORKERS`] threads, each a part of it, and returns the length of
+/// the plaintext. Each reads its own file, which `source` opens, and gives `out` pieces of the
+/// plaintext and their places.
 ///
-/// Only if this returns `Ok` has `out` all of the text: the last chunk, which proves the length, is
-/// opened first. If parts fail, the error is that of the first one; those after it stop.
+/// `out` has all of the plaintext only if this returns `Ok`: the last chunk, which proves the
+/// length, is opened first. If parts fail, the error is that of the first one; those after it stop.
 ///
 /// ```no_run
 /// use agefile::{decrypt_to, Key};
@@ -69,7 +69,7 @@ pub fn decrypt_to<R: Read + Seek>(
     })
 }
 
-/// Gives `out` a part of the text, unless it is to stop.
+/// Gives `out` a part of the plaintext, unless it is to stop.
 fn copy_part<R: Read + Seek>(
     mut file: AgeFile<R>,
     part: Range<u64>,

@@ -12,8 +12,8 @@ use std::fmt;
 use std::fs::File;
 use std::io::{self, ErrorKind, Read, Write};
 
-/// Writes an age file, which is whole once [`AgeWriter::finish`] returned `Ok`. If it is dropped
-/// before, the file has no last chunk, and every reader refuses it.
+/// Writes an age file, which is complete once [`AgeWriter::finish`] has returned `Ok`. If it is
+/// dropped before that, the file has no last chunk, and every reader refuses it.
 ///
 /// After a call failed, the file can't be finished: each later call fails too, and says why.
 #[must_use = "an age file isn't whole until `finish` returned"]
@@ -27,7 +27,7 @@ pub struct AgeWriter<W> {
 /// Why a file can't be finished.
 enum Failure {
     Fault(AgeError),
-    /// What it was written to failed: how, and in which words.
+    /// The writer below failed: how, and in which words.
     Output(ErrorKind, String),
     /// A call hasn't returned: it panicked.
     InCall,
@@ -62,7 +62,7 @@ pub(crate) fn random<const N: usize>() -> io::Result<State<[u8; N]>> {
 }
 
 impl<W: Write> AgeWriter<W> {
-    /// Begins a file under a passphrase. The work factor, 1 to 22, says what a reader has to spend:
+    /// Begins a file under a passphrase. The work factor, 1 to 22, says what a reader must spend:
     /// 2^work KiB of memory. 18 is usual.
     pub fn create(out: W, passphrase: &[u8], work: u32) -> io::Result<AgeWriter<W>> {
         // the file key, the salt and the nonce
@@ -89,8 +89,8 @@ impl<W: Write> AgeWriter<W> {
     }
 
     /// Begins a file by its file key, random bytes that are new for each file. The caller has
-    /// wrapped it: `stanzas` is the lines of the header between its first and its last, as
-    /// `-> X25519 SHARE` and those of the body, each ended by a newline.
+    /// wrapped it: `stanzas` has the lines of the header between its first and its last, as `->
+    /// X25519 SHARE` and those of the body, each ended by a newline.
     pub fn create_by_key(out: W, file_key: &[u8; 16], stanzas: &[u8]) -> io::Result<AgeWriter<W>> {
         // the file key and the nonce
         let mut random = random::<32>()?;
@@ -142,7 +142,7 @@ impl<W: Write> AgeWriter<W> {
         &self.out
     }
 
-    /// Gives back what was written to, without the last chunk: every reader refuses the file.
+    /// Returns the writer below, without the last chunk: every reader refuses the file.
     pub fn into_inner(self) -> W {
         self.out
     }
@@ -168,7 +168,7 @@ impl<W: Write> AgeWriter<W> {
         put
     }
 
-    /// Seals the last chunk, so that the file is whole, and gives back what was written to.
+    /// Seals the last chunk, so that the file is complete, and returns the writer below.
     pub fn finish(mut self) -> io::Result<W> {
         self.write_by(|it, written| {
             let block = &mut it.block;
@@ -181,7 +181,7 @@ impl<W: Write> AgeWriter<W> {
 }
 
 impl<W> fmt::Debug for AgeWriter<W> {
-    /// Shows no key, and no text.
+    /// Shows no key, and no plaintext.
     fn fmt(&self, f: &mut fmt::Formatter<'_>) -> fmt::Result {
         f.debug_struct("AgeWriter")
             .field("chunk", &self.stream.writer.chunk)
@@ -212,7 +212,7 @@ impl<W: Write> Write for AgeWriter<W> {
         Ok(taken)
     }
 
-    /// Passes on what is sealed; a chunk that isn't full stays.
+    /// Passes on what is sealed; a chunk that isn't full is kept.
     fn flush(&mut self) -> io::Result<()> {
         self.see_whole()?;
         self.out.flush()

@@ -42,7 +42,8 @@ impl Identity {
     ///
     /// # Errors
     ///
-    /// [`InvalidInput`](io::ErrorKind::InvalidInput) if a line is another one, or if there is no key.
+    /// [`InvalidInput`](io::ErrorKind::InvalidInput) if there is any other line, or if there is no
+    /// key.
     pub fn parse(text: &str) -> io::Result<Vec<Identity>> {
         let mut found = Vec::new();
         for (number, line) in text.lines().enumerate() {
@@ -65,7 +66,7 @@ impl Identity {
 ///
 /// # Errors
 ///
-/// [`InvalidInput`](io::ErrorKind::InvalidInput) if it is none.
+/// [`InvalidInput`](io::ErrorKind::InvalidInput) if it isn't valid.
 pub fn parse_recipient(text: &str) -> io::Result<[u8; 32]> {
     bech32("age", text).ok_or_else(|| refused("not a recipient of age-keygen".into()))
 }
@@ -137,7 +138,7 @@ pub(crate) fn open(
     front: &[u8],
     reader: &mut AgeCReader,
 ) -> u32 {
-    // (a pair that opens nothing: by it the library says what is wrong with the header)
+    // (a pair that opens nothing, by which the library says what is wrong with the header)
     let answer = open_shared(front, &[1; 32], &[0; 32], reader);
     if answer != WRONG_KEY {
         return answer;
@@ -162,9 +163,9 @@ pub(crate) fn open(
     WRONG_KEY
 }
 
-/// Opens a header by one key and one of its stanzas. A pair opens no stanza but its own. So a header
-/// of that one says whether the whole is worth a try, or the time would grow with the square of the
-/// number of stanzas.
+/// Opens a header by one key and one of its stanzas. A pair opens no stanza but its own. So a
+/// header with only that stanza shows whether the complete header is worth a try; otherwise the
+/// time would grow with the square of the number of stanzas.
 fn try_stanza(
     exchange: Exchange,
     identity: &Identity,

@@ -141,7 +141,7 @@ bytes_before (Between ss) = stanzas_text ss
 bytes_before (InBody ss args body) =
     stanzas_text ss ++ (line (argument_line args) ++ whole_lines (base64_text body))
 
--- what stands before a place is valid, and a body so far is whole lines
+-- what stands before a place is valid, and a body so far is full lines
 abbrev pub IsPlace : Place → Type 0
 IsPlace Start = Unit {0}
 IsPlace (Between ss) = AllByRecursion IsStanza ss

@@ -40,7 +40,7 @@ fn end(stanzas: Stanzas, line: &[u8]) -> Result<Next, HeadKind>
     Ok(Next::Done(Header { stanzas, mac }))
 }
 
-/// Any other line after a whole stanza: the next one's argument line.
+/// Any other line after a complete stanza: the next one's argument line.
 fn begin(alloc: Global, stanzas: Stanzas, line: &[u8]) -> Result<Next, HeadKind>
     ensures { Gives result (argument_line_result stanzas (spec_arguments_of line.now)) }
 {

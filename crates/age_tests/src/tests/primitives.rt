@@ -41,7 +41,7 @@ fn texts_of_every_length(rt: HostRuntime) {
     assert!(rt; digest_of_lengths(4_294_967_291, 320) == up_to_the_end);
 }
 
-/// Whether a block with this bit inverted doesn't open, and stays as it was.
+/// Whether a block with this bit inverted doesn't open, and is unchanged.
 fn is_noticed(block: &[u8; 16], bit: usize) -> bool {
     let mut other = *block;
     other[bit / 8 % 16] ^= 1 << (bit % 8);

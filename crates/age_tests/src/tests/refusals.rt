@@ -15,7 +15,7 @@ const REFUSED: HeadFault = HeadFault {
     line: 0,
 };
 
-/// Whether these are the bytes, or memory was refused.
+/// Whether these are the bytes, or memory ran out.
 fn is(answer: &Result<Vec<u8>, HeadFault>, bytes: &[u8]) -> bool {
     match answer {
         Ok(text) => text.as_slice() == bytes,
@@ -30,7 +30,7 @@ fn is_smallest(alloc: Global, header: &Header) -> bool {
         && is(&mac_text(alloc, header), &SMALLEST[..31])
 }
 
-/// Whether the smallest text gives its header, or memory is refused.
+/// Whether the smallest text gives its header, or memory runs out.
 fn is_read_or_refused(alloc: Global) -> bool {
     match HeadParser::new(alloc).feed(SMALLEST) {
         Ok(HeadStep::Ready { taken, header }) => taken == 76 && is_smallest(alloc, &header),
@@ -44,7 +44,7 @@ fn a_header(rt: HostRuntime) {
     assert!(rt; is_read_or_refused(rt.alloc()));
 }
 
-/// Whether a fault comes again at each later call, also that memory was refused.
+/// Whether a fault comes again at each later call, also that memory ran out.
 fn is_kept(alloc: Global) -> bool {
     let mut parser = HeadParser::new(alloc);
     let Err(fault) = parser.feed(b"-> x\n") else {
