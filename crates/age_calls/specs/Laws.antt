@@ -74,6 +74,7 @@ TornIfCutLast = (n : ℕ) (path bytes : List ℕ)
 -- Two runs at a time, on a system that gives a file's lock to one of them at most: one has it, and the
 -- other changes the file only after it has claimed it.
 pub record HasOneLock (n : ℕ) (one other : List FileCall) : Type 0 where
+  -- (in any order: no call gives a lock back)
   pub has : Contains one (Locked n)
   pub once : Contains one (Locked n) → Contains other (Locked n) → ⊥
   pub lockable : Contains other (Unlockable n) → ⊥
@@ -81,6 +82,7 @@ pub record HasOneLock (n : ℕ) (one other : List FileCall) : Type 0 where
 
 -- No call may have changed a file, and a disk on which none made it has it as it was.
 pub record IsUnchanged (n : ℕ) (calls : List FileCall) : Type 0 where
+  -- (in any order: no call changes it, first or last)
   pub none : (call : FileCall) → Contains calls call → MayChange n call → ⊥
   pub same : (HasMade n calls → ⊥) → (disk : Disk) → (after_calls calls disk).bytes n ≡ disk.bytes n
 

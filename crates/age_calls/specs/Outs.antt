@@ -75,6 +75,7 @@ MayChange n (Broke m) = m ≡ n
 MayChange n call = ⊥
 
 -- this run has locked a file, or the system has no lock for it
+-- (in any order: no call gives a lock back)
 abbrev pub IsClaimed : ℕ → List FileCall → Type 0
 IsClaimed n calls = Contains calls (Locked n) ⊎ Contains calls (Unlockable n)
 
@@ -88,6 +89,7 @@ LocksFirst n (call ∷ calls) = (MayChange n call → IsClaimed n calls) × Lock
 pub record TouchesFile (file : OutFile) (calls : List FileCall) : Type 0 where
   pub opening : Opening
   pub is_made : is_making opening ≡ file.is_made
+  -- (in any order: by `on` it is the first call)
   pub opened : Contains calls (opening_of file.path file.number opening)
   pub on : AllOn file.path file.number calls
   pub locked : LocksFirst file.number calls

@@ -77,9 +77,11 @@ SparesFile path old = Throughout path (λ disk calls. (n : ℕ)
 -- ---- What else is touched.
 
 -- these calls have made a file, or one at this path
+-- (in any order: all of these come before the call that is allowed)
 abbrev pub HasMade : ℕ → List FileCall → Type 0
 HasMade n calls = (p : List ℕ) × Contains calls (Made p n)
 
+-- (in any order: `remove` takes away only the file that was made there)
 abbrev pub HasMadeAt : List ℕ → List FileCall → Type 0
 HasMadeAt p calls = (n : ℕ) × Contains calls (Made p n)
 

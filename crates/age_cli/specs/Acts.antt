@@ -301,6 +301,7 @@ IsThereUnlessFailed durability out = (IsThere out × (durability ≡ Synced → 
 
 -- Some disk answers the calls of a regular file: so what is said of each that does isn't said of none. But
 -- one that was opened without a name is on no path.
+-- (in any order: no disk answers such a call, wherever it stands)
 abbrev pub IsAnsweredOnce : EndedFile → Type 0
 IsAnsweredOnce e = IfSome e.file (λ f. ((disk : Disk) × AllAnswered f.path e.calls disk)
     ⊎ Contains e.calls (Opened f.path f.number (Regular false)))

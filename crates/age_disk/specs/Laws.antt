@@ -10,6 +10,7 @@ use Rattle.age_disk.specs.declared.names.FileId.TheVariants.{File}
 
 -- The calls of a regular output that is none of the files that were opened leave on every disk what
 -- these hold.
+-- (in any order: each of these files is open, whichever came first)
 abbrev pub NoInputIsChanged : Type 0
 NoInputIsChanged = (opened : List FileId) (out : OutputView) (file : OutFile) (calls : List FileCall)
     → IsApart opened out → out.file ≡ Some file → AllOn file.path file.number calls

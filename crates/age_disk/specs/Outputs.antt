@@ -31,10 +31,12 @@ pub record HasNode (id : Option FileId) (file : OutFile) : Type 0 where
 
 -- a file that is none of these
 pub record IsApart (opened : List FileId) (out : OutputView) : Type 0 where
+  -- (in any order: each of these files is open, whichever came first)
   pub none : (one : FileId) → Contains opened one → out.id ≢ Some one
   pub node : IfSome out.file (HasNode out.id)
 
 -- the others have all of these
+-- (in any order: each of these files is open, whichever came first)
 abbrev pub HasAll : List FileId → List FileId → Type 0
 HasAll opened later = (one : FileId) → Contains opened one → Contains later one
 

@@ -23,6 +23,7 @@ IsReplacing to path calls call = IsWithin path calls call × (to ≡ Free → Is
 pub record IsBeside (to : Spot) (path from : List ℕ) (n : ℕ) (old calls : List FileCall)
     : Type 0 where
   pub steps : Since (IsReplacing to path) old calls
+  -- (in any order: `IsKept.file` says where it is after all of them)
   pub made : Contains steps.since (Made from n)
 
 -- on each disk that answers for one path, a path leads to this file

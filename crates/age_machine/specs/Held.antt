@@ -27,6 +27,7 @@ IsJustOpened n opening calls = (calls ≡ opening ∷ [])
 -- what holds between the calls of its methods
 pub record IsOut (path : List ℕ) (n : ℕ) (opening : FileCall) (is_stale is_lost is_claimed : Bool)
     (count failed : ℕ) (calls : List FileCall) : Type 0 where
+  -- (in any order: by `on` it is the first call)
   pub opened : Contains calls opening
   pub on : AllOn path n calls
   pub written : length (text_of calls) ≡ count

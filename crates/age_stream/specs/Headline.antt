@@ -17,6 +17,7 @@ use Rattle.age_stream.specs.declared.step.Status.TheVariants.{Done}
 
 module _ (sealing : Seals) (opening : OpensBlock) (n : ℕ) (text : List ℕ) where
   -- if the block opens at the nonce, the writer of the plaintext sealed it there
+  -- (in any order: a nonce has the number of its chunk)
   abbrev pub IsWriters : List ℕ → List ℕ → Type 0
   IsWriters nonce block = IsSome (opening nonce block)
       → Contains (sealed sealing n text) (nonce, block)
@@ -82,6 +83,7 @@ module _ (sealing : Seals) (n : ℕ) (text : List ℕ) where
 
   -- block number i isn't the writer's, and each block before it is the writer's of that number
   pub record IsFirstWrong (s : Segment) (i : ℕ) : Type 0 where
+    -- (in any order: a nonce has the number of its chunk)
     pub before : (j : ℕ) → s.start + j < i → Contains (sealed sealing n text)
         (nonce_bytes (s.start + j) false, block_at n s.bytes j)
     pub there : (last : Bool) → ¬ Contains (sealed sealing n text)
