@@ -41,7 +41,9 @@ impl From<FileFault> for OpenFault {
 /// see is noted as it is done: what was to be done in order, and what came of it. An implementation
 /// has to keep more than its contracts say:
 /// - `create` changes nothing of a file that is there. Its bytes are replaced with the first put
-///   that takes some, or by `close`; from then on others may see them;
+///   that takes some, or by `close`; from then on others may see them. It makes none, either: what
+///   isn't there is made with the first byte that its sink takes, or as that is flushed. The put or
+///   flush fails if that can't be;
 /// - a sink that is dropped without `close` or `discard` may leave the file with some of the bytes
 ///   that it took, with none, or as it was;
 /// - a stream gives each of its bytes once, so it isn't opened twice to be read, whatever its names.
@@ -128,10 +130,10 @@ pub trait FileSet<'w> {
             (made_as [] name.now result) (view self.old) }
         ensures faults { IfErr result (OpenFails FileFault.Write) };
 
-    /// Opens a file to be written, and makes it if there is none. Refuses with `Write` (27) if it
-    /// can't be opened, with `Memory` (28), and with [`SameFile`](OpenFault::SameFile) if it was
-    /// opened, prepared or created before; a file that the call made is then removed, if it can be.
-    /// The disk is waited for while it is written, so that the end needn't wait long, if it is to be.
+    /// Opens a file to be written, which need not be there. Refuses with `Write` (27) if it can't be
+    /// opened, or if no file can be made there, as far as that can be seen; with `Memory` (28); and
+    /// with [`SameFile`](OpenFault::SameFile) if it was opened, prepared or created before. The disk
+    /// is waited for while it is written, so that the end needn't wait long, if it is to be.
     fn create(
         &mut self,
         alloc: Global,
@@ -155,8 +157,8 @@ pub trait FileSet<'w> {
     fn is_absent(&mut self, name: &'w str) -> bool
         ensures { view self.new ≡ with_outcomes (looked_as name.now result) (view self.old) };
 
-    /// Makes a file to be written, as `create` does, and refuses one that is there too, with `Write`
-    /// (27): it is as it was then, and no link is followed.
+    /// The same for a new file: one that is there is refused too, with `Write` (27), and also one that
+    /// has come by the time the file is made. It is as it was then, and no link is followed.
     fn create_new(
         &mut self,
         alloc: Global,
@@ -212,7 +214,8 @@ pub trait FileSet<'w> {
         ensures faults { IsOkUnless result FileFault.Write };
 
     /// Ends a file that was created and into which nothing was put: it is as it was before
-    /// `create`. One that was made is removed, if it can be, also on the disk if that is asked for.
+    /// `create`. One that a put made which failed is removed, if it can be, also on the disk if that is
+    /// asked for.
     fn discard(&mut self, out: Self::Out, durability: Durability)
         ensures noted { EndsOne durability [] (view self.old) (view self.new) }
         ensures discarded { IsSomeAnd (view self.new).ended
