@@ -1,5 +1,7 @@
 """What test_disk and test_saving run the program with: a folder with the files of a decryption that stops, and what the program says."""
 import os
+import pathlib
+import resource
 import shutil
 import stat
 import subprocess
@@ -51,6 +53,14 @@ def waits_for(holds):
     until = time.monotonic() + SECONDS
     while not holds() and time.monotonic() < until:
         time.sleep(0.01)
+
+
+def is_deriving(run):
+    """Whether a run derives a key that takes some hundreds of MiB: so much memory it has touched. It hasn't if it ended."""
+    try:
+        return int(pathlib.Path(f"/proc/{run.pid}/statm").read_text().split()[1]) * resource.getpagesize() > 100 << 20
+    except (OSError, IndexError):
+        return False
 
 
 class FilesCase(Case):

@@ -6,7 +6,7 @@ if a call fails (tools/shim.c), and computes what that leaves by `age_calls/spec
 - OUT is locked before it is changed, what was written is closed before status 0, and a file that the run didn't make is removed only if it
   was locked: the room that a stopped run left;
 - at each moment it leaves a position as it was, or the new one, whole;
-- a run that stops before there is a byte to write leaves OUT as it was, or empty, if it wasn't there.
+- a run that stops before there is a byte to write leaves OUT as it was, and makes none.
 
 A run with --no-sync has to be one after which OUT may hold anything: so the test can fail. Each run is a test."""
 import errno
@@ -180,7 +180,7 @@ class Run:
         """What no moment may show."""
         if self.saved and self.disk.leaves(self.saved) - {self.before.get(self.saved), self.after.get(self.saved)}:
             yield "a position may be torn or lost"
-        if self.case.keeps_out() and self.disk.leaves(self.out) - {self.before.get(self.out), None if self.out in self.before else b""}:
+        if self.case.keeps_out() and self.disk.leaves(self.out) != {self.before.get(self.out)}:
             yield "OUT may not be as it was"
 
     def faults_at_end(self):

@@ -18,7 +18,7 @@ import time
 
 from tests.case import SECONDS, needs, twice, without_advice
 from tests.files import LOCKED, NOBODY, PLAIN, WRITE, Feeding, FilesCase
-from tests.files import as_nobody, chunk_fault, reason, refused, unsaved, unsynced, unwritten, waits_for
+from tests.files import as_nobody, chunk_fault, is_deriving, reason, refused, unsaved, unsynced, unwritten, waits_for
 from tools import shim
 
 LENGTH = "another program changed its length"
@@ -28,14 +28,6 @@ FUSED = pathlib.Path(__file__).parent.parent / "tools" / "fused.c"
 
 def within_memory():
     resource.setrlimit(resource.RLIMIT_AS, (500_000 << 10, 500_000 << 10))
-
-
-def resident(process):
-    """How many bytes of its memory a process has touched; none if it has ended."""
-    try:
-        return int(pathlib.Path(f"/proc/{process}/statm").read_text().split()[1]) * resource.getpagesize()
-    except (OSError, IndexError):
-        return 0
 
 
 def unwaited(name):
@@ -898,7 +890,7 @@ class DiskTest(FilesCase):
         self.write("old", b"old text")
         for name in ("new", "old"):
             run = self.started(f"encrypt --pass pass --log 18 plain {name}")
-            waits_for(lambda run=run: resident(run.pid) > 100 << 20)
+            waits_for(lambda run=run: is_deriving(run))
             self.see(f"{name}: not there yet", name == "old" or not self.is_there(name))
             run.terminate()
             self.ends(f"{name}: killed", run, -signal.SIGTERM, b"")

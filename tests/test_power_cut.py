@@ -493,7 +493,7 @@ class Trial:
         held = {name: part.held for name, part in state.items()}
         if not case.kept() <= held.keys():
             yield LOST_FILE
-        if case.keeps_out() and not self.is_kept(held, is_over):
+        if case.keeps_out() and held.get("out") != self.before.get("out"):
             yield CHANGED_OUT
         if is_over and case.status == 0 and not self.is_whole(state.get("out")):
             yield LOST_OUT
@@ -506,11 +506,6 @@ class Trial:
                 yield from self.position_faults(state, name)
         if case.can_be_repeated() and not self.is_repeated(held):
             yield UNREPEATED
-
-    def is_kept(self, held, is_over):
-        """OUT is as it was. While a run goes on that has made it, it may be there, and is empty."""
-        was, out = self.before.get("out"), held.get("out")
-        return out == was or (was is None and out == b"" and not is_over)
 
     def is_whole(self, out):
         """It holds the plaintext, or is a file that does."""

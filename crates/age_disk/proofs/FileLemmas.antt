@@ -1,5 +1,5 @@
 -- What is known of a file while puts go on, and once it was ended; and of a new file that was put to a path.
-use Rattle.std.proofs.Common.{◌≡◌, ◌<◌, ℕ, List, [], ◌∷◌, ◌++◌, Bool, true, false, Option, Some, None, Result, arith, sym, ap, ◌∙◌, refl, subst}
+use Rattle.std.proofs.Common.{◌≡◌, ◌<◌, ℕ, List, [], ◌∷◌, ◌++◌, zero, suc, Bool, true, false, Option, Some, None, Result, arith, sym, ap, ◌∙◌, refl, subst}
 use Rattle.std.specs.Prelude.{Ok, Err, IfOk, IfSome, OnOk, OnErr, MatchResult, is_ok}
 use Rattle.age_io.specs.{one_more}
 use Rattle.age_io.specs.declared.durability.Durability.{Durability}
@@ -8,8 +8,8 @@ use Rattle.age_calls.specs.{FileCall, ClosesLast, EndedFile, Closes, OutFile, Ou
 use Rattle.age_calls.specs.{SavedFile, PutsAtOnce}
 use Rattle.age_machine.specs.{IsKept}
 use Rattle.age_calls.specs.Saved.{Saves}
-use Rattle.age_disk.specs.{HasNode, sink_of, IsTaking, FileId}
-use Rattle.age_disk.specs.inner.{TargetPuts}
+use Rattle.age_disk.specs.{HasNode, sink_of, IsTaking, FileId, Stays}
+use Rattle.age_disk.specs.inner.{TargetPuts, part_of}
 
 first_none : (one other : List ℕ) → one ++ other ≡ [] → one ≡ []
 first_none [] other none = refl
@@ -68,6 +68,18 @@ pub handed_put : (old new : Option OutView) (ok : Bool) (part took later before 
 handed_put old new ok part took later before handed puts was more added none =
     let is = none_before old new ok part puts none in
     more is ∙ (ap (λ (l : List ℕ). l ++ part) (was is) ∙ sym added)
+
+-- what isn't made yet has taken nothing
+pub unmade_put : {E : Type 0} (old new : Option (List ℕ)) (file now : Option OutFile) (id known : Option FileId) (put : Result ℕ E)
+    (from took : List ℕ) → Stays old new file now id known → IfSome old (λ _. took ≡ []) → IfOk put (λ n. 0 < n → new ≡ None)
+    → IfSome new (λ _. took ++ part_of put from ≡ [])
+unmade_put old None file now id known put from took stays none made = tt
+unmade_put None (Some path) file now id known put from took stays none made = let no : ⊥ = cc in absurd no
+unmade_put (Some at) (Some path) file now id known (Err e) from took stays none made = rw none refl
+unmade_put (Some at) (Some path) file now id known (Ok zero) from took stays none made = rw none refl
+unmade_put (Some at) (Some path) file now id known (Ok (suc n)) from took stays none made = absurd (differ (made (grind arith))) where
+  differ : Some path ≡ None → ⊥
+  differ same = cc
 
 -- ---- A regular file that was ended.
 

@@ -1,5 +1,5 @@
 -- What follows for the files that are read.
-use Rattle.std.specs.Prelude.{◌≡◌, ◌<◌, ◌^◌, List, Some, Contains}
+use Rattle.std.specs.Prelude.{◌≡◌, ◌<◌, ◌^◌, ℕ, List, Some, Contains}
 use Rattle.age_calls.specs.{FileCall, after_calls, OutFile, AllOn}
 use Rattle.age_machine.specs.{number_of}
 use Rattle.age_machine.specs.declared.node.Node.{Node}
@@ -16,3 +16,10 @@ NoInputIsChanged = (opened : List FileId) (out : OutputView) (file : OutFile) (c
     → IsApart opened out → out.file ≡ Some file → AllOn file.path file.number calls
     → (input : Node) → input.inode < 2 ^ 64 → Contains opened (File input) → (disk : Disk)
     → (after_calls calls disk).bytes (number_of input) ≡ disk.bytes (number_of input)
+
+-- Those of one that is new leave what every file holds to which a path led before.
+abbrev pub NoOtherIsChanged : Type 0
+NoOtherIsChanged = (file : OutFile) (calls : List FileCall) → AllOn file.path file.number calls
+    → (disk : Disk) → ((path : List ℕ) → disk.file path ≡ Some file.number → ⊥)
+    → (path : List ℕ) (other : ℕ) → disk.file path ≡ Some other
+    → (after_calls calls disk).bytes other ≡ disk.bytes other

@@ -1,6 +1,6 @@
 -- What contracts see of a file of the machine that is written.
 use Rattle.std.specs.Prelude.{◌≡◌, ◌≢◌, ◌<◌, ◌^◌, ℕ, List, [], Bool, true, false, Option, None, Some, IfSome}
-use Rattle.std.specs.Prelude.{Contains}
+use Rattle.std.specs.Prelude.{◌⊎◌, is_none, Contains}
 use Rattle.age_io.specs.{SinkView}
 use Rattle.age_calls.specs.{EndedFile, IsThere, OutFile}
 use Rattle.age_machine.specs.{number_of}
@@ -19,6 +19,8 @@ pub record OutputView : Type 0 where
   pub settled : ℕ
   -- which regular file it is, if it is one
   pub file : Option OutFile
+  -- the path at which it is to be made, if it isn't there yet
+  pub unmade : Option (List ℕ)
   -- what tells it from other files, if that is known
   pub id : Option FileId
 
@@ -49,10 +51,11 @@ sink_of failed failing took = record {
   flushed = true;
 }
 
--- the file as a sink
+-- the file as a sink, which has sent nothing on before it was made
 abbrev pub as_sink : OutputView → SinkView
 as_sink out = record (sink_of out.failed out.failing out.took) {
   taken = record { bytes = out.took; contents = None; label = out.name };
+  flushed = is_none out.unmade;
 }
 
 -- nothing was put into it yet
@@ -61,12 +64,22 @@ pub record IsNew (out : OutputView) : Type 0 where
   pub failing : out.failing ≡ false
   pub took : out.took ≡ []
 
--- a regular file that opening made at a path
-pub record IsMadeAt (path : List ℕ) (out : OutputView) : Type 0 where
+-- a regular file that was made at a path
+pub record IsMadeAt (path : List ℕ) (now : Option OutFile) : Type 0 where
   pub file : OutFile
-  pub is : out.file ≡ Some file
+  pub is : now ≡ Some file
   pub at : file.path ≡ path
   pub made : file.is_made ≡ true
+
+-- It is the same file as before. One that wasn't there yet still isn't, or was made at its path.
+abbrev pub Stays : (unmade later : Option (List ℕ)) (file now : Option OutFile) (id known : Option FileId)
+    → Type 0
+Stays None later file now id known = (later ≡ None) × (now ≡ file) × (known ≡ id)
+Stays (Some path) later file now id known = ((later ≡ Some path) × (now ≡ file) × (known ≡ id))
+    ⊎ ((later ≡ None) × IsMadeAt path now)
+
+abbrev pub KeepsFile : (old new : OutputView) → Type 0
+KeepsFile old new = Stays old.unmade new.unmade old.file new.file old.id new.id
 
 -- an output was closed that had taken just these bytes; it is there
 abbrev pub WritesDirectly : List ℕ → EndedFile → Type 0

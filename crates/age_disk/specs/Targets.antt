@@ -1,6 +1,7 @@
 -- What is known of a file while it is written.
-use Rattle.std.specs.Prelude.{◌≡◌, ◌≤◌, ℕ, List, [], length, Option, Some, None, false}
-use Rattle.age_calls.specs.{OutView, text_of}
+use Rattle.std.specs.Prelude.{◌≡◌, ◌≤◌, ℕ, List, [], length, Option, Some, None, false, option_map}
+use Rattle.std.specs.Prelude.{string_bytes}
+use Rattle.age_calls.specs.{OutFile, OutView, text_of}
 use Rattle.age_disk.specs.declared.output.Pace.{Pace}
 use Rattle.age_disk.specs.declared.target.Target.{Target}
 use Rattle.age_disk.specs.declared.target.Target.TheVariants as target
@@ -8,9 +9,16 @@ use Rattle.age_disk.specs.declared.target.Target.TheVariants as target
 -- the regular file among targets
 abbrev pub regular_of : Target → Option OutView
 regular_of (target.File out) = Some out
-regular_of (target.Device device) = None
-regular_of (target.Output output witness) = None
-regular_of (target.Faults faults witness) = None
+regular_of other = None
+
+-- which one it is
+abbrev pub file_of : Target → Option OutFile
+file_of it = option_map (λ (o : OutView). o.file) (regular_of it)
+
+-- the path at which a file is to be made that isn't there yet
+abbrev pub unmade_of : Target → Option (List ℕ)
+unmade_of (target.Unmade path) = Some (string_bytes path)
+unmade_of other = None
 
 -- What its sink took was written to a regular file. While no put has failed, no call has, unless the
 -- file is one that can't be relied on; nor has one while nothing was taken either.

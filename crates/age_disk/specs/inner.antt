@@ -5,6 +5,7 @@ use Rattle.std.specs.Prelude.{◌≡◌, ℕ, List, [], ◌++◌, take, Bool, tr
 use Rattle.std.specs.Prelude.{Err}
 use Rattle.age_io.specs.Supply.{Supply}
 use Rattle.age_calls.specs.{FileCall, OutView, text_of}
+use Rattle.age_disk.specs.Targets.{regular_of, unmade_of}
 use Rattle.age_disk.specs.declared.target.Target.{Target}
 use Rattle.age_disk.specs.declared.target.Target.TheVariants as target
 
@@ -36,6 +37,11 @@ TargetPuts None None is_ok part = Unit {0}
 TargetPuts None (Some new) is_ok part = ⊥
 TargetPuts (Some old) None is_ok part = ⊥
 TargetPuts (Some old) (Some new) is_ok part = PutsPart old new is_ok part
+
+-- the same of what a target is, which makes no file
+abbrev pub TargetGoes : Target → Target → Bool → List ℕ → Type 0
+TargetGoes old new is_ok part =
+    TargetPuts (regular_of old) (regular_of new) is_ok part × (unmade_of new ≡ unmade_of old)
 
 -- ---- A file that was made beside a path, to be put there later.
 

@@ -6,7 +6,7 @@ ghost use Rattle.age_fault.specs.declared.fault.FileFault.TheVariants.{Read, Wri
 ghost use Rattle.age_fileset.specs.{IsMemoryOr, OpenFails, Open, Create, Make, Found, FoundOrEmpty};
 ghost use Rattle.age_fileset.specs.{Absent, Settled, Replace, opened_as, made_as, written_as};
 ghost use Rattle.age_fileset.specs.declared.files.OpenFault.TheVariants.{SameFile};
-ghost use Rattle.age_disk.specs.{IsFresh, as_source, as_sink, IsApart, IsMadeAt, HasAll};
+ghost use Rattle.age_disk.specs.{IsFresh, as_source, as_sink, IsApart, HasAll};
 ghost use Rattle.age_disk.specs.declared.names.FileId.{FileId};
 ghost use Rattle.age_io.specs.{IsNamed, Named};
 ghost use Rattle.age_io.specs.declared.durability.Durability.TheVariants as wait;
@@ -121,7 +121,7 @@ impl<'r, 'w> HostFiles<'r, 'w> {
         }
     }
 
-    /// Keeps a file that was opened to be written, and takes it for this run alone.
+    /// Keeps a file that is to be written, and takes it for this run alone if it was opened.
     fn admit_created(
         &mut self,
         name: &'w str,
@@ -149,11 +149,16 @@ impl<'r, 'w> HostFiles<'r, 'w> {
         }
     }
 
-    /// Keeps why a put has failed, if one did.
+    /// Keeps why a put or a flush has failed, if one did.
     fn note_written(&self, out: &HostOut) {
-        if out.failures() > 0 {
-            self.failures
-                .note(Action::Write, self.failures.output.get(), out.error());
+        let name = self.failures.output.get();
+        if out.failures() == 0 {
+            return;
+        }
+        if out.unmade().is_some() {
+            self.note_refused(name, out.error());
+        } else {
+            self.failures.note(Action::Write, name, out.error());
         }
     }
 
@@ -162,6 +167,12 @@ impl<'r, 'w> HostFiles<'r, 'w> {
         ensures faults { OpenFails Write result }
         ensures other { result ≢ SameFile }
     {
+        self.note_refused(name, error);
+        OpenFault::Fault(fault_of(error, FileFault::Write))
+    }
+
+    /// Keeps why a file can't be opened or made.
+    fn note_refused(&self, name: &'w str, error: io::Error) {
         let is_there = error.kind() == io::ErrorKind::AlreadyExists;
         if is_there && is_empty_at(self.rt, name) {
             self.failures.is_left_empty.set(true);
@@ -172,7 +183,6 @@ impl<'r, 'w> HostFiles<'r, 'w> {
             opening(self.rt, name)
         };
         self.failures.note(action, name, error);
-        OpenFault::Fault(fault_of(error, FileFault::Write))
     }
 
     /// Refuses a name that leads to the same stream as one of the others, and keeps both.
@@ -232,10 +242,19 @@ impl<'r, 'w> HostFiles<'r, 'w> {
         }
     }
 
-    /// Fails if a file that was prepared is open now, or standard error, or in another folder.
+    /// Fails if a file that was prepared is open now, or was written, or is standard error, or in
+    /// another folder.
     fn check_apart(&self, prepared: &Prepared<'_>) -> io::Result<()> {
         prepared.check_folder(self.rt)?;
-        check_unused(self.rt, self.open.as_slice(), prepared.id(self.rt)?)
+        let id = prepared.id(self.rt)?;
+        // (an output that was made later isn't among those that were open)
+        if let Some(ended) = &self.ended
+            && id.is_some()
+            && ended.id() == id
+        {
+            return Err(io::Error::from(io::ErrorKind::AlreadyExists));
+        }
+        check_unused(self.rt, self.open.as_slice(), id)
     }
 
     /// Prepares a file to be replaced, which may be open if it is that of `spared`.
@@ -282,7 +301,7 @@ impl<'r, 'w> HostFiles<'r, 'w> {
     }
 }
 
-/// What is done to open an output: one is made if there is none.
+/// What is done to open an output: one is to be made if there is none.
 fn opening(rt: &HostRuntime, name: &str) -> Action {
     match found_at(rt, name) {
         Ok(None) => Action::Create,
@@ -474,11 +493,11 @@ impl<'r, 'w> FileSet<'w> for HostFiles<'r, 'w> {
         ensures begun { IfOk result (λ o. (o.took ≡ []) × (o.failed ≡ 0)) }
         ensures named { IfOk result (λ o. o.name ≡ name.now) }
         ensures apart { IfOk result (IsApart self.old.open.items) }
-        ensures regular { IfOk result (IsMadeAt name.now) }
+        ensures unmade { IfOk result (λ o. o.unmade ≡ Some name.now) }
         ensures faults { IfErr result (OpenFails Write) }
     {
         self.log.note(Doing::Make(name));
-        let opened = HostOut::make(alloc, self.rt, name, durability);
+        let opened = HostOut::to_make(alloc, self.rt, name, durability);
         let out = self.admit_created(name, opened);
         match out {
             Ok(_) => self.log.note(Doing::Absent(name)),

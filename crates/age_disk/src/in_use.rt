@@ -13,7 +13,6 @@ use crate::output::HostOut;
 use crate::prepare::Prepared;
 use age_fault::FileFault;
 use age_fileset::OpenFault;
-use age_io::Durability;
 use age_messages::{Action, RunFailures};
 use std::alloc::Global;
 use std::io;
@@ -109,15 +108,19 @@ fn admit(opened: &mut Vec<FileId>, id: Option<FileId>) -> Result<(), OpenFault>
     Ok(keep(opened, id)?)
 }
 
-/// The name of the file that is this one among those that were prepared. Fails if the system can't
-/// look at one of them.
+/// The name of the file that is this one among those that were prepared, or would be once it is made.
+/// Fails if the system can't look at one of them.
 fn find_prepared<'w>(
     rt: &HostRuntime,
     prepared: &[Prepared<'w>],
-    id: Option<FileId>,
+    out: &HostOut,
 ) -> io::Result<Option<&'w str>> {
     for one in prepared.iter() {
-        if one.is_of(rt, id)? {
+        let is_same = match out.unmade() {
+            Some(path) => one.is_at(rt, path)?,
+            None => one.is_of(rt, out.id())?,
+        };
+        if is_same {
             return Ok(Some(one.name()));
         }
     }
@@ -135,8 +138,8 @@ pub(crate) fn fault_of(error: io::Error, other: FileFault) -> FileFault
     }
 }
 
-/// Keeps a file that was opened to be written, if it is none of those that were opened or prepared
-/// before; otherwise it is as it was before, and its name is kept, with the other one if that is known.
+/// Keeps a file that is to be written, if it is none of those that were opened or prepared before;
+/// otherwise its name is kept, with the other one if that is known.
 pub(crate) fn admit_out<'w>(
     rt: &HostRuntime,
     opened: &mut Vec<FileId>,
@@ -149,10 +152,9 @@ pub(crate) fn admit_out<'w>(
     ensures apart { IfOk result (IsApart opened.old.items) }
     ensures faults { IfErr result (OpenFails Write) }
 {
-    let id = out.id();
-    let other = find_prepared(rt, prepared, id);
+    let other = find_prepared(rt, prepared, &out);
     let admitted = match other {
-        Ok(None) => admit(opened, id),
+        Ok(None) => admit(opened, out.id()),
         Ok(Some(_)) => Err(OpenFault::SameFile),
         Err(error) => Err(OpenFault::Fault(fault_of(error, FileFault::Write))),
     };
@@ -164,7 +166,6 @@ pub(crate) fn admit_out<'w>(
                 Ok(None) => failures.note_twice(name, None),
                 Err(error) => failures.note(Action::Write, name, error),
             }
-            out.discard(rt, Durability::Buffered);
             Err(fault)
         }
     }

@@ -1,13 +1,14 @@
 //! What follows for the files that are read.
 
-ghost use Rattle.age_disk.specs.{NoInputIsChanged};
+ghost use Rattle.age_disk.specs.{NoInputIsChanged, NoOtherIsChanged};
 
 use age_calls::others_are_kept;
 use age_machine::numbers_are_apart;
 
-/// An output that is none of the files that were opened changes none of them.
+/// An output that is none of the files that were opened changes none of them, nor does one that is new.
 pub fn no_input_is_changed()
-    ensures { NoInputIsChanged }
+    ensures opened { NoInputIsChanged }
+    ensures made { NoOtherIsChanged }
 {
     numbers_are_apart();
     others_are_kept();

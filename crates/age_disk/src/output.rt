@@ -7,25 +7,27 @@ ghost use Rattle.std.specs.Io.{WritesAtMost};
 ghost use Rattle.age_io.specs.{one_more};
 ghost use Rattle.age_io.specs.declared.durability.Durability.TheVariants as wait;
 ghost use Rattle.age_io.specs.Taken.{WriteAppends, Keeps};
-ghost use Rattle.age_calls.specs.{Opened, Closes, Discards, TouchesItself, OutView};
+ghost use Rattle.age_calls.specs.{Opened, Closes, Discards, TouchesItself, text_of};
 ghost use Rattle.age_machine.specs.{number_of};
-ghost use Rattle.age_disk.specs.Outputs.{IsNew, IsMadeAt, HasNode, sink_of, as_sink};
-ghost use Rattle.age_disk.specs.Targets.{regular_of, IsTaking, IsPaced};
-ghost use Rattle.age_disk.specs.inner.{opening_calls, part_of, TargetPuts};
+ghost use Rattle.age_disk.specs.Outputs.{IsNew, KeepsFile, Stays, HasNode, sink_of, as_sink};
+ghost use Rattle.age_disk.specs.Targets.{regular_of, file_of, unmade_of, IsTaking, IsPaced};
+ghost use Rattle.age_disk.specs.inner.{opening_calls, part_of, TargetGoes};
 
 use crate::device::Device;
 use crate::in_use::is_for_faults;
 use crate::names::{FileId, Led, Resolved, StandardStream, tape_of};
+use crate::paths::check_place;
 use crate::sync::{Witness, close_stream};
 use crate::target::Target;
 use age_calls::{Kind, Opening};
 use age_io::{Durability, Failed, Failures, Sink, Tape};
 use age_machine::calls::close;
-use age_machine::{HostFile, HostMachine, Machine, Node, Out};
+use age_machine::{HostFile, HostMachine, Machine, Node, Out, found_at};
 use std::alloc::Global;
 use std::fs::File;
 use std::io::{self, IsTerminal};
 use std::marker::Model;
+use std::mem;
 use std::rt::HostRuntime;
 
 /// How much a file took, and when the disk is waited for.
@@ -57,7 +59,7 @@ impl Pace {
     fn reach_disk(&mut self, target: &mut Target) -> io::Result<()>
         ensures settled { OnOk result (self.new.settled ≡ self.new.taken) }
         ensures more { (took : List ℕ) → IsPaced self.old took → self.old.settled ≤ self.new.settled }
-        ensures goes { TargetPuts (regular_of target.old) (regular_of target.new) true [] }
+        ensures goes { TargetGoes target.old target.new true [] }
         ensures paced { (took : List ℕ) → IsPaced self.old took → IsPaced self.new took }
     {
         if let Some(error) = self.lost {
@@ -76,7 +78,7 @@ impl Pace {
     fn is_stored(&mut self, rt: &HostRuntime, target: &mut Target) -> bool
         ensures stored { result ≡ true → self.new.taken ≤ self.new.settled }
         ensures more { (took : List ℕ) → IsPaced self.old took → self.old.settled ≤ self.new.settled }
-        ensures goes { TargetPuts (regular_of target.old) (regular_of target.new) true [] }
+        ensures goes { TargetGoes target.old target.new true [] }
         ensures paced { (took : List ℕ) → IsPaced self.old took → IsPaced self.new took }
     {
         if self.taken > self.settled && self.reach_disk(target).is_err() {
@@ -87,7 +89,7 @@ impl Pace {
 
     /// Waits for the disk before more is written, if it is time to.
     fn wait(&mut self, target: &mut Target) -> io::Result<()>
-        ensures goes { TargetPuts (regular_of target.old) (regular_of target.new) true [] }
+        ensures goes { TargetGoes target.old target.new true [] }
         ensures paced { (took : List ℕ) → IsPaced self.old took → IsPaced self.new took }
     {
         if self.durability == Durability::Buffered || !is_wait_due(self.taken, self.settled) {
@@ -108,8 +110,7 @@ fn write_paced(
     ensures bound { WritesAtMost result from.now }
     ensures handed { regular_of target.old ≡ None
         → handed.new ≡ handed.old ++ part_of result from.now }
-    ensures goes { TargetPuts (regular_of target.old) (regular_of target.new) (is_ok result)
-        (part_of result from.now) }
+    ensures goes { TargetGoes target.old target.new (is_ok result) (part_of result from.now) }
     ensures paced { (took : List ℕ) → IsPaced pace.old took
         → IsPaced pace.new (took ++ part_of result from.now) }
 {
@@ -144,27 +145,104 @@ fn note_put(
     }
 }
 
+/// Takes a regular file for this run alone, if its name leads to it.
+fn take_alone(
+    rt: &HostRuntime,
+    out: &mut Out<HostMachine>,
+    id: Option<FileId>,
+    name: &str,
+) -> io::Result<()>
+    ensures same { (out.new.file ≡ out.old.file) × (out.new.is_lost ≡ out.old.is_lost) }
+    ensures text { text_of out.new.calls ≡ text_of out.old.calls }
+    ensures sound { OnOk result (out.new.failed ≡ out.old.failed) }
+{
+    out.claim()?;
+    match FileId::seen_at(rt, name) {
+        Ok(seen) if seen == id => Ok(()),
+        Ok(_) => Err(io::Error::from(io::ErrorKind::NotFound)),
+        Err(error) => Err(error),
+    }
+}
+
 /// A target of which a regular file is taken for this run alone, if its name still leads to it.
 fn claimed(rt: &HostRuntime, target: Target, id: Option<FileId>, name: &str) -> io::Result<Target>
-    ensures file { IfOk result (λ t. option_map (λ (o : OutView). o.file) (regular_of t)
-        ≡ option_map (λ (o : OutView). o.file) (regular_of target)) }
+    ensures file { IfOk result (λ t. file_of t ≡ file_of target) }
+    ensures unmade { IfOk result (λ t. unmade_of t ≡ unmade_of target) }
     ensures taking { IfOk result (λ t. (failed : ℕ) (took : List ℕ)
         → IsTaking (regular_of target) failed took → IsTaking (regular_of t) failed took) }
 {
     match target {
         Target::File(mut out) => {
-            out.claim()?;
-            match FileId::seen_at(rt, name) {
-                Ok(seen) if seen == id => Ok(Target::File(out)),
-                Ok(_) => Err(io::Error::from(io::ErrorKind::NotFound)),
-                Err(error) => {
-                    let _ = out.discard(Durability::Buffered);
-                    Err(error)
-                }
-            }
+            take_alone(rt, &mut out, id, name)?;
+            Ok(Target::File(out))
         }
         other => Ok(other),
     }
+}
+
+/// Makes the file of a target that isn't there yet, and takes it for this run alone. Fails if
+/// something has come to its path, or if its name doesn't lead to it. What was made stays the target.
+fn make_first(
+    rt: &HostRuntime,
+    name: &str,
+    target: &mut Target,
+    id: &mut Option<FileId>,
+) -> io::Result<()>
+    ensures keeps { Stays (unmade_of target.old) (unmade_of target.new) (file_of target.old)
+        (file_of target.new) id.old id.new }
+    ensures made { OnOk result (unmade_of target.new ≡ None) }
+    ensures node { IfSome (regular_of target.old) (λ o. HasNode id.old o.file)
+        → IfSome (regular_of target.new) (λ o. HasNode id.new o.file) }
+    ensures none { regular_of target.new ≡ None → regular_of target.old ≡ None }
+    ensures taking { OnOk result ((failed : ℕ) (took : List ℕ)
+        → IsTaking (regular_of target.old) failed took
+        → IfSome (unmade_of target.old) (λ _. took ≡ []) → IsTaking (regular_of target.new) failed took) }
+    ensures failing { OnErr result ((failed : ℕ) (took : List ℕ) → 0 < failed
+        → IfSome (unmade_of target.old) (λ _. took ≡ []) → IsTaking (regular_of target.new) failed took) }
+{
+    let Target::Unmade(path) = target else {
+        return Ok(());
+    };
+    let mut machine = HostMachine::new(rt);
+    let file = machine.make_output(path.as_str())?;
+    let own = mem::replace(path, String::new(rt.alloc()));
+    *id = Some(FileId::of_node(file.node()));
+    let mut out = Out::new(machine, file, own, Opening::New);
+    let taken = take_alone(rt, &mut out, *id, name);
+    *target = Target::File(out);
+    taken
+}
+
+/// Writes to a target, which is made before the first byte.
+fn write_made(
+    rt: &HostRuntime,
+    name: &str,
+    target: &mut Target,
+    id: &mut Option<FileId>,
+    pace: &mut Pace,
+    from: &[u8],
+    handed: &mut Tape,
+) -> io::Result<usize>
+    ensures bound { WritesAtMost result from.now }
+    ensures keeps { Stays (unmade_of target.old) (unmade_of target.new) (file_of target.old)
+        (file_of target.new) id.old id.new }
+    ensures made { IfOk result (λ n. 0 < n → unmade_of target.new ≡ None) }
+    ensures node { IfSome (regular_of target.old) (λ o. HasNode id.old o.file)
+        → IfSome (regular_of target.new) (λ o. HasNode id.new o.file) }
+    ensures taking { (before after : ℕ) (took : List ℕ) → IsTaking (regular_of target.old) before took
+        → IfSome (unmade_of target.old) (λ _. took ≡ [])
+        → (after ≡ 0 → (before ≡ 0) × (is_ok result ≡ true))
+        → IsTaking (regular_of target.new) after (took ++ part_of result from.now) }
+    ensures handed { (took : List ℕ) → (regular_of target.old ≡ None → handed.old ≡ took)
+        → regular_of target.new ≡ None → handed.new ≡ took ++ part_of result from.now }
+    ensures paced { (took : List ℕ) → IsPaced pace.old took
+        → IsPaced pace.new (took ++ part_of result from.now) }
+{
+    if from.is_empty() {
+        return Ok(0);
+    }
+    make_first(rt, name, target, id)?;
+    write_paced(rt, target, pace, from, handed)
 }
 
 /// Which regular file was ended, for contracts alone.
@@ -233,6 +311,14 @@ impl HostEnded {
         &self.took
     }
 
+    /// Which regular file it is, if it is one.
+    pub(crate) fn id(&self) -> Option<FileId> {
+        match &self.which {
+            Some(which) => Some(FileId::of_node(which.node)),
+            None => None,
+        }
+    }
+
     /// Whether its file system has no way to wait until it has reached the disk.
     pub fn is_unwaited(&self) -> bool {
         self.machine.is_unwaited()
@@ -240,8 +326,9 @@ impl HostEnded {
 }
 
 /// A file of the machine that is written, or standard output or error. A regular file keeps its
-/// bytes until a put takes some. A contract sees the bytes that it took, none that it holds, how many
-/// puts have failed, and whether the last call did.
+/// bytes until a put takes some. One that isn't there yet is made by then, or by the flush: so a run
+/// that stops before leaves nothing. A contract sees the bytes that it took, none that it holds, how
+/// many puts have failed, and whether the last call did.
 #[derive(Drop)]
 pub struct HostOut {
     rt: HostRuntime,
@@ -260,9 +347,8 @@ pub struct HostOut {
 
 impl Model for HostOut {
     ghost use Rattle.age_disk.specs.Outputs.{OutputView, HasNode};
-    ghost use Rattle.std.specs.Prelude.{◌≡◌, None, option_map, IfSome, string_bytes};
-    ghost use Rattle.age_calls.specs.{OutView};
-    ghost use Rattle.age_disk.specs.Targets.{regular_of, IsTaking, IsPaced};
+    ghost use Rattle.std.specs.Prelude.{◌≡◌, [], None, IfSome, string_bytes};
+    ghost use Rattle.age_disk.specs.Targets.{regular_of, file_of, unmade_of, IsTaking, IsPaced};
 
     ghost Value = { OutputView };
 
@@ -272,13 +358,15 @@ impl Model for HostOut {
       failing = s.failures.last;
       took = s.took;
       settled = s.pace.settled;
-      file = option_map (λ (o : OutView). o.file) (regular_of s.target);
+      file = file_of s.target;
+      unmade = unmade_of s.target;
       id = s.id;
     } };
 
     ghost invariant = { λ s. IsTaking (regular_of s.target) s.failures.count s.took
         × (IfSome (regular_of s.target) (λ o. HasNode s.id o.file) × (IsPaced s.pace s.took
-        × (regular_of s.target ≡ None → s.handed ≡ s.took))) };
+        × ((regular_of s.target ≡ None → s.handed ≡ s.took)
+        × IfSome (unmade_of s.target) (λ _. s.took ≡ [])))) };
 }
 
 /// How many bytes are written at least, and at most, between two waits for the disk. In between,
@@ -381,13 +469,16 @@ fn end_stream(
     mut target: Target,
     mut pace: Pace,
     durability: Durability,
-) -> io::Result<()> {
+) -> io::Result<()>
+    ensures made { OnOk result (unmade_of target ≡ None) }
+{
     let reached = match durability {
         Durability::Synced => pace.reach_disk(&mut target),
         Durability::Buffered => Ok(()),
     };
     let closed = match target {
         Target::File(_) => Ok(()),
+        Target::Unmade(_) => Err(io::Error::from(io::ErrorKind::NotFound)),
         Target::Device(Device { file, .. }) => close(rt, file.into_file()),
         Target::Output(..) => close_stream(rt, StandardStream::Output),
         Target::Faults(..) => close_stream(rt, StandardStream::Faults),
@@ -402,7 +493,7 @@ impl HostOut {
         requires node { IfSome (regular_of target) (λ o. HasNode id o.file) }
         ensures fresh { IsNew result }
         ensures named { result.name ≡ string_bytes name }
-        ensures file { result.file ≡ option_map (λ (o : OutView). o.file) (regular_of target) }
+        ensures file { (result.file ≡ file_of target) × (result.unmade ≡ unmade_of target) }
     {
         HostOut {
             rt: *rt,
@@ -430,7 +521,7 @@ impl HostOut {
         HostOut::new(rt, String::new(rt.alloc()), target, None)
     }
 
-    /// Opens what a name stands for without emptying it, or makes a file if there is none. Nothing
+    /// Opens what a name stands for without emptying it; if there is none, a file is to be made. Nothing
     /// can be written to standard input. If it is to be on the disk at the end, the disk is waited
     /// for each 16 MiB to 1 GiB: so a failure is seen early, and `settle` can tell what is there.
     pub fn open(
@@ -454,8 +545,9 @@ impl HostOut {
         Ok(out)
     }
 
-    /// Makes a file, if nothing has the name, not even a link. The disk is waited for as by `open`.
-    pub fn make(
+    /// A file that is to be made, if nothing has the name, not even a link. The disk is waited for as
+    /// by `open`.
+    pub fn to_make(
         alloc: Global,
         rt: &HostRuntime,
         name: &str,
@@ -463,15 +555,18 @@ impl HostOut {
     ) -> io::Result<HostOut>
         ensures fresh { IfOk result IsNew }
         ensures named { IfOk result (λ o. o.name ≡ name.now) }
-        ensures made { IfOk result (IsMadeAt name.now) }
+        ensures unmade { IfOk result (λ o. o.unmade ≡ Some name.now) }
     {
+        if found_at(rt, name)?.is_some() {
+            return Err(io::Error::from(io::ErrorKind::AlreadyExists));
+        }
         let own = String::from_str(alloc, name)?;
-        let mut out = HostOut::make_by(alloc, HostMachine::new(rt), rt, own, name)?;
+        let mut out = HostOut::unmade_at(rt, own, String::from_str(alloc, name)?)?;
         out.pace.durability = durability;
         Ok(out)
     }
 
-    /// Opens the file at the end of a name's links, or makes it if there is none.
+    /// Opens the file at the end of a name's links, which is to be made if there is none.
     fn open_at(alloc: Global, rt: &HostRuntime, name: String, path: &str) -> io::Result<HostOut>
         ensures fresh { IfOk result IsNew }
         ensures named { IfOk result (λ o. o.name ≡ string_bytes name) }
@@ -480,28 +575,18 @@ impl HostOut {
         let mut machine = HostMachine::new(rt);
         match machine.open(name.as_str(), own.as_str())? {
             Some(opened) => HostOut::of_opened(rt, machine, opened, name, own),
-            None => HostOut::make_by(alloc, machine, rt, name, path),
+            None => HostOut::unmade_at(rt, name, own),
         }
     }
 
-    /// Makes a file at a path that holds neither a file nor a link.
-    fn make_by(
-        alloc: Global,
-        mut machine: HostMachine,
-        rt: &HostRuntime,
-        name: String,
-        path: &str,
-    ) -> io::Result<HostOut>
-        requires { (machine.calls ≡ []) × (machine.failed ≡ 0) }
+    /// A file that is to be made at a path that holds neither a file nor a link.
+    fn unmade_at(rt: &HostRuntime, name: String, path: String) -> io::Result<HostOut>
         ensures fresh { IfOk result IsNew }
         ensures named { IfOk result (λ o. o.name ≡ string_bytes name) }
-        ensures made { IfOk result (IsMadeAt path.now) }
+        ensures unmade { IfOk result (λ o. o.unmade ≡ Some (string_bytes path)) }
     {
-        let own = String::from_str(alloc, path)?;
-        let file = machine.make_output(own.as_str())?;
-        let id = Some(FileId::of_node(file.node()));
-        let out = Out::new(machine, file, own, Opening::New);
-        Ok(HostOut::new(rt, name, Target::File(out), id))
+        check_place(rt, path.as_str())?;
+        Ok(HostOut::new(rt, name, Target::Unmade(path), None))
     }
 
     /// What was opened to be written; what is written to a regular file replaces what it holds.
@@ -594,6 +679,16 @@ impl HostOut {
         self.id
     }
 
+    /// The path at which it is to be made, if it isn't there yet.
+    pub fn unmade(&self) -> Option<&str>
+        ensures { option_map (λ s. s.now) result ≡ self.now.unmade }
+    {
+        match &self.target {
+            Target::Unmade(path) => Some(path.as_str()),
+            _ => None,
+        }
+    }
+
     /// Whether it is standard error, or the file to which that leads.
     pub fn is_for_faults(&self, rt: &HostRuntime) -> bool {
         match &self.target {
@@ -607,7 +702,7 @@ impl HostOut {
         ensures { result ≡ true → self.now.file ≡ None }
     {
         match &self.target {
-            Target::File(_) => false,
+            Target::File(_) | Target::Unmade(_) => false,
             Target::Device(device) => device.file.file().is_terminal(),
             Target::Output(output, _) => output.is_terminal(),
             Target::Faults(faults, _) => faults.is_terminal(),
@@ -657,7 +752,8 @@ impl HostOut {
 
     /// Whether puts were tried, and none took a byte.
     fn has_only_failed(&self) -> bool
-        ensures { result ≡ true → (0 < self.now.failed) × (self.now.took ≡ []) }
+        ensures { result ≡ true
+            → (0 < self.now.failed) × ((self.now.took ≡ []) × (self.now.unmade ≡ None)) }
     {
         if self.failures.count == 0 || !self.is_empty() {
             return false;
@@ -670,9 +766,10 @@ impl HostOut {
     }
 
     /// Ends it with what was written, and closes it, in either case. If each put failed, it is as
-    /// it was before it was opened.
+    /// it was before it was opened. Fails if it wasn't made.
     pub fn close(self, rt: &HostRuntime, durability: Durability) -> (HostEnded, io::Result<()>)
         ensures closes { Closes durability self.file (as_sink self) result.1 result.0 }
+        ensures made { OnOk result.1 (self.unmade ≡ None) }
     {
         let has_only_failed = self.has_only_failed();
         let HostOut {
@@ -733,11 +830,14 @@ impl Sink for HostOut {
         ensures counted { MatchResult result (λ _. self.new.failed ≡ self.old.failed)
             (λ _. self.new.failed ≡ one_more self.old.failed) }
         ensures last { self.new.failing ≡ is_err result }
-        ensures same { (self.new.file ≡ self.old.file) × (self.new.id ≡ self.old.id) }
+        ensures same { KeepsFile self.old self.new }
+        ensures made { IfOk result (λ n. 0 < n → self.new.unmade ≡ None) }
     {
-        let put = write_paced(
+        let put = write_made(
             &self.rt,
+            self.name.as_str(),
             &mut self.target,
+            &mut self.id,
             &mut self.pace,
             from,
             &mut self.handed,
@@ -746,15 +846,25 @@ impl Sink for HostOut {
         self.failures.note(taken)
     }
 
-    /// The machine's files have no buffer of the program's.
+    /// The machine's files have no buffer of the program's: it makes a file that isn't there yet.
     fn flush(&mut self) -> Result<(), Failed>
+        ensures flushed { OnOk result ((as_sink self.new).flushed ≡ true) }
         ensures bytes { Keeps (as_sink self.old).taken (as_sink self.new).taken }
         ensures counted { MatchResult result (λ _. self.new.failed ≡ self.old.failed)
             (λ _. self.new.failed ≡ one_more self.old.failed) }
         ensures last { self.new.failing ≡ is_err result }
-        ensures same { (self.new.file ≡ self.old.file) × (self.new.id ≡ self.old.id) }
+        ensures same { KeepsFile self.old self.new }
     {
-        self.failures.note(Ok(()))
+        let made = make_first(
+            &self.rt,
+            self.name.as_str(),
+            &mut self.target,
+            &mut self.id,
+        );
+        if let Err(error) = made {
+            self.error = error;
+        }
+        self.failures.note(made.map_err(|_| Failed))
     }
 
     fn failures(&self) -> u64 {

@@ -2,7 +2,7 @@
 
 use crate::names::is_on_disk;
 use age_machine::{
-    Node, POSITION_MODE, above_streams, calls, found_at, is_at, kept_above, open_to_write,
+    Node, POSITION_MODE, above_streams, calls, folder_of, found_at, is_at, kept_above, open_to_write,
 };
 use std::fs::{self, File};
 use std::io;
@@ -35,6 +35,18 @@ pub(crate) fn make_file(rt: &HostRuntime, path: &str) -> io::Result<File> {
 pub(crate) fn remove_own(rt: &HostRuntime, file: &File, path: &str) {
     if matches!(file.try_lock(), Ok(())) && is_at(rt, file, path) {
         let _ = calls::remove(rt, path);
+    }
+}
+
+/// Fails if no file can be made at a path, since it has no name or its folder isn't there.
+pub(crate) fn check_place(rt: &HostRuntime, path: &str) -> io::Result<()> {
+    if path.is_empty() || path.ends_with('/') {
+        return Err(io::Error::from(io::ErrorKind::IsADirectory));
+    }
+    if fs::metadata(rt, folder_of(path))?.is_dir() {
+        Ok(())
+    } else {
+        Err(io::Error::from(io::ErrorKind::NotADirectory))
     }
 }
 

@@ -2,15 +2,15 @@
 
 use crate::beside::Kept;
 use crate::names::{FileId, Resolved, StandardStream, is_on_disk, resolve};
-use crate::paths::{check_makes, open_at_once, open_pipe};
+use crate::paths::{check_makes, check_place, open_at_once, open_pipe};
 use age_io::Durability;
-use age_machine::{Folder, Node, above_streams, check_same, folder_of, found_at, lock};
+use age_machine::{Folder, Node, above_streams, check_same, found_at, lock};
 use age_messages::RunFailures;
 use std::alloc::Global;
 use std::fs::{self, File, Metadata};
 use std::io;
 use std::os::unix::fs::FileTypeExt;
-use std::path::PathBuf;
+use std::path::{Path, PathBuf};
 use std::rt::HostRuntime;
 
 /// What was found where a name leads.
@@ -159,6 +159,21 @@ impl<'n> Prepared<'n> {
         let kept = self.kept.as_ref().map(Kept::id);
         Ok(id.is_some() && (kept == id || self.id(rt)? == id))
     }
+
+    /// Whether its path is this one, at which nothing is: it has the same name in the same folder.
+    pub fn is_at(&self, rt: &HostRuntime, path: &str) -> io::Result<bool> {
+        let Resolved::Path(own) = &self.resolved else {
+            return Ok(false);
+        };
+        if own.file_name() != Path::new(path).file_name() {
+            return Ok(false);
+        }
+        match check_same(self.folder(), Folder::of(rt, path).map(Some)) {
+            Ok(()) => Ok(true),
+            Err(error) if error.kind() == io::ErrorKind::OutOfMemory => Err(error),
+            Err(_) => Ok(false),
+        }
+    }
 }
 
 /// The file that is to take the place of what was found, with room for a position.
@@ -218,7 +233,7 @@ fn check_path(rt: &HostRuntime, name: &str, path: &PathBuf) -> io::Result<Found>
     match fs::metadata(rt, name) {
         Ok(found) => check_found(rt, name, path, &found),
         Err(error) if error.kind() == io::ErrorKind::NotFound => {
-            check_folder(rt, path)?;
+            check_place(rt, path.as_str())?;
             Ok(Found::Nothing)
         }
         Err(error) => Err(error),
@@ -248,18 +263,6 @@ fn check_found(
     match open_at_once(rt, name)? {
         Some(file) => Ok(Found::File(above_streams(file)?)),
         None => Ok(Found::Nothing),
-    }
-}
-
-/// Fails if no file can be made at a path, since it has no name or its folder isn't there.
-fn check_folder(rt: &HostRuntime, path: &PathBuf) -> io::Result<()> {
-    if path.as_str().is_empty() || path.as_str().ends_with('/') {
-        return Err(io::Error::from(io::ErrorKind::IsADirectory));
-    }
-    if fs::metadata(rt, folder_of(path.as_str()))?.is_dir() {
-        Ok(())
-    } else {
-        Err(io::Error::from(io::ErrorKind::NotADirectory))
     }
 }
 

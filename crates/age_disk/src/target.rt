@@ -3,7 +3,7 @@
 ghost use Rattle.std.specs.Prelude.{◌≡◌, ◌≤◌, ◌++◌, [], None, true, OnErr, is_ok};
 ghost use Rattle.std.specs.Io.{WritesAtMost};
 ghost use Rattle.age_disk.specs.Targets.{regular_of};
-ghost use Rattle.age_disk.specs.inner.{part_of, TargetPuts};
+ghost use Rattle.age_disk.specs.inner.{part_of, TargetGoes};
 
 use crate::device::Device;
 use crate::names::{StandardStream, is_handed_on};
@@ -23,8 +23,10 @@ const ON_THE_WAY: u64 = 4 << 20;
 /// Where its bytes go.
 #[derive(Drop)]
 pub(crate) enum Target {
-    /// A regular file that was opened.
+    /// A regular file that was opened or made.
     File(Out<HostMachine>),
+    /// One that is to be made at this path, once there is something to write.
+    Unmade(String),
     /// A pipe or a device that was opened.
     Device(Device),
     /// Standard output, from where it stands, and what its disk is waited for by.
@@ -71,14 +73,14 @@ impl Target {
         handed: &mut Tape,
     ) -> io::Result<usize>
         ensures bound { WritesAtMost result from.now }
-        ensures goes { TargetPuts (regular_of self.old) (regular_of self.new) (is_ok result)
-            (part_of result from.now) }
+        ensures goes { TargetGoes self.old self.new (is_ok result) (part_of result from.now) }
         ensures handed { regular_of self.old ≡ None
             → handed.new ≡ handed.old ++ part_of result from.now }
     {
         match self {
             Target::File(_) if from.is_empty() => Ok(0),
             Target::File(out) => out.put(from),
+            Target::Unmade(_) => Err(io::Error::from(io::ErrorKind::NotFound)),
             Target::Device(device) => write_to(rt, &mut device.file.file(), from, handed),
             Target::Output(output, _) => write_to(rt, output, from, handed),
             Target::Faults(faults, _) => write_to(rt, faults, from, handed),
@@ -87,10 +89,11 @@ impl Target {
 
     /// Waits until what was written has reached the disk.
     pub(crate) fn reach_disk(&mut self) -> io::Result<()>
-        ensures { TargetPuts (regular_of self.old) (regular_of self.new) true [] }
+        ensures { TargetGoes self.old self.new true [] }
     {
         match self {
             Target::File(out) => out.reach(),
+            Target::Unmade(_) => Ok(()),
             Target::Device(device) => sync_file(device.file.file()),
             Target::Output(_, witness) => witness.sync(),
             Target::Faults(_, witness) => witness.sync(),
@@ -102,7 +105,7 @@ impl Target {
     pub(crate) fn close_copy(&self, rt: &HostRuntime) -> io::Result<()> {
         let copy = match self {
             Target::File(out) => out.file().file().as_fd().try_clone_to_owned(),
-            Target::Device(_) => return Ok(()),
+            Target::Unmade(_) | Target::Device(_) => return Ok(()),
             Target::Output(..) => StandardStream::Output.copy(rt),
             Target::Faults(..) => StandardStream::Faults.copy(rt),
         };
@@ -116,6 +119,7 @@ impl Target {
     pub(crate) fn length_by_name(&self, rt: &HostRuntime) -> u64 {
         let path = match self {
             Target::File(out) => out.path(),
+            Target::Unmade(_) => return 0,
             Target::Device(_) => return u64::MAX,
             Target::Output(..) => StandardStream::Output.path(),
             Target::Faults(..) => StandardStream::Faults.path(),
@@ -133,6 +137,7 @@ impl Target {
     {
         let found = match self {
             Target::File(out) => return held.min(out.room()),
+            Target::Unmade(_) => return 0,
             Target::Device(device) => device.file.file().metadata(),
             Target::Output(..) => fs::metadata(rt, StandardStream::Output.path()),
             Target::Faults(..) => fs::metadata(rt, StandardStream::Faults.path()),
@@ -147,7 +152,7 @@ impl Target {
     /// Whether the disk can be waited for. If it can't, that is said at the end, once all is written.
     pub(crate) fn can_reach_disk(&self) -> bool {
         match self {
-            Target::File(_) | Target::Device(_) => true,
+            Target::File(_) | Target::Unmade(_) | Target::Device(_) => true,
             Target::Output(_, witness) | Target::Faults(_, witness) => !witness.is_missing(),
         }
     }

@@ -41,7 +41,8 @@ impl From<FileFault> for OpenFault {
 /// see is noted as it is done: what was to be done in order, and what came of it. An implementation
 /// has to keep more than its contracts say:
 /// - `create` doesn't change an existing file. Its bytes are replaced by the first put that takes
-///   some, or by `close`; from then on others may see them;
+///   some, or by `close`; from then on others may see them. It makes no file either: the first put
+///   of some bytes does, or the flush, and fails if that can't be done;
 /// - a sink that is dropped without `close` or `discard` may leave the file with some of the bytes
 ///   that it took, with none, or unchanged;
 /// - a stream gives each of its bytes once, so it isn't opened twice for reading, whatever its
@@ -128,11 +129,10 @@ pub trait FileSet<'w> {
             (made_as [] name.now result) (view self.old) }
         ensures faults { IfErr result (OpenFails FileFault.Write) };
 
-    /// Opens a file for writing, and creates it if it doesn't exist. Refuses with `Write` (27) if
-    /// it can't be opened, with `Memory` (28), and with [`SameFile`](OpenFault::SameFile) if it was
-    /// opened, prepared or created before; a file that the call made is then removed, if it can be.
-    /// The disk is waited for while it is written, so that the end needn't wait long, if it is to
-    /// be.
+    /// Opens a file to be written, which need not exist yet. Refuses with `Write` (27) if it can't be
+    /// opened, or if it can be seen that no file can be made there; with `Memory` (28); and with
+    /// [`SameFile`](OpenFault::SameFile) if it was opened, prepared or created before. The disk is
+    /// waited for while it is written, if it is to be, so that the end needn't wait long.
     fn create(
         &mut self,
         alloc: Global,
@@ -158,8 +158,8 @@ pub trait FileSet<'w> {
     fn is_absent(&mut self, name: &'w str) -> bool
         ensures { view self.new ≡ with_outcomes (looked_as name.now result) (view self.old) };
 
-    /// Creates a file for writing, as `create` does, but refuses an existing one with `Write` (27),
-    /// which is unchanged then. No link is followed.
+    /// The same for a new file: an existing one is refused too, with `Write` (27), as is one that
+    /// exists by the time the file is made. It is left unchanged, and no link is followed.
     fn create_new(
         &mut self,
         alloc: Global,
@@ -214,8 +214,8 @@ pub trait FileSet<'w> {
             (Closes durability (file out) (Self.Out.view out) result) }
         ensures faults { IsOkUnless result FileFault.Write };
 
-    /// Ends a file that was created and took nothing, which leaves it as it was before `create`.
-    /// One that `create` made is removed, if possible, on the disk too if that is asked for.
+    /// Ends a file that was created and into which nothing was put: it is unchanged. One that was made
+    /// by a put that failed is removed, if it can be, also on the disk if that is asked for.
     fn discard(&mut self, out: Self::Out, durability: Durability)
         ensures noted { EndsOne durability [] (view self.old) (view self.new) }
         ensures discarded { IsSomeAnd (view self.new).ended

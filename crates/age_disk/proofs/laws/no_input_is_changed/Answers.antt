@@ -1,4 +1,4 @@
-use Rattle.std.proofs.Common.{◌≡◌, ◌<◌, ◌^◌, List, Option, Some, sym, ◌∙◌, ap, subst}
+use Rattle.std.proofs.Common.{◌≡◌, ◌<◌, ◌^◌, ℕ, List, Option, Some, sym, ◌∙◌, ap, subst}
 use Rattle.std.specs.Prelude.{Contains, IfSome}
 use Rattle.age_calls.specs.{OutFile}
 use Rattle.age_machine.specs.{NumbersAreApart, number_of}
@@ -14,6 +14,10 @@ no_number numbers opened out file apart is input fits held same =
     let has = subst (λ (o : Option OutFile). IfSome o (HasNode out.id)) is apart.node in
     apart.none (File input) held (has.known ∙ ap (λ (n : Node). Some (File n)) (sym (numbers input has.node fits has.fits (same ∙ has.number))))
 
-pub returns : goal.returns
-returns c = λ opened out file calls apart is on input fits held disk. c.others_are_kept.ensures file.path file.number (number_of input) calls on
+pub returns-clause-opened : goal.returns-clause-opened
+returns-clause-opened c = λ opened out file calls apart is on input fits held disk. c.others_are_kept.ensures file.path file.number (number_of input) calls on
     (no_number c.numbers_are_apart.ensures opened out file apart is input fits held) disk
+
+pub returns-clause-made : goal.returns-clause-made
+returns-clause-made c = λ file calls on disk new path other leads. c.others_are_kept.ensures file.path file.number other calls on
+    (λ same. new path (leads ∙ ap (λ (n : ℕ). Some n) same)) disk
