@@ -48,10 +48,14 @@ class MakingTest(FilesCase):
     def test_wrong_passphrase(self):
         """A wrong passphrase leaves nothing, at no time, also where there are no locks; nor does a file that is damaged at its beginning."""
         words = DECRYPT.replace("pass pass", "pass wrong")
-        run = self.deriving(words)
-        self.see("nothing while it is tried", not self.left(), self.left())
-        self.ends("a wrong passphrase", run, 1, b"age_tool: 13 WrongKey\n")
-        self.see("nothing after it", not self.left(), self.left())
+        for held in (None, b"another's", b""):
+            run = self.deriving(words)
+            self.see("nothing while it is tried", not self.left(), self.left())
+            if held is not None:
+                self.write("new", held)
+            self.ends("a wrong passphrase", run, 1, b"age_tool: 13 WrongKey\n")
+            self.see(f"after it just what came: {held}", (self.read("new") if self.left() else None) == held)
+            self.remove("new")
         self.write("damaged", self.age[:400] + b"?" + self.age[401:])
         self.names.append("damaged")
         self.expect(1, chunk_fault(0), "decrypt --pass pass damaged new")

@@ -8,20 +8,8 @@ use Rattle.age_calls.specs.{FileCall, ClosesLast, EndedFile, Closes, OutFile, Ou
 use Rattle.age_calls.specs.{SavedFile, PutsAtOnce}
 use Rattle.age_machine.specs.{IsKept}
 use Rattle.age_calls.specs.Saved.{Saves}
-use Rattle.age_disk.specs.{HasNode, sink_of, IsTaking, FileId, Stays}
-use Rattle.age_disk.specs.inner.{TargetPuts, part_of}
-
-first_none : (one other : List ℕ) → one ++ other ≡ [] → one ≡ []
-first_none [] other none = refl
-first_none (x ∷ one) other none = absurd (differ none) where
-  differ : (x ∷ one) ++ other ≡ [] → ⊥
-  differ same = cc
-
-second_none : (one other : List ℕ) → one ++ other ≡ [] → other ≡ []
-second_none [] other none = none
-second_none (x ∷ one) other none = absurd (differ none) where
-  differ : (x ∷ one) ++ other ≡ [] → ⊥
-  differ same = cc
+use Rattle.age_disk.specs.{sink_of, IsTaking, FileId, Stays}
+use Rattle.age_disk.specs.inner.{part_of}
 
 -- while no put has failed, this one hasn't, nor one before it
 pub noted_well : {E F : Type 0} (call : Result ℕ E) (put : Result ℕ F) (before after : ℕ)
@@ -31,43 +19,6 @@ noted_well (Ok n) put before after counted same none = (sym counted ∙ none, ap
 noted_well (Err e) put before after counted same none = absurd (more (sym counted ∙ none)) where
   more : one_more before ≡ 0 → ⊥
   more is = grind arith
-
--- what holds after a put
-pub taking_put : (old new : Option OutView) (before after : ℕ) (ok : Bool)
-    (part took later : List ℕ) → IsTaking old before took → TargetPuts old new ok part
-    → later ≡ took ++ part → (after ≡ 0 → (before ≡ 0) × (ok ≡ true)) → IsTaking new after later
-taking_put None None before after ok part took later taking puts added well = tt
-taking_put None (Some new) before after ok part took later taking puts added well = absurd puts
-taking_put (Some old) None before after ok part took later taking puts added well = absurd puts
-taking_put (Some old) (Some new) before after ok part took later taking puts added well = (
-  puts.text ∙ (ap (λ (l : List ℕ). l ++ part) taking.0 ∙ sym added),
-  (
-    (λ none kept. let sound = puts.sound (well none).1 kept in
-        sound.0 ∙ taking.1.0 (well none).0 sound.1),
-    (λ none empty. let nothing = first_none took part (sym added ∙ empty) in
-        puts.still (well none).1 (taking.0 ∙ nothing) (second_none took part (sym added ∙ empty)) ∙ taking.1.1 (well none).0 nothing),
-  ),
-)
-
--- it goes by the same node
-pub node_put : (id : Option FileId) (old new : Option OutView) (ok : Bool) (part : List ℕ) → TargetPuts old new ok part
-    → IfSome old (λ (o : OutView). HasNode id o.file) → IfSome new (λ (o : OutView). HasNode id o.file)
-node_put id old None ok part puts has = tt
-node_put id None (Some new) ok part puts has = absurd puts
-node_put id (Some old) (Some new) ok part puts has = subst (λ (f : OutFile). HasNode id f) (sym puts.file) has
-
--- what is no regular file was none before
-pub none_before : (old new : Option OutView) (ok : Bool) (part : List ℕ) → TargetPuts old new ok part → new ≡ None → old ≡ None
-none_before None new ok part puts none = refl
-none_before (Some old) None ok part puts none = absurd puts
-none_before (Some old) (Some new) ok part puts none = let no : ⊥ = cc in absurd no
-
--- what was put there was handed to it
-pub handed_put : (old new : Option OutView) (ok : Bool) (part took later before handed : List ℕ) → TargetPuts old new ok part
-    → (old ≡ None → before ≡ took) → (old ≡ None → handed ≡ before ++ part) → later ≡ took ++ part → new ≡ None → handed ≡ later
-handed_put old new ok part took later before handed puts was more added none =
-    let is = none_before old new ok part puts none in
-    more is ∙ (ap (λ (l : List ℕ). l ++ part) (was is) ∙ sym added)
 
 -- what isn't made yet has taken nothing
 pub unmade_put : {E : Type 0} (old new : Option (List ℕ)) (file now : Option OutFile) (id known : Option FileId) (put : Result ℕ E)

@@ -12,8 +12,8 @@ regular_of (target.File out) = Some out
 regular_of other = None
 
 -- which one it is
-abbrev pub file_of : Target → Option OutFile
-file_of it = option_map (λ (o : OutView). o.file) (regular_of it)
+abbrev pub out_file_of : Target → Option OutFile
+out_file_of it = option_map (λ (o : OutView). o.file) (regular_of it)
 
 -- the path at which a file is to be made that isn't there yet
 abbrev pub unmade_of : Target → Option (List ℕ)

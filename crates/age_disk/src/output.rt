@@ -1,16 +1,16 @@
 //! A file of the machine that is written.
 
-ghost use Rattle.std.specs.Prelude.{◌≡◌, ◌↔◌, ◌≤◌, ◌<◌, [], ◌∷◌, ◌++◌, None, Some, true, false, length};
-ghost use Rattle.std.specs.Prelude.{is_ok, is_err, IfOk, IfSome, OnOk, OnErr, MatchResult, string_bytes};
-ghost use Rattle.std.specs.Prelude.{option_map, ℕ, List};
+ghost use Rattle.std.specs.Prelude.{◌≡◌, ◌↔◌, ◌≤◌, ◌<◌, [], ◌∷◌, ◌++◌, None, Some, true, false, length, is_ok};
+ghost use Rattle.std.specs.Prelude.{is_err, IfOk, IfSome, OnOk, OnErr, MatchResult, string_bytes, option_map, ℕ};
+ghost use Rattle.std.specs.Prelude.{List};
 ghost use Rattle.std.specs.Io.{WritesAtMost};
 ghost use Rattle.age_io.specs.{one_more};
 ghost use Rattle.age_io.specs.declared.durability.Durability.TheVariants as wait;
 ghost use Rattle.age_io.specs.Taken.{WriteAppends, Keeps};
-ghost use Rattle.age_calls.specs.{Opened, Closes, Discards, TouchesItself, text_of};
+ghost use Rattle.age_calls.specs.{Opened, Closes, Discards, TouchesItself};
 ghost use Rattle.age_machine.specs.{number_of};
 ghost use Rattle.age_disk.specs.Outputs.{IsNew, KeepsFile, Stays, HasNode, sink_of, as_sink};
-ghost use Rattle.age_disk.specs.Targets.{regular_of, file_of, unmade_of, IsTaking, IsPaced};
+ghost use Rattle.age_disk.specs.Targets.{regular_of, out_file_of, unmade_of, IsTaking, IsPaced};
 ghost use Rattle.age_disk.specs.inner.{opening_calls, part_of, TargetGoes};
 
 use crate::device::Device;
@@ -18,7 +18,7 @@ use crate::in_use::is_for_faults;
 use crate::names::{FileId, Led, Resolved, StandardStream, tape_of};
 use crate::paths::check_place;
 use crate::sync::{Witness, close_stream};
-use crate::target::Target;
+use crate::target::{Target, claimed, make_first};
 use age_calls::{Kind, Opening};
 use age_io::{Durability, Failed, Failures, Sink, Tape};
 use age_machine::calls::close;
@@ -27,7 +27,6 @@ use std::alloc::Global;
 use std::fs::File;
 use std::io::{self, IsTerminal};
 use std::marker::Model;
-use std::mem;
 use std::rt::HostRuntime;
 
 /// How much a file took, and when the disk is waited for.
@@ -145,74 +144,6 @@ fn note_put(
     }
 }
 
-/// Takes a regular file for this run alone, if its name leads to it.
-fn take_alone(
-    rt: &HostRuntime,
-    out: &mut Out<HostMachine>,
-    id: Option<FileId>,
-    name: &str,
-) -> io::Result<()>
-    ensures same { (out.new.file ≡ out.old.file) × (out.new.is_lost ≡ out.old.is_lost) }
-    ensures text { text_of out.new.calls ≡ text_of out.old.calls }
-    ensures sound { OnOk result (out.new.failed ≡ out.old.failed) }
-{
-    out.claim()?;
-    match FileId::seen_at(rt, name) {
-        Ok(seen) if seen == id => Ok(()),
-        Ok(_) => Err(io::Error::from(io::ErrorKind::NotFound)),
-        Err(error) => Err(error),
-    }
-}
-
-/// A target of which a regular file is taken for this run alone, if its name still leads to it.
-fn claimed(rt: &HostRuntime, target: Target, id: Option<FileId>, name: &str) -> io::Result<Target>
-    ensures file { IfOk result (λ t. file_of t ≡ file_of target) }
-    ensures unmade { IfOk result (λ t. unmade_of t ≡ unmade_of target) }
-    ensures taking { IfOk result (λ t. (failed : ℕ) (took : List ℕ)
-        → IsTaking (regular_of target) failed took → IsTaking (regular_of t) failed took) }
-{
-    match target {
-        Target::File(mut out) => {
-            take_alone(rt, &mut out, id, name)?;
-            Ok(Target::File(out))
-        }
-        other => Ok(other),
-    }
-}
-
-/// Makes the file of a target that isn't there yet, and takes it for this run alone. Fails if
-/// something has come to its path, or if its name doesn't lead to it. What was made stays the target.
-fn make_first(
-    rt: &HostRuntime,
-    name: &str,
-    target: &mut Target,
-    id: &mut Option<FileId>,
-) -> io::Result<()>
-    ensures keeps { Stays (unmade_of target.old) (unmade_of target.new) (file_of target.old)
-        (file_of target.new) id.old id.new }
-    ensures made { OnOk result (unmade_of target.new ≡ None) }
-    ensures node { IfSome (regular_of target.old) (λ o. HasNode id.old o.file)
-        → IfSome (regular_of target.new) (λ o. HasNode id.new o.file) }
-    ensures none { regular_of target.new ≡ None → regular_of target.old ≡ None }
-    ensures taking { OnOk result ((failed : ℕ) (took : List ℕ)
-        → IsTaking (regular_of target.old) failed took
-        → IfSome (unmade_of target.old) (λ _. took ≡ []) → IsTaking (regular_of target.new) failed took) }
-    ensures failing { OnErr result ((failed : ℕ) (took : List ℕ) → 0 < failed
-        → IfSome (unmade_of target.old) (λ _. took ≡ []) → IsTaking (regular_of target.new) failed took) }
-{
-    let Target::Unmade(path) = target else {
-        return Ok(());
-    };
-    let mut machine = HostMachine::new(rt);
-    let file = machine.make_output(path.as_str())?;
-    let own = mem::replace(path, String::new(rt.alloc()));
-    *id = Some(FileId::of_node(file.node()));
-    let mut out = Out::new(machine, file, own, Opening::New);
-    let taken = take_alone(rt, &mut out, *id, name);
-    *target = Target::File(out);
-    taken
-}
-
 /// Writes to a target, which is made before the first byte.
 fn write_made(
     rt: &HostRuntime,
@@ -224,8 +155,8 @@ fn write_made(
     handed: &mut Tape,
 ) -> io::Result<usize>
     ensures bound { WritesAtMost result from.now }
-    ensures keeps { Stays (unmade_of target.old) (unmade_of target.new) (file_of target.old)
-        (file_of target.new) id.old id.new }
+    ensures keeps { Stays (unmade_of target.old) (unmade_of target.new) (out_file_of target.old)
+        (out_file_of target.new) id.old id.new }
     ensures made { IfOk result (λ n. 0 < n → unmade_of target.new ≡ None) }
     ensures node { IfSome (regular_of target.old) (λ o. HasNode id.old o.file)
         → IfSome (regular_of target.new) (λ o. HasNode id.new o.file) }
@@ -348,7 +279,7 @@ pub struct HostOut {
 impl Model for HostOut {
     ghost use Rattle.age_disk.specs.Outputs.{OutputView, HasNode};
     ghost use Rattle.std.specs.Prelude.{◌≡◌, [], None, IfSome, string_bytes};
-    ghost use Rattle.age_disk.specs.Targets.{regular_of, file_of, unmade_of, IsTaking, IsPaced};
+    ghost use Rattle.age_disk.specs.Targets.{regular_of, out_file_of, unmade_of, IsTaking, IsPaced};
 
     ghost Value = { OutputView };
 
@@ -358,7 +289,7 @@ impl Model for HostOut {
       failing = s.failures.last;
       took = s.took;
       settled = s.pace.settled;
-      file = file_of s.target;
+      file = out_file_of s.target;
       unmade = unmade_of s.target;
       id = s.id;
     } };
@@ -493,7 +424,7 @@ impl HostOut {
         requires node { IfSome (regular_of target) (λ o. HasNode id o.file) }
         ensures fresh { IsNew result }
         ensures named { result.name ≡ string_bytes name }
-        ensures file { (result.file ≡ file_of target) × (result.unmade ≡ unmade_of target) }
+        ensures file { (result.file ≡ out_file_of target) × (result.unmade ≡ unmade_of target) }
     {
         HostOut {
             rt: *rt,
@@ -855,12 +786,7 @@ impl Sink for HostOut {
         ensures last { self.new.failing ≡ is_err result }
         ensures same { KeepsFile self.old self.new }
     {
-        let made = make_first(
-            &self.rt,
-            self.name.as_str(),
-            &mut self.target,
-            &mut self.id,
-        );
+        let made = make_first(&self.rt, self.name.as_str(), &mut self.target, &mut self.id);
         if let Err(error) = made {
             self.error = error;
         }

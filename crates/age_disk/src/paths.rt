@@ -2,7 +2,8 @@
 
 use crate::names::is_on_disk;
 use age_machine::{
-    Node, POSITION_MODE, above_streams, calls, folder_of, found_at, is_at, kept_above, open_to_write,
+    Node, POSITION_MODE, above_streams, calls, folder_of, found_at, is_at, kept_above,
+    open_to_write,
 };
 use std::fs::{self, File};
 use std::io;

@@ -1,20 +1,24 @@
 //! What the bytes of a written file go to.
 
-ghost use Rattle.std.specs.Prelude.{◌≡◌, ◌≤◌, ◌++◌, [], None, true, OnErr, is_ok};
+ghost use Rattle.std.specs.Prelude.{◌≡◌, ◌≤◌, ◌<◌, ◌++◌, [], None, true, IfOk, IfSome, OnOk, OnErr, is_ok};
+ghost use Rattle.std.specs.Prelude.{ℕ, List};
 ghost use Rattle.std.specs.Io.{WritesAtMost};
-ghost use Rattle.age_disk.specs.Targets.{regular_of};
+ghost use Rattle.age_calls.specs.{text_of};
+ghost use Rattle.age_disk.specs.Outputs.{HasNode, Stays};
+ghost use Rattle.age_disk.specs.Targets.{regular_of, out_file_of, unmade_of, IsTaking};
 ghost use Rattle.age_disk.specs.inner.{part_of, TargetGoes};
 
 use crate::device::Device;
-use crate::names::{StandardStream, is_handed_on};
+use crate::names::{FileId, StandardStream, is_handed_on};
 use crate::sync::{Witness, sync_file};
+use age_calls::Opening;
 use age_io::Tape;
 use age_machine::calls::close;
-use age_machine::{HostMachine, Out, TRIES, is_to_retry, too_many_tries};
-use std::fs;
+use age_machine::{HostMachine, Machine, Out, TRIES, is_to_retry, too_many_tries};
 use std::io::{self, Write};
 use std::os::fd::AsFd;
 use std::rt::{HostRuntime, Stderr, Stdout};
+use std::{fs, mem};
 
 /// How many bytes of what a pipe took aren't counted as certain, since the pipe and its reader may hold
 /// them: a network connection holds megabytes.
@@ -156,4 +160,77 @@ impl Target {
             Target::Output(_, witness) | Target::Faults(_, witness) => !witness.is_missing(),
         }
     }
+}
+
+/// Takes a regular file for this run alone, if its name leads to it.
+fn take_alone(
+    rt: &HostRuntime,
+    out: &mut Out<HostMachine>,
+    id: Option<FileId>,
+    name: &str,
+) -> io::Result<()>
+    ensures same { (out.new.file ≡ out.old.file) × (out.new.is_lost ≡ out.old.is_lost) }
+    ensures text { text_of out.new.calls ≡ text_of out.old.calls }
+    ensures sound { OnOk result (out.new.failed ≡ out.old.failed) }
+{
+    out.claim()?;
+    match FileId::seen_at(rt, name) {
+        Ok(seen) if seen == id => Ok(()),
+        Ok(_) => Err(io::Error::from(io::ErrorKind::NotFound)),
+        Err(error) => Err(error),
+    }
+}
+
+/// A target of which a regular file is taken for this run alone, if its name still leads to it.
+pub(crate) fn claimed(
+    rt: &HostRuntime,
+    target: Target,
+    id: Option<FileId>,
+    name: &str,
+) -> io::Result<Target>
+    ensures file { IfOk result (λ t. out_file_of t ≡ out_file_of target) }
+    ensures unmade { IfOk result (λ t. unmade_of t ≡ unmade_of target) }
+    ensures taking { IfOk result (λ t. (failed : ℕ) (took : List ℕ)
+        → IsTaking (regular_of target) failed took → IsTaking (regular_of t) failed took) }
+{
+    match target {
+        Target::File(mut out) => {
+            take_alone(rt, &mut out, id, name)?;
+            Ok(Target::File(out))
+        }
+        other => Ok(other),
+    }
+}
+
+/// Makes the file of a target that isn't there yet, and takes it for this run alone. Fails if
+/// something has come to its path, or if its name doesn't lead to it. What was made stays the target.
+pub(crate) fn make_first(
+    rt: &HostRuntime,
+    name: &str,
+    target: &mut Target,
+    id: &mut Option<FileId>,
+) -> io::Result<()>
+    ensures keeps { Stays (unmade_of target.old) (unmade_of target.new) (out_file_of target.old)
+        (out_file_of target.new) id.old id.new }
+    ensures made { OnOk result (unmade_of target.new ≡ None) }
+    ensures node { IfSome (regular_of target.old) (λ o. HasNode id.old o.file)
+        → IfSome (regular_of target.new) (λ o. HasNode id.new o.file) }
+    ensures none { regular_of target.new ≡ None → regular_of target.old ≡ None }
+    ensures taking { OnOk result ((failed : ℕ) (took : List ℕ)
+        → IsTaking (regular_of target.old) failed took
+        → IfSome (unmade_of target.old) (λ _. took ≡ []) → IsTaking (regular_of target.new) failed took) }
+    ensures failing { OnErr result ((failed : ℕ) (took : List ℕ) → 0 < failed
+        → IfSome (unmade_of target.old) (λ _. took ≡ []) → IsTaking (regular_of target.new) failed took) }
+{
+    let Target::Unmade(path) = target else {
+        return Ok(());
+    };
+    let mut machine = HostMachine::new(rt);
+    let file = machine.make_output(path.as_str())?;
+    let own = mem::replace(path, String::new(rt.alloc()));
+    *id = Some(FileId::of_node(file.node()));
+    let mut out = Out::new(machine, file, own, Opening::New);
+    let taken = take_alone(rt, &mut out, *id, name);
+    *target = Target::File(out);
+    taken
 }

@@ -1,5 +1,3 @@
-use Rattle.std.proofs.Common.{sym, subst, List, ℕ}
-use Rattle.age_disk.specs.{IsTaking}
 use Rattle.age_disk.proofs.{noted_well, unmade_put}
 use Rattle.age_disk.proofs.output.HostOutSink.put.Goals as goal
 
