@@ -1,4 +1,4 @@
-/* A file in memory by one call: two functions for programs to take. They aren't proved; what they call is. */
+/* A file in memory by one call: two functions for programs to copy. They aren't proved; what they call is. */
 #define _DEFAULT_SOURCE
 #include "age_c.h"
 

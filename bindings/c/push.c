@@ -1,4 +1,4 @@
-/* Decrypts a file whose bytes come by themselves, as in an event loop, from its first byte on: three functions for programs to take. They
+/* Decrypts a file whose bytes arrive in an event loop, from its first byte on: three functions for programs to copy. They
  * aren't proved; what they call is. */
 #define _DEFAULT_SOURCE
 #include "age_c.h"
