@@ -68,7 +68,7 @@ static uint32_t begin(const uint8_t *pass, size_t pass_len, int *got) {
     return answer;
 }
 
-/* Gives the bytes to the stream, and writes their text. */
+/* Gives the bytes to the stream, and writes their plaintext. */
 static uint32_t feed(int *unwritten) {
     size_t at = 0, taken, written;
     uint32_t answer = 0;

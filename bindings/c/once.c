@@ -1,4 +1,4 @@
-/* A file in memory by one call: two functions for programs to take. They aren't proved; what they call is. */
+/* A file in memory by one call: two functions for programs to copy. They aren't proved; what they call is. */
 #define _DEFAULT_SOURCE
 #include "age_c.h"
 
@@ -19,12 +19,12 @@ static int ended(struct once *it, int answer) {
     return answer;
 }
 
-/* How many bytes the age file of a text has at most. */
+/* How many bytes the age file of a plaintext has at most. */
 size_t age_once_room(size_t text_len) {
     return AGE_C_SEAL_FRONT + text_len + (text_len / AGE_C_CHUNK + 1) * (AGE_C_BLOCK - AGE_C_CHUNK);
 }
 
-/* Writes the age file of a text under a passphrase to `out`, which has room for age_once_room(text_len) bytes, and its length to
+/* Writes the age file of a plaintext under a passphrase to `out`, which has room for age_once_room(text_len) bytes, and its length to
  * *written. Returns 0, a fault of age_c.h, or -1 if there is too little room or memory, or no randomness: then *written is 0. */
 int age_once_encrypt(const uint8_t *text, size_t text_len, const uint8_t *pass, size_t pass_len, uint32_t work, uint8_t *out,
                      size_t out_len, size_t *written) {
@@ -48,7 +48,7 @@ int age_once_encrypt(const uint8_t *text, size_t text_len, const uint8_t *pass, 
     return ended(it, (int)answer);
 }
 
-/* Writes the text of an age file to `text`, which has room for as many bytes as the file has, and its length to *written: all of it, if
+/* Writes the plaintext of an age file to `text`, which has room for as many bytes as the file has, and its length to *written: all of it, if
  * that returns 0. Else it returns a fault of age_c.h, or -1 if there is too little room or memory, *written is 0, and what stands in
  * `text` is a beginning of the text at most. */
 int age_once_decrypt(const uint8_t *file, size_t file_len, const uint8_t *pass, size_t pass_len, uint32_t work_max, uint8_t *text,

@@ -1,4 +1,4 @@
-/* Decrypts a file whose bytes come by themselves, as in an event loop, from its first byte on: three functions for programs to take. They
+/* Decrypts a file whose bytes arrive in an event loop, from its first byte on: three functions for programs to copy. They
  * aren't proved; what they call is. */
 #define _DEFAULT_SOURCE
 #include "age_c.h"
@@ -20,7 +20,7 @@ void age_push_drop(struct age_push *it) {
     explicit_bzero(it, sizeof *it);
 }
 
-/* Takes *taken bytes from the front of the piece, and writes the text of a chunk that they complete, of which *written is the length, to
+/* Takes *taken bytes from the front of the piece, and writes the plaintext of a chunk that they complete, of which *written is the length, to
  * `out`, which has room for AGE_C_CHUNK bytes. Returns 0, and is to be called again while something is left of the piece; or a fault of
  * age_c.h, or -1 if there is no memory: then drop it. The call that completes the header takes the passphrase's time and memory. */
 int age_push_update(struct age_push *it, const uint8_t *pass, size_t pass_len, uint32_t work_max, const uint8_t *piece, size_t piece_len,
@@ -50,10 +50,10 @@ int age_push_update(struct age_push *it, const uint8_t *pass, size_t pass_len, u
     return (int)answer;
 }
 
-/* The file ended. `out` is as above. The text is whole only if this returns 0. */
+/* The file ended. `out` is as above. The plaintext is complete only if this returns 0. */
 int age_push_finish(struct age_push *it, const uint8_t *pass, size_t pass_len, uint32_t work_max, uint8_t *out, size_t *written) {
     *written = 0;
     if (it->is_open) return (int)age_c_finish(&it->stream, out, AGE_C_CHUNK, written);
     uint32_t answer = age_c_open_passphrase(it->front, it->have, pass, pass_len, work_max, &it->stream.reader);
-    return (int)(answer == 0 ? AGE_C_MORE : answer); /* (a whole header was opened before) */
+    return (int)(answer == 0 ? AGE_C_MORE : answer); /* (a complete header was opened before) */
 }

@@ -1,11 +1,11 @@
-/* Saves what still opens of an age file that was damaged or cut:
+/* Saves what still opens of a damaged or truncated age file:
  *
  *     salvage PASSFILE <IN >OUT
  *
  * Each chunk that opens is written at its place, and zeros for each one that doesn't. For each part
  * that is lost it prints the first byte and the byte after the last. Status 0 means that nothing is
- * missing, 1 that something is, or that the file isn't opened: then nothing is written. One newline
- * at the end of PASSFILE is ignored. In the same way a program saves a file that is opened by a key.
+ * missing, 1 that something is, or that the file couldn't be opened, and then nothing is written. One
+ * newline at the end of PASSFILE is ignored. A program can save a file that a key opens in the same way.
  */
 #include "age_c.h"
 

@@ -12,50 +12,49 @@
         file.write(b"text")
 
 It needs libage_c.so, made by `bindings/build`: the file that the environment variable AGE_C_LIBRARY
-names, else the one beside this package, of its release or of its checkout, else one that the loader
+names, else the one beside this package, in its release or its checkout, else one that the loader
 finds. `python3 -m agefile` encrypts, decrypts and tests files.
 
-Reading: no byte is returned before its chunk (65,536 bytes of text) has been authenticated, and the
-end of the file (b"") is reported only after the last chunk has been. So a loop that reads to the
-end without an exception has seen the whole text; one that stops earlier may have seen the beginning
-of a file that was cut. What is wrong with a file raises AgeError, mostly one of its kinds:
-WrongKey, Damaged and Truncated. Most files that were cut are Damaged: they end within a chunk. A
-read() that runs into a damaged chunk returns nothing of what comes before it; read1() returns all
-of that first.
+Reading: no byte is returned before its chunk (65,536 bytes of plaintext) has been authenticated,
+and the end of the file (b"") is reported only after the last chunk has been. So a loop that reads
+to the end without an exception has seen the complete plaintext; one that stops earlier may have
+seen the beginning of a truncated file. What is wrong with a file raises AgeError, usually one of
+its kinds: WrongKey, Damaged and Truncated. Most truncated files are Damaged, since they end within
+a chunk. A read() that runs into a damaged chunk returns nothing of what comes before it; read1()
+returns all of that first.
 
 A read waits for bytes, even if the source doesn't block. BlockingIOError says that there is nothing
 to wait for: the source returned None, and has no fileno(). After a read that failed or was
-interrupted, tell() says where it began; who called may have lost bytes. So each read raises OSError
+interrupted, tell() says where it began; the caller may have lost bytes. So each read raises OSError
 then, until a seek(). (A KeyboardInterrupt may also come between two reads: don't read on after it.)
 
-A file that can't seek can be read, but not sought in; in one that can, seek() reads on to the
-place, from the beginning if it lies before. After a seek that failed the file stands where it
-stood. With random_access=True a seek takes the same time wherever it goes, and reads nothing:
+A file that can't seek can only be read in order; in one that can, seek() reads on to the place, or
+from the beginning if the place is before. A seek that fails leaves the file where it was. With
+random_access=True a seek takes the same time wherever it goes, and reads nothing:
 
     with agefile.open("photos.zip.age", passphrase="correct horse", random_access=True) as file:
         zipfile.ZipFile(file).extract("photos/1.jpg")
 
 The last chunk is opened first, so that the length is checked, and each byte that is read is checked
-then; what is passed over isn't. The file has to be one that can be sought in. reopen() of a reader
-takes another file object of the same file, and needs neither the key nor the time of a passphrase.
-inspect() says whether a file is for a passphrase or for recipients, before a key is asked for.
+then; what is passed over isn't. The file must be seekable. reopen() of a reader takes another file
+object of the same file, and needs neither the key nor the time of a passphrase. inspect() says
+whether a file is for a passphrase or for recipients, before a key is asked for.
 
-Writing: the file is whole once close() returned. A `with` block that is left by an exception
+Writing: the file is complete once close() has returned. A `with` block that is left by an exception
 abandons it: it then ends in a way that every reader reports. So does one that is never closed. If
-close() fails, each later one does too. But
-contextlib.closing, and an io.TextIOWrapper or io.BufferedWriter of your own over a writer, close it
-even after an exception: what was written until then is a whole file. A write that an exception
-interrupts makes the file one that can't be finished. What is written to gets bytes, and may keep
-them. A forked child can't go on with its parent's file.
+close() fails, each later one does too. But contextlib.closing, and an io.TextIOWrapper or
+io.BufferedWriter of your own over a writer, close it even after an exception: what was written
+until then becomes a complete file. After a write that an exception interrupts, the file can't be
+finished. The file object that is written to gets `bytes`, and may keep them. A forked child can't
+continue its parent's file.
 
-Decryptor and Encryptor take bytes that come by themselves, as in an asynchronous server, and need no
-file.
+Decryptor and Encryptor take bytes as they arrive, as in an asynchronous server, and need no file.
 
 A file object that you pass in is left open. Threads may share a file; calls are serialized. Two
-files share nothing, so threads with files of their own need no lock. Text
-("rt", "wt") is for one thread at a time, as io.TextIOWrapper is. close() overwrites the key and the
-text that this module holds. That is best effort: copies that Python made, of a passphrase for
-instance, stay in memory.
+files share nothing, so threads with files of their own need no lock. Text ("rt", "wt") is for one
+thread at a time, as io.TextIOWrapper is. close() overwrites the key and the plaintext that this
+module holds. That is best effort: copies that Python made, of a passphrase for instance, stay in
+memory.
 """
 from __future__ import annotations
 
@@ -82,7 +81,7 @@ from ._writer import AgeWriter
 __all__ = ["open", "encrypt", "decrypt", "inspect", "Inspection", "Stanza", "salvage", "Salvage", "identities_in", "AgeError", "WrongKey",
            "TooManyStanzas", "Truncated", "Damaged", "OutOfMemory", "AgeReader", "AgeFile", "AgeWriter", "Decryptor", "Encryptor"]
 __version__ = f"{VERSION // 10_000}.{VERSION // 100 % 100}.{VERSION % 100}"
-# In its place release/build writes which commit it is of, as in age_tool.
+# release/build replaces it by the commit that it was made from, as in age_tool.
 __build__ = "(not a release)"
 
 for _it in (encrypt, decrypt, inspect, Inspection, Stanza, salvage, Salvage, identities_in, AgeError, WrongKey, TooManyStanzas,
@@ -106,12 +105,12 @@ class Sink(Protocol):
         ...
 
 
-# What io.TextIOWrapper leaves out where it can't seek, and wants when it reads.
+# What io.TextIOWrapper leaves out where it can't seek, and needs when it reads.
 _MARKS = {"utf-16": codecs.BOM_UTF16, "utf-32": codecs.BOM_UTF32}
 
 
 class _Text(io.TextIOWrapper):
-    """Text that an exception abandons, too. When one comes out of a write, the base has lost what it held, of earlier writes too."""
+    """A text writer that an exception abandons, too. When one comes out of a write, the base has lost what it held, even from earlier writes."""
 
     def write(self, text: str, /) -> int:
         try:
@@ -228,8 +227,8 @@ def open(file: Path | Source | Sink, mode: str = "rb", *, passphrase: str | Buff
          shared: tuple[Buffer, Buffer] | None = None, identity: str | Iterable[str] | None = None,
          recipient: str | Iterable[str] | None = None, work: int = 18, max_work: int = 22, random_access: bool = False,
          encoding: str | None = None, errors: str | None = None, newline: str | None = None) -> AgeReader | AgeWriter | io.TextIOWrapper:
-    """Opens an age file, which is a path or a binary file object: "rb" to read it, "wb" (or "xb", which refuses a file that is there)
-    to write it; "rt", "wt" and "xt" the same as text. A file object is left open.
+    """Opens an age file, which is a path or a binary file object: "rb" to read it, "wb" (or "xb", which refuses an existing file) to
+    write it; "rt", "wt" and "xt" the same as text. A file object is left open.
 
     It is read by one of these keys: a passphrase (a str is encoded as UTF-8); a file_key of 16 bytes; shared, a pair of an X25519
     shared secret and the recipient that it was computed for, of 32 bytes each; or identity: a key of age-keygen ("AGE-SECRET-KEY-1.."),
@@ -255,7 +254,7 @@ def open(file: Path | Source | Sink, mode: str = "rb", *, passphrase: str | Buff
     see_one(passphrase, file_key, shared, identity, recipient)
     work_factor("work", work)
     work_factor("max_work", max_work)
-    # what can't be begun leaves the file as it is
+    # a file that can't be begun is left unchanged
     beginning = None
     if mode[0] != "r":
         beginning = beginning_of(passphrase, recipient, work)

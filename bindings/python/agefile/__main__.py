@@ -24,12 +24,12 @@ from agefile._workers import WORKERS_MAX, Places, copy_text, put_at
 
 FACTORS = range(1, WORK_MAX + 1)
 
-# What only a write is answered.
+# What only a write can fail with.
 FULL = (errno.ENOSPC, errno.EDQUOT, errno.EFBIG)
 
 
 def passphrase_of(words: argparse.Namespace, again: bool = False) -> bytes:
-    """The passphrase in the file of --pass, but one newline at its end, or one that is asked for."""
+    """The passphrase in the file of --pass, without one newline at its end, or one that is asked for."""
     if words.passphrase is not None:
         with open(words.passphrase, "rb") as file:
             held = file.read().removesuffix(b"\n")
@@ -44,7 +44,7 @@ def passphrase_of(words: argparse.Namespace, again: bool = False) -> bytes:
 
 
 def asked(what: str) -> str:
-    """What is typed at the terminal. Without one, getpass would warn, and take a line of standard input for it."""
+    """What is typed at the terminal. Without a terminal, getpass would warn, and read a line of standard input."""
     try:
         with warnings.catch_warnings():
             warnings.simplefilter("error", getpass.GetPassWarning)
@@ -54,7 +54,7 @@ def asked(what: str) -> str:
 
 
 def pieces(file: Any) -> Iterator[bytes]:
-    """What a file has, up to its end."""
+    """What a file holds, up to its end."""
     while piece := some(file, 1 << 20):
         yield piece
 
@@ -64,7 +64,7 @@ def source(name: str) -> Any:
 
 
 def see_apart(words: argparse.Namespace) -> None:
-    """Refuses to write to a file that is read: IN, or the file of --pass, --identity or --recipients-file. With --no-clobber, to any."""
+    """Refuses to write to an input: IN, or the file of --pass, --identity or --recipients-file. With --no-clobber, to any existing file."""
     if words.output == "-":
         return
     if words.no_clobber and os.path.lexists(words.output):
@@ -126,7 +126,7 @@ def decrypt(words: argparse.Namespace) -> None:
     count = 0
     try:
         with source(words.input) as under, opened(under, words) as file:
-            # A chunk at a time, so that what comes before a fault is written. If the first is damaged, OUT stays as it was.
+            # A chunk at a time, so that what comes before a fault is written. If the first is damaged, OUT is unchanged.
             piece = file.read1(_library.CHUNK)
             with sink(words) as out:
                 while piece:
@@ -140,7 +140,7 @@ def decrypt(words: argparse.Namespace) -> None:
 
 
 def decrypt_by_workers(words: argparse.Namespace) -> None:
-    """The same by several threads. OUT gets its name once all of the text is there, and on the disk: else it stays as it was."""
+    """The same by several threads. OUT gets its name once all of the plaintext is written, and on the disk; otherwise it is unchanged."""
     if words.output == "-" or os.path.exists(words.output) and not os.path.isfile(words.output):
         raise ValueError("--workers writes a regular file")
     out = os.path.realpath(words.output)
@@ -155,7 +155,8 @@ def decrypt_by_workers(words: argparse.Namespace) -> None:
 
 
 def resume(words: argparse.Namespace) -> None:
-    """Goes on from a position that age_tool saved: the old text up to it, and then the rest of IN, whose last chunk is opened first."""
+    """Continues from a position that age_tool saved: copies the earlier output up to it, and then decrypts the rest of IN, whose last chunk is opened
+    first."""
     see_apart(words)
     with open(words.position, "rb") as held:
         position = Position.read(held.read(MOST))
@@ -306,7 +307,7 @@ def words_of() -> argparse.Namespace:
 
 
 def shown(name: str) -> str:
-    """A file's name, in quotes if a terminal would obey it, or if its ends can't be seen."""
+    """A file's name, in quotes if it could control a terminal, or if its ends can't be seen."""
     return name if name and name.isprintable() and name == name.strip() else repr(name)
 
 

@@ -38,7 +38,7 @@ def work_factor(name: str, given: Any) -> int:
 
 
 def raw(name: str, given: Any, kind: str = "bytes") -> bytes:
-    """Its bytes. (A number has none, though bytes() would make zeros of it.)"""
+    """Its bytes. (A number has none, though bytes() would make zeros from it.)"""
     try:
         return bytes(memoryview(given))
     except TypeError:

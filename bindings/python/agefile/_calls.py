@@ -13,7 +13,7 @@ class Inside(RuntimeError):
 
 class OneCall:
     """Lets one call at a time work on a file, as BufferedWriter does: other threads wait, and a call from inside another one, such as a
-    signal handler's, is refused. (Its thread may take the lock again: with another kind it would wait for itself.)"""
+    signal handler's, is refused. (Its thread may take the lock again; with another kind of lock it would wait for itself.)"""
 
     def __init__(self) -> None:
         self.lock, self._busy = threading.RLock(), False

@@ -14,9 +14,9 @@ KEPT = 16  # blocks whose room is kept from call to call: 1 MiB
 
 
 class AgeFile(AgeReader):
-    """The text of an age file that can be sought in, in constant time. When it is opened its last chunk is, by which the length of the
-    text is checked; each byte that is read is checked then. The file's own place is set before each read, so that it may be moved in
-    between, by another reader of it, say."""
+    """The plaintext of a seekable age file, in which a seek takes constant time. When it is opened, so is its last chunk, by which the
+    length of the plaintext is checked; each byte that is read is checked then. The file's own position is set before each read, so
+    that another reader, say, may move it in between."""
 
     def __init__(self, file: Any, *words: Any, **more: Any) -> None:
         super().__init__(file, *words, **more)
@@ -31,11 +31,11 @@ class AgeFile(AgeReader):
 
     @property
     def size(self) -> int:
-        """The length of the text, which was checked when the file was opened."""
+        """The length of the plaintext, which was checked when the file was opened."""
         return self._size
 
     def _measure(self) -> None:
-        """Finds the last chunk by the length of the file, and the length of the text by that chunk, which proves it."""
+        """Finds the last chunk by the length of the file, and the length of the plaintext by that chunk, which proves it."""
         size, last = ctypes.c_uint64(), ctypes.c_uint64()
         self._file.seek(0, io.SEEK_END)
         payload = max(0, self._file.tell() - self._payload_at)
@@ -46,11 +46,11 @@ class AgeFile(AgeReader):
         self._size = self._last * CHUNK + len(self._text_of(self._last))
 
     def _text_of(self, number: int) -> bytes:
-        """The text of a chunk."""
+        """The plaintext of a chunk."""
         return bytes(self._room.text.view[:self._open_chunk(number)])
 
     def _open_chunk(self, number: int, out: memoryview | None = None) -> int:
-        """Opens a chunk, as the last one if it is that, into the room or another one: how long its text is."""
+        """Opens a chunk, as the last one if it is that, into the room or another one: how long its plaintext is."""
         self._fault = OSError(LOST)
         block, have = self._read_block(number)
         ended = self._opened(have, out, block, number)
@@ -61,7 +61,7 @@ class AgeFile(AgeReader):
         return count
 
     def _read_block(self, number: int) -> tuple[Any, int]:
-        """Reads a block, or what there is of it: where it lies, and how long it is. If the call needs the next ones too, they are read with
+        """Reads a block, or what exists of it: where it is, and how long it is. If the call needs the next ones too, they are read with
         it."""
         ahead = self._ahead
         if ahead is None or not ahead[0] <= number < ahead[1]:
@@ -91,7 +91,7 @@ class AgeFile(AgeReader):
         return count
 
     def _reads(self, call: Any, word: Any, wanted: int) -> Any:
-        """Makes a call that wants so many bytes."""
+        """Makes a call that needs this many bytes."""
         try:
             self._until = min((self._place() + wanted - 1) // CHUNK, self._last) + 1
             return call(word)
@@ -110,7 +110,7 @@ class AgeFile(AgeReader):
         return place % CHUNK == 0 and place < self._size
 
     def _next_into(self, out: memoryview) -> int:
-        """Opens the next chunk, and those after it that the call needs and that have room."""
+        """Opens the next chunk, and those after it that the call needs and that fit."""
         first = self._place() // CHUNK
         count = self._open_chunk(first, out)
         for number in range(first + 1, min(self._until, first + len(out) // CHUNK)):
@@ -119,7 +119,7 @@ class AgeFile(AgeReader):
         return count
 
     def _find(self, place: int) -> None:
-        """Opens the chunk of that place, and stands there."""
+        """Opens the chunk of that place, and goes there."""
         if place >= self._size:
             self._stand(self._size)
         else:

@@ -1,4 +1,4 @@
-"""What an age file says of itself, before a key is asked for."""
+"""What an age file says about itself, before a key is asked for."""
 from __future__ import annotations
 
 import builtins
@@ -23,15 +23,15 @@ class Stanza(NamedTuple):
 
 
 class Inspection(NamedTuple):
-    """What a file says of itself. Only a key can show whether that is true."""
+    """What a file says about itself. Only a key can show whether that is true."""
     stanzas: list[Stanza]
     work: int | None  # the work factor, if it is for a passphrase
     header_size: int  # in bytes
 
 
 def inspect(file: Any) -> Inspection:
-    """What the header of an age file says, which is a path or a binary file object. That stands again where it stood, if it can be
-    sought in. A header that isn't well-formed is an AgeError, as it is for `open`."""
+    """What the header of an age file (a path or a binary file object) says. A file object is left where it was, if it is seekable.
+    A header that isn't well-formed is an AgeError, as it is for `open`."""
     if isinstance(file, (str, bytes, os.PathLike)):
         with builtins.open(file, "rb", buffering=0) as under:
             return _inspected(bytes(header_of(under, _parsed, False, ReaderState())))
@@ -59,7 +59,7 @@ def report_of(file: Any) -> str:
 
 
 def _told(front: Any, _: ReaderState) -> int:
-    """What the library says of a header that may end the file."""
+    """What the library says about a header that may end the file."""
     size, count, work = ctypes.c_size_t(), ctypes.c_size_t(), ctypes.c_uint32()
     answer: int = C.age_c_header(*Bytes(front).given, size, count, work)
     return answer
@@ -73,13 +73,13 @@ def _plain(header: int, size: int) -> int | str:
 
 
 def _parsed(front: Any, _: ReaderState) -> int:
-    """What the library says of a header, but that no key was given."""
+    """What the library says about a header, except that no key was given."""
     answer: int = C.age_c_open_key(*Bytes(front).given, *Bytes(KEY).given, ReaderState())
     return 0 if answer == MAC_MISMATCH else answer
 
 
 def _inspected(front: bytes) -> Inspection:
-    """The same of the bytes that a file with a well-formed header begins with."""
+    """The same for the bytes that a file with a well-formed header begins with."""
     told = told_of(front)
     words = [args.decode().split(" ") for args, _ in told.stanzas]
     return Inspection([Stanza(it[0], it[1:]) for it in words], told.work or None, told.size)

@@ -1,5 +1,5 @@
-"""The keys of age-keygen. What is here is outside the proof: it decodes a key and computes the shared secrets of a header's X25519
-stanzas. Whether one of these opens the header is for the proved library to say."""
+"""The keys of age-keygen. This module is outside the proof: it decodes a key and computes the shared secrets of a header's X25519
+stanzas. The proved library says whether one of them opens the header."""
 from __future__ import annotations
 
 import base64
@@ -13,7 +13,8 @@ from ._stanzas import base64_of, told_of
 Pair = Tuple[bytes, bytes]  # a shared secret, and the recipient that it is for
 
 WRONG_KEY = 13
-# How many pairs of a key and a stanza are tried: about a second. A header has room for 10,699 such stanzas, so one key is tried on each.
+# How many pairs of a key and a stanza are tried: about a second. A header has room for 10,699 such stanzas, so that one key is tried on
+# each.
 TRIES = 16_384
 TRIES_BY_OPENSSL = 64  # each of which takes a process
 NOTHING = bytes([1]) * 32, bytes(32)
@@ -46,7 +47,7 @@ def _checksum(values: Iterable[int]) -> int:
 
 
 def _joined(values: list[int]) -> bytes:
-    """The bytes of groups of 5 bits. What is left at the end are fewer than 5 zeros."""
+    """The bytes of groups of 5 bits. Fewer than 5 zeros are left at the end."""
     number, bits = 0, 5 * len(values)
     for it in values:
         number = number << 5 | it
@@ -114,7 +115,7 @@ def x25519_of(secret: bytes) -> Callable[[bytes], bytes]:
 
 
 def by_openssl(secret: bytes, point: bytes) -> bytes:
-    """The same by `openssl pkeyutl`. The keys lie in memory alone, as DER (RFC 8410)."""
+    """The same by `openssl pkeyutl`. The keys are only in memory, as DER (RFC 8410)."""
     import subprocess  # (here, since all others start sooner without it)
 
     files = []
@@ -170,13 +171,13 @@ def opening(identities: list[str]) -> Opened:
 
 
 def tried(identities: list[str], front: bytes, state: ReaderState) -> tuple[int, Pair]:
-    """What the bytes that a file begins with answer to these keys, and the pair that was tried last: the one that opened it, if one
-    did. The first pair opens nothing: by it the library says what is wrong with the header, or that it isn't complete."""
+    """What the bytes that a file begins with answer to these keys, and the pair that was tried last, which opened it if one did.
+    The first pair opens nothing; by it the library says what is wrong with the header, or that it isn't complete."""
     pair, answer = NOTHING, by_shared(NOTHING, front, state)
     if answer == WRONG_KEY:
         for pair, alone in _pairs(identities, bytes(front)):
-            # A pair opens no stanza but its own. So a header of that one says whether the whole is worth a try, or the time would grow
-            # with the square of the number of stanzas.
+            # A pair opens no stanza but its own. So a header with only that stanza shows whether the complete header is worth a try;
+            # otherwise the time would grow with the square of the number of stanzas.
             if by_shared(pair, alone, ReaderState()) != WRONG_KEY:
                 answer = by_shared(pair, front, state)
                 if answer != WRONG_KEY:

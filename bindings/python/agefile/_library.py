@@ -45,7 +45,7 @@ class WrongKey(AgeError):
 
 class TooManyStanzas(WrongKey):
     """None of the first `tries` pairs of an identity and an X25519 stanza opens the file (13), and there are more. They aren't tried, since
-    a stranger's header may have ten thousand. Without the package cryptography each pair starts a process, and fewer are."""
+    a stranger's header may have ten thousand. Without the package cryptography each pair starts a process, and fewer are tried."""
 
     def __init__(self, tries: int) -> None:
         super().__init__(13)
@@ -56,12 +56,12 @@ class TooManyStanzas(WrongKey):
 
 
 class Truncated(AgeError):
-    """The file ends too early: in its header (254), before a chunk (20), or in the first bytes of one (18). Most files that were cut end
-    later in a chunk. That can't be told from damage: it is Damaged."""
+    """The file ends too early: in its header (254), before a chunk (20), or in the first bytes of one (18). Most truncated files end
+    later in a chunk, which can't be told from damage: that is Damaged."""
 
 
 class Damaged(AgeError):
-    """The file was cut in a chunk, or isn't as its writer left it, or no age program writes such a file."""
+    """The file was truncated in a chunk, or isn't as its writer left it, or no age program writes such a file."""
 
 
 class OutOfMemory(AgeError, MemoryError):
@@ -94,7 +94,7 @@ def fault_of(number: int, place: int | None = None) -> AgeError:
 
 
 def again(fault: Exception) -> Exception:
-    """The same once more. (One that was raised holds what its callers held.)"""
+    """A copy of it. (An exception that was raised keeps alive what its callers held.)"""
     return type(fault)(*fault.args)
 
 
@@ -125,8 +125,8 @@ class WriteStreamState(ctypes.Structure):
 
 
 def _found() -> str:
-    """The library's file: the one that AGE_C_LIBRARY names, else the one beside this package or in it, else that of a release or of
-    `bindings/build` in whose folders it is, else one that the loader finds."""
+    """The library's file: the one that AGE_C_LIBRARY names, else the one beside this package or in it, else that of the release or
+    of `bindings/build` in whose folders it is, else one that the loader finds."""
     package = pathlib.Path(__file__).resolve().parent
     places = [it / name for it in (package, package.parent) for name in ("libage_c.so", "libage_c.so.0")]
     if package.parts[-3:-1] == ("share", "age_tool"):
@@ -138,7 +138,7 @@ def _found() -> str:
 
 
 def fits(version: int) -> bool:
-    """Whether a library of this version does what the one did that this module was made with: a later 1.x of it does."""
+    """Whether a library of this version does what the one that this module was made with did: a later 1.x does."""
     return VERSION <= version and version // 10_000 == VERSION // 10_000
 
 
@@ -186,7 +186,7 @@ C = _library()
 
 
 class Bytes:
-    """Bytes that C reads or writes. Their place is never null, and lives as long as what it is passed to."""
+    """Bytes that C reads or writes. Their address is never null, and stays valid as long as what it is passed to."""
 
     def __init__(self, given: Any) -> None:
         self.held = bytearray(given)
@@ -205,8 +205,8 @@ def wipe(*held: Any) -> None:
 
 
 class Room:
-    """A block, a chunk's text, and the number of bytes that a call wrote: one object's own. Nothing that changes is shared by two objects:
-    while C works on it other threads run, and may do anything with what is theirs."""
+    """A block, a chunk's plaintext, and the number of bytes that a call wrote: one object's own. No two objects share anything that
+    changes: while C works on it other threads run, and may do anything with their own."""
 
     def __init__(self) -> None:
         self.block, self.text, self.count = Bytes(BLOCK), Bytes(CHUNK), ctypes.c_size_t()

@@ -13,7 +13,7 @@ from ._writer import AgeWriter
 
 
 def encrypt(text: Buffer, *, passphrase: str | Buffer | None = None, recipient: str | Iterable[str] | None = None, work: int = 18) -> bytes:
-    """The age file of a text that is in memory, under a passphrase or for recipients."""
+    """The age file of a plaintext in memory, under a passphrase or for recipients."""
     out = io.BytesIO()
     with AgeWriter(out, beginning_of(passphrase, recipient, work)) as file:
         file.write(text)
@@ -23,7 +23,7 @@ def encrypt(text: Buffer, *, passphrase: str | Buffer | None = None, recipient: 
 def decrypt(data: Buffer, *, passphrase: str | Buffer | None = None, file_key: Buffer | None = None,
             shared: tuple[Buffer, Buffer] | None = None, identity: str | Iterable[str] | None = None, max_work: int = 22,
             workers: int = 1) -> bytes:
-    """The text of an age file that is in memory: all of it, or an exception. Several workers are threads that decrypt parts of it."""
+    """The plaintext of an age file in memory: all of it, or an exception. Several workers are threads that decrypt parts of it."""
     if worker_count(workers) > 1:
         held = bytes(data)
         with AgeFile(io.BytesIO(held), passphrase, file_key, shared, max_work, identity=identity) as first:

@@ -1,4 +1,4 @@
-"""Files that a run writes: it alone, and until they have reached the disk."""
+"""Files that only this run writes, until they have reached the disk."""
 from __future__ import annotations
 
 import builtins
@@ -10,14 +10,15 @@ import stat
 from typing import Any, Iterator
 
 
-# What a file system answers that has no locks. One whose locks fail, as a network's whose server is away, answers something else.
+# What a file system without locks answers. One whose locks fail, such as a network's whose server is down, answers something
+# else.
 _NO_LOCKS = (errno.EINVAL, errno.ENOSYS, errno.EOPNOTSUPP, errno.ENOLCK)
 # As the folder of an absolute path: with one, os.link follows a link, such as that of a file without a name.
 _NO_FOLDER = 0
 
 
 def new_name(path: Any) -> Any:
-    """The path, if nothing is there yet, so that what is made there has a name that isn't on the disk."""
+    """The path, if nothing exists there yet, so that what is created there has a name that isn't on the disk."""
     return None if os.path.exists(path) else path
 
 
@@ -31,14 +32,14 @@ def lock(descriptor: int, path: Any) -> None:
     except OSError as fault:
         if fault.errno not in _NO_LOCKS:
             raise OSError(fault.errno, fault.strerror, path) from None
-    # (who held it may have put another file there, or removed it, before it let go)
+    # (the run that held it may have put another file there, or removed it, before it let go)
     if not os.path.samestat(os.fstat(descriptor), os.stat(path)):
         raise OSError(errno.EBUSY, "another program replaced it meanwhile", path)
 
 
 def opened_alone(path: Any, is_new: bool) -> Any:
-    """The file at a path, which this run alone writes, from its beginning; with `is_new`, only if there was none. What a regular file holds
-    stays until it is locked."""
+    """The file at a path, which only this run writes, from its beginning; with `is_new`, only if it didn't exist. A regular file is
+    unchanged until it is locked."""
     how = os.O_WRONLY | os.O_CREAT | (os.O_EXCL if is_new else 0)
     file = builtins.open(path, "wb", opener=lambda name, _: os.open(name, how | os.O_CLOEXEC, 0o666))
     try:
@@ -74,9 +75,9 @@ def _sync(descriptor: int) -> None:
 
 @contextlib.contextmanager
 def replacing(out: str, is_new: bool) -> Iterator[Any]:
-    """A file that gets this name once all of it is written, and on the disk: until then what is there stays. With `is_new` it has to be a
-    name that nothing has. A run that is killed leaves no file, if the file system has files without a name; else it leaves
-    OUT.agefile-part, which the next run writes anew."""
+    """A file that gets this name once all of it is written, and on the disk; until then an existing file is unchanged. With `is_new`
+    nothing may have the name. A run that is killed leaves no file, if the file system has files without a name; else it leaves
+    OUT.agefile-part, which the next run rewrites."""
     with contextlib.ExitStack() as held:
         mode = _locked(out, held)
         nameless = _without_name(os.path.dirname(out))
@@ -103,7 +104,7 @@ def replacing(out: str, is_new: bool) -> Iterator[Any]:
 
 
 def _locked(path: str, held: contextlib.ExitStack) -> int | None:
-    """Locks the file at a path until the end, if there is one: its mode."""
+    """Locks the file at a path, if it exists, until the end; returns its mode."""
     try:
         old = os.open(path, os.O_RDONLY | os.O_NONBLOCK | os.O_CLOEXEC)
     except FileNotFoundError:
@@ -116,7 +117,7 @@ def _locked(path: str, held: contextlib.ExitStack) -> int | None:
 
 
 def _without_name(folder: str) -> int | None:
-    """A new file in a folder, without a name, if the file system can do that, and there is a way to name it later."""
+    """A new file in a folder, without a name, if the file system can do that, and it can be named later."""
     try:
         os.stat("/proc/self/fd")
         return os.open(folder, os.O_WRONLY | os.O_TMPFILE | os.O_CLOEXEC, 0o666)
@@ -125,7 +126,7 @@ def _without_name(folder: str) -> int | None:
 
 
 def _name(file: str, path: str) -> None:
-    """Gives a file a name, if nothing has it by now."""
+    """Gives a file a name, if nothing has it yet."""
     try:
         os.link(file, path, src_dir_fd=_NO_FOLDER)
     except FileExistsError as fault:
@@ -133,7 +134,7 @@ def _name(file: str, path: str) -> None:
 
 
 def _left_by_a_run(part: str) -> int:
-    """The file of that name, which a run that was killed may have left: this user's, that no run is writing, and empty now."""
+    """The file of that name, which a killed run may have left: this user's, that no run is writing, and empty now."""
     descriptor = os.open(part, os.O_WRONLY | os.O_CREAT | os.O_NOFOLLOW | os.O_NONBLOCK | os.O_CLOEXEC, 0o666)
     try:
         found = os.fstat(descriptor)

@@ -1,4 +1,4 @@
-"""A position that age_tool saved (docs/FORMAT.md), and the text that it stands after."""
+"""A position that age_tool saved (docs/FORMAT.md), and the plaintext before it."""
 from __future__ import annotations
 
 import base64
@@ -18,7 +18,7 @@ CHUNKS_MAX = 2**48  # a position has fewer
 
 
 class Position(NamedTuple):
-    """How many chunks of a text were written whole, which file it is of, what these chunks are, and what the file key says of all that."""
+    """How many chunks of a plaintext were fully written, for which file, what these chunks are, and what the file key says about all that."""
     chunks: int
     file: bytes
     chain: bytes
@@ -34,7 +34,7 @@ class Position(NamedTuple):
         return Position(int(found[2]), file, chain, tag, found[1])
 
     def see(self, file: AgeFile, front: bytes) -> None:
-        """Refuses a file that the position isn't of, by what it begins with up to its payload, and a position that isn't as it was saved."""
+        """Refuses a file that the position isn't for, by its beginning up to its payload, and a position that isn't as it was saved."""
         if not hmac.compare_digest(self.file, hashlib.sha256(front).digest()):
             raise ValueError("the position is of another file (24 OtherFile)")
         key = hkdf(bytes(file._state.file_key), bytes(file._state.nonce), b"age-tool position v2")
@@ -44,7 +44,7 @@ class Position(NamedTuple):
             raise ValueError("the file ends before the position (20 Truncated)")
 
     def old_text(self, old: Any) -> Iterator[bytes]:
-        """The chunks of the old text, which are the writer's only if no exception comes after them."""
+        """The chunks of the earlier output, which are the writer's only if no exception comes after them."""
         room, chain = memoryview(bytearray(CHUNK)), bytes(32)
         for _ in range(self.chunks):
             if filled(old, room) < CHUNK:

@@ -17,7 +17,7 @@ LOST = "a call failed or was interrupted, so that bytes are lost"
 
 
 class Decryptor:
-    """Decrypts a file whose bytes come from a caller, as those of an upload do in an asynchronous server, where there is nothing to read:
+    """Decrypts a file whose bytes come from a caller, such as those of an upload in an asynchronous server, where there is nothing to read:
 
         with agefile.Decryptor(passphrase="correct horse") as text:
             async for piece in request.stream():
@@ -25,8 +25,9 @@ class Decryptor:
             out.write(text.finish())  # the text is whole only if this returned
 
     The key is one of those that `open` takes. The update() that completes the header takes the time of the passphrase: give it to
-    asyncio.to_thread; `opened` says whether it was. The text before a damaged chunk is returned before the fault, which each later call
-    raises again. finish() and close(), which `with` calls, overwrite the file key and the text that is held."""
+    asyncio.to_thread; `opened` says whether the header is open. The plaintext before a damaged chunk is returned before the fault,
+    which each later call raises again. finish() and close(), which `with` calls, overwrite the file key and the plaintext that is
+    held."""
 
     def __init__(self, *, passphrase: str | Buffer | None = None, file_key: Buffer | None = None, shared: tuple[Buffer, Buffer] | None = None,
                  identity: str | Iterable[str] | None = None, max_work: int = 22) -> None:
@@ -37,7 +38,7 @@ class Decryptor:
         self.opened = False
 
     def update(self, data: Any, /) -> bytes:
-        """The text of the chunks that these bytes complete. b"" isn't the end."""
+        """The plaintext of the chunks that these bytes complete. b"" isn't the end."""
         view = memoryview(data).cast("B")
         try:
             return self._calls.make(self._update, view)
@@ -48,7 +49,7 @@ class Decryptor:
             raise
 
     def finish(self) -> bytes:
-        """The rest of the text, which is whole now: there are no more bytes."""
+        """The rest of the plaintext, which is complete now: there are no more bytes."""
         try:
             return self._calls.make(self._finish)
         except Inside:
@@ -58,7 +59,7 @@ class Decryptor:
             raise
 
     def close(self) -> None:
-        """Overwrites the file key and the text that is held, also of a file that wasn't decrypted to its end. Each later call is refused."""
+        """Overwrites the file key and the plaintext that is held, even if the file wasn't decrypted to its end. Each later call is refused."""
         self._calls.make(self._close)
 
     def __enter__(self: Decrypting) -> Decrypting:
@@ -79,7 +80,7 @@ class Decryptor:
         self._room.wipe()
 
     def _begin(self) -> None:
-        """What an exception ends isn't gone on with."""
+        """A call that an exception ends isn't continued."""
         if self._fault is not None:
             raise again(self._fault)
         self._fault = OSError(LOST)
@@ -116,7 +117,7 @@ class Decryptor:
         return may_open(self._held, seen) and self._try_header(False)
 
     def _try_header(self, is_all: bool) -> bool:
-        """Opens the header, if it is complete: it has to be if these are all bytes."""
+        """Opens the header, if it is complete, as it must be if these are all bytes."""
         try:
             answer = self._open(bytes(self._held[:FRONT_MAX]), self._state)
         except AgeError as fault:
@@ -166,7 +167,7 @@ class _Pieces:
 
 
 class Encryptor:
-    """Encrypts a text that comes in pieces, and returns the file in pieces:
+    """Encrypts a plaintext that comes in pieces, and returns the file in pieces:
 
         with agefile.Encryptor(passphrase="correct horse") as file:
             async for piece in pieces:
@@ -174,7 +175,7 @@ class Encryptor:
             await response.write(file.finish())  # without it every reader refuses the file
 
     The key is a passphrase or a recipient, as for `open`. In a forked child, and after a call that an exception ended, each call is
-    refused. finish() and close(), which `with` calls, overwrite the file key and the text that is held."""
+    refused. finish() and close(), which `with` calls, overwrite the file key and the plaintext that is held."""
 
     def __init__(self, *, passphrase: str | Buffer | None = None, recipient: str | Iterable[str] | None = None, work: int = 18) -> None:
         self._calls, self._out = OneCall(), _Pieces()
@@ -192,7 +193,7 @@ class Encryptor:
             raise
 
     def finish(self) -> bytes:
-        """The rest of the file, which is whole with it."""
+        """The rest of the file, which completes it."""
         if self._writer.closed:
             raise ValueError("finish() was called, or the file can't be finished")
         try:
@@ -204,7 +205,7 @@ class Encryptor:
             raise
 
     def close(self) -> None:
-        """Overwrites the file key and the text that is held. A file that wasn't finished stays so: every reader refuses it."""
+        """Overwrites the file key and the plaintext that is held. A file that wasn't finished stays unfinished: every reader refuses it."""
         self._calls.make(self._writer.abandon)
 
     def __enter__(self: Encrypting) -> Encrypting:

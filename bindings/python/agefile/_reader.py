@@ -49,7 +49,7 @@ def header_of(file: Any, opened: Opened, by_key: bool, state: ReaderState) -> by
 
 
 def _some(file: Any, most: int) -> Any:
-    """As many bytes as there are, at most this many. (What read1 doesn't find may be the end, or not there yet: read() says which.)"""
+    """As many bytes as there are, at most this many. (If read1 finds none, it may be the end, or they may not have come yet: read() says which.)"""
     read1 = getattr(file, "read1", None)
     return (checked(read_by(read1, most), most) if read1 is not None else None) or some(file, most)
 
@@ -72,7 +72,7 @@ WholeChunk = ctypes.c_uint8 * CHUNK
 
 
 class Held(NamedTuple):
-    """The text of a chunk."""
+    """The plaintext of a chunk."""
     begin: int  # where in the file's text
     size: int
     text: io.BytesIO  # it stands where the file does
@@ -84,10 +84,11 @@ LOST = "a read of this file failed or was interrupted, so that bytes may be lost
 
 
 class AgeReader(Buffered):
-    """The text of an age file. After a read that fails, for whatever reason, each one fails, until a seek: who called may have lost bytes.
+    """The plaintext of an age file. After a read that fails, for whatever reason, each one fails, until a seek: the caller may have lost bytes.
 
-    What is held is the text of one chunk, where it begins and how long it is: one value, since an exception of a signal's handler may come
-    between any two (in Python 3.9 also between those that one statement sets). Where the file stands is how much of that text was read."""
+    What is held is the plaintext of one chunk, where it begins and how long it is: one value, since an exception of a signal's handler may
+    come between any two (in Python 3.9 also between those that one statement sets). The file's position is how much of that plaintext was
+    read."""
 
     def __init__(self, file: Any, passphrase: str | Buffer | None = None, file_key: Buffer | None = None,
                  shared: tuple[Buffer, Buffer] | None = None, max_work: int = 22, owned: bool = False,
@@ -112,26 +113,26 @@ class AgeReader(Buffered):
         return held.begin + held.text.tell()
 
     def _hold(self, begin: int, text: bytes) -> None:
-        """Holds a text that begins there."""
+        """Holds a plaintext that begins there."""
         self._held = Held(begin, len(text), io.BytesIO(text))
 
     def _stand(self, place: int) -> None:
-        """Holds nothing, and stands there."""
+        """Holds nothing, and goes there."""
         self._held = Held(place, 0, io.BytesIO())
 
     def _left(self) -> int:
-        """How many bytes are held after the place where the file stands."""
+        """How many bytes are held after the file's position."""
         held = self._held
         return held.size - held.text.tell()
 
     def _has_more(self) -> bool:
-        """Whether there is a byte where the file stands: if none is held, the next chunk is opened."""
+        """Whether there is a byte at the file's position: if none is held, the next chunk is opened."""
         if self._left() == 0:
             self._find(self._place())
         return self._left() > 0
 
     def _find(self, place: int) -> None:
-        """Opens chunks up to that place, or the end, and stands there."""
+        """Opens chunks up to that place, or the end, and goes there."""
         if self._fault is not None or place < self._next_at:
             self._rewind()
         while place >= self._next_at and not self._ended:
@@ -151,8 +152,8 @@ class AgeReader(Buffered):
         self._fault = None
 
     def _next_into(self, out: memoryview) -> int:
-        """Opens the next chunk into room for a whole one, and stands after it: how long its text is. None is held, and the library's
-        next one is where the file stands."""
+        """Opens the next chunk into room for a full one, and goes after it; returns how long its plaintext is. None is held, and the
+        library's next one is at the file's position."""
         ended, count = self._open_next(out), self._room.count.value
         self._next_at += count
         self._stand(self._next_at)
@@ -169,8 +170,8 @@ class AgeReader(Buffered):
         return self._opened(filled(self._file, block, have), out)
 
     def _opened(self, have: int, out: memoryview | None = None, block: Any = None, number: int | None = None) -> bool:
-        """Opens a block, or what is left at the end, of the room or another place, into the room or another one: the next one, or the one
-        of that number. Whether it is the end."""
+        """Opens a block, or what is left at the end, from the room or elsewhere, into the room or elsewhere: the next one, or the one of
+        that number. Returns whether it is the end."""
         room, ended = self._room, have < BLOCK
         text = room.text.given if out is None else (WholeChunk.from_buffer(out), CHUNK)
         given = room.block.place if block is None else block, have, *text, room.count
@@ -195,7 +196,7 @@ class AgeReader(Buffered):
         self._fault = None
 
     def _to_chunk(self, chunk: int) -> None:
-        """What the library opens next is that chunk."""
+        """The library opens that chunk next."""
         answer = C.age_c_seek(self._state, chunk)
         if answer != 0:
             raise fault_of(answer)
@@ -213,13 +214,13 @@ class AgeReader(Buffered):
             raise again(self._fault or OSError(LOST))
 
     def _lose(self, begin: int = 0, at: int = -1) -> None:
-        """A read failed that began there in the chunk that begins there: the file stands there again, and isn't read until a seek."""
+        """A read that began there, in the chunk that begins there, failed: the file is there again, and isn't read until a seek."""
         if at >= 0 and not self.closed:
             self._lost = True
             self._stand(begin + at)
 
     def _reading(self, mark: list[int], call: Any, *words: Any) -> Any:
-        """Makes a call that reads, and notes where it begins. (Who calls it restores the place after an exception, and not this: one may
+        """Makes a call that reads, and notes where it begins. (The caller restores the place after an exception, not this, since one may
         come when this returns.)"""
         with self._calls.lock:
             held = self._held
@@ -257,7 +258,7 @@ class AgeReader(Buffered):
         return got.getvalue()
 
     def read1(self, size: int = -1, /) -> bytes:
-        """What is left of a chunk, at most this many bytes: all of the text before a chunk that is damaged."""
+        """What is left of a chunk, at most this many bytes: all of the plaintext before a damaged chunk."""
         size, mark = operator.index(size), list[int]()
         try:
             got: bytes = self._reading(mark, self._read1, size)
@@ -304,17 +305,17 @@ class AgeReader(Buffered):
         return count
 
     def _some_into(self, room: memoryview) -> int:
-        """Reads into room for a byte at least: 0 at the end."""
+        """Reads into room for at least one byte; returns 0 at the end."""
         if len(room) >= CHUNK and self._left() == 0 and self._can_open_into():
             return self._next_into(room)
         return self._held.text.readinto(room) if self._has_more() else 0
 
     def _can_open_into(self) -> bool:
-        """Whether the next chunk begins where the file stands, so that it needn't be held."""
+        """Whether the next chunk begins at the file's position, so that it needn't be held."""
         return self._fault is None and not self._ended and self._place() == self._next_at
 
     def peek(self, size: int = 0, /) -> bytes:
-        """What the next read returns, or the beginning of it. The file stays where it is."""
+        """What the next read returns, or the beginning of it. The file's position doesn't change."""
         size, mark = operator.index(size), list[int]()
         try:
             got: bytes = self._reading(mark, self._peek, size)
@@ -378,8 +379,8 @@ class AgeReader(Buffered):
         return self._can_seek
 
     def seek(self, offset: int, whence: int = io.SEEK_SET) -> int:
-        """Reads on to that place, or from the beginning if it lies before. Nothing is skipped unchecked. A place after the end is the
-        end. A seek that fails leaves the file where it stood."""
+        """Reads on to that place, or from the beginning if it is before. Nothing is skipped unchecked. A place after the end is the
+        end. A seek that fails leaves the file where it was."""
         if whence not in (io.SEEK_SET, io.SEEK_CUR, io.SEEK_END):
             raise ValueError(f"bad whence {whence!r}")
         offset = operator.index(offset)
@@ -443,7 +444,7 @@ class AgeReader(Buffered):
         return "rb"
 
     def reopen(self: Reader, file: Any) -> Reader:
-        """Another reader of the same age file, over a file object of its own, for another thread, say. It needs no key, and no scrypt."""
+        """Another reader of the same age file, over another file object, for another thread, say. It needs no key, and no scrypt."""
         self._see_open()
         return type(self)(file, file_key=bytes(self._state.file_key))
 
@@ -451,7 +452,7 @@ class AgeReader(Buffered):
         raise TypeError(f"cannot pickle or copy an open {type(self).__name__}")
 
     def close(self) -> None:
-        """Closes the file if `open` opened it, and overwrites the key and the text that is held."""
+        """Closes the file if `open` opened it, and overwrites the key and the plaintext that is held."""
         self._calls.make(self._close)
 
     def _close(self) -> None:

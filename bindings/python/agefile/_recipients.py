@@ -1,6 +1,6 @@
-"""Files for recipients, whose keys age-keygen makes. What is here is outside the proof: it decodes the recipients and makes their stanzas
-(https://c2sp.org/age). The proved library opens each stanza by its secret before any of them is written: so what is left to trust is which
-share and which secret X25519 gives."""
+"""Files for recipients, whose keys age-keygen makes. This module is outside the proof: it decodes the recipients and makes their stanzas
+(https://c2sp.org/age). The proved library opens each stanza by its secret before any of them is written, so all that is left to trust is
+which share and which secret X25519 gives."""
 from __future__ import annotations
 
 import hmac
@@ -18,7 +18,7 @@ STANZAS_MAX = FRONT_MAX - 16 - 70  # bytes of all stanzas: the rest of a header 
 
 
 def beginning_of(passphrase: str | Buffer | None, recipient: str | Iterable[str] | None, work: int) -> Begun:
-    """A stream, and what stands before the payload, by the one key that is given."""
+    """A stream, and what comes before the payload, by the one key that is given."""
     if passphrase is not None and recipient is not None:
         raise TypeError("give one of passphrase and recipient")
     if passphrase is None and recipient is None:
@@ -28,7 +28,7 @@ def beginning_of(passphrase: str | Buffer | None, recipient: str | Iterable[str]
 
 
 def points_of(recipient: str | Iterable[str]) -> list[bytes]:
-    """The 32 bytes of each recipient that is given. A fault says which one it is, and shows nothing of it: it may be a secret key."""
+    """The 32 bytes of each recipient that is given. A fault says which one it is, and shows nothing of it, since it may be a secret key."""
     found = lines_of("recipient", recipient)
     if not found:
         raise ValueError("recipient has none: one begins with age1")
@@ -70,7 +70,7 @@ def hkdf(secret: bytes, salt: bytes, info: bytes) -> bytes:
 
 
 def begun_for(recipient: str | Iterable[str]) -> Begun:
-    """A stream for these recipients, and what stands before the payload."""
+    """A stream for these recipients, and what comes before the payload."""
     points, random = points_of(recipient), os.urandom(32)  # the file key and the nonce
     made = [stanza_of(it, random[:16]) for it in points]
     stanzas = b"".join(stanza for stanza, _ in made)

@@ -1,4 +1,4 @@
-"""What can be saved of an age file that was damaged or cut: each chunk that still opens, at its place."""
+"""What can be saved of a damaged or truncated age file: each chunk that still opens, at its place."""
 from __future__ import annotations
 
 import builtins
@@ -17,7 +17,7 @@ TAG = 16
 
 
 class Salvage(NamedTuple):
-    """What was saved. Where a chunk didn't open the text has zeros."""
+    """What was saved. Where a chunk didn't open, the plaintext has zeros."""
     size: int  # of the text that was written
     lost: list[tuple[int, int]]  # what is zeros: the first byte, and the byte after the last
     ends: bool  # whether the last chunk opened: else the text may have been longer
@@ -29,7 +29,7 @@ class Salvage(NamedTuple):
 
 
 class _Out:
-    """What is written to, from the first text on: zeros for what was lost, until then and after it."""
+    """What is written to, from the first plaintext on: zeros for what was lost, until then and after it."""
 
     def __init__(self, out: Any, is_new: bool) -> None:
         self._out, self._is_new, self._size = out, is_new, 0
@@ -38,7 +38,7 @@ class _Out:
         self._made = new_name(out) if self._owned else None
 
     def put(self, at: int, text: bytes) -> None:
-        """Writes a text at its place."""
+        """Writes a plaintext at its place."""
         if self._file is None:
             self._file = opened_alone(self._out, self._is_new)
         self.zeros(at)
@@ -61,7 +61,7 @@ class _Out:
 
 
 class _Blocks:
-    """The blocks of a file, in their order. One that can't be read is lost, if the file can be sought in."""
+    """The blocks of a file, in their order. One that can't be read is lost, if the file is seekable."""
 
     def __init__(self, file: Any, rest: bytearray) -> None:
         self._file, self._rest = file, rest
@@ -88,7 +88,7 @@ class _Blocks:
 
 
 def _opened(state: ReaderState, room: Room, number: int, have: int) -> bytes | None:
-    """The text of a block, or of what is left at the end, if it opens at that place."""
+    """The plaintext of a block, or of what is left at the end, if it opens at that place."""
     answer = C.age_c_seek(state, number)
     if answer != 0:
         raise fault_of(answer)
@@ -99,7 +99,7 @@ def _opened(state: ReaderState, room: Room, number: int, have: int) -> bytes | N
 
 
 def _see_apart(file: Any, out: Any) -> None:
-    """Refuses to write over the file that is read."""
+    """Refuses to overwrite the file that is read."""
     try:
         one = isinstance(out, (str, bytes, os.PathLike)) and os.path.samestat(os.fstat(file.fileno()), os.stat(out))
     except (AttributeError, OSError):  # it has no descriptor, or there is no such file yet
@@ -111,10 +111,10 @@ def _see_apart(file: Any, out: Any) -> None:
 def salvage(file: Any, out: Any, *, passphrase: str | Buffer | None = None, file_key: Buffer | None = None,
             shared: tuple[Buffer, Buffer] | None = None, identity: str | Iterable[str] | None = None, max_work: int = 22,
             progress: Callable[[int], None] | None = None, mode: Literal["wb", "xb"] = "wb") -> Salvage:
-    """Writes each chunk of a damaged or cut age file that still opens, at its place, to a path or a binary file object, and zeros for
-    each chunk that doesn't. What is written is authentic: no tag is forged, and no chunk stands in another one's place. The header has to
-    be whole. `out` isn't touched before a chunk opened: a path is opened and locked then, in mode "xb" only if nothing is there by then.
-    `progress` is told the number of chunks after each."""
+    """Writes each chunk of a damaged or truncated age file that still opens, at its place, to a path or a binary file object, and zeros
+    for each chunk that doesn't. What is written is authentic: no tag is forged, and no chunk is in another one's place. The header must
+    be complete. `out` isn't touched before a chunk has opened: a path is opened and locked then, in mode "xb" only if it doesn't exist by
+    then. `progress` is told the number of chunks after each."""
     if mode not in ("wb", "xb"):
         raise ValueError(f"mode is 'wb' or 'xb', not {mode!r}")
     opened = opening_of(passphrase, file_key, shared, identity, max_work)

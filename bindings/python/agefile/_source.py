@@ -1,4 +1,4 @@
-"""Bytes of a file, and into one, that may not block: None isn't its end."""
+"""Bytes from a file, or into one, that may not block: None isn't its end."""
 from __future__ import annotations
 
 import errno
@@ -18,8 +18,8 @@ def wait(file: Any, event: int = select.POLLIN) -> None:
 
 
 def read_by(call: Any, word: Any) -> Any:
-    """What a call of a source returns. One that was cut off itself, as a gzip file, raises EOFError, which a caller of ours would take for
-    the end of the text."""
+    """What a call of a source returns. A source that was truncated itself, such as a gzip file, raises EOFError, which our caller would
+    take for the end of the text."""
     try:
         return call(word)
     except EOFError as fault:
@@ -34,7 +34,7 @@ def some(file: Any, most: int) -> Any:
 
 
 def checked(piece: Any, most: int) -> Any:
-    """What a read returned, if it may: None, or at most this many bytes."""
+    """What a read returned, if that is allowed: None, or at most this many bytes."""
     if piece is None:
         return None
     try:
@@ -48,7 +48,7 @@ def checked(piece: Any, most: int) -> Any:
 
 
 def some_into(file: Any, room: memoryview) -> int:
-    """How many bytes were read into that room: 0 at the end, and nowhere else."""
+    """How many bytes were read into that room: 0 only at the end."""
     into = getattr(file, "readinto", None)
     if into is None:
         piece = some(file, len(room))
@@ -73,13 +73,13 @@ def put(file: Any, out: bytes) -> None:
 
 
 def filled(file: Any, room: memoryview, have: int = 0) -> int:
-    """Reads until the room is full, or the file ends: how many bytes there are then, `have` among them."""
+    """Reads until the room is full, or the file ends; returns how many bytes there are then, `have` included."""
     while have < len(room) and (count := some_into(file, room[have:])):
         have += count
     return have
 
 
 def can_seek(file: Any) -> bool:
-    """Whether a file can be sought in. Some that can, such as an mmap, have no `seekable`."""
+    """Whether a file is seekable. Some that are, such as an mmap, have no `seekable`."""
     seekable = getattr(file, "seekable", None)
     return bool(seekable()) if seekable is not None else hasattr(file, "seek") and hasattr(file, "tell")

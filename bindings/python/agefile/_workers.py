@@ -1,4 +1,4 @@
-"""One file that several threads decrypt, each by a reader of its own."""
+"""One file that several threads decrypt, each with its own reader."""
 from __future__ import annotations
 
 import io
@@ -19,7 +19,7 @@ def worker_count(given: Any) -> int:
 
 
 class Places(io.RawIOBase):
-    """A regular file by its descriptor, with a place of its own: several may read it at a time."""
+    """A regular file by its descriptor, with a position of its own: several may read it at once."""
 
     def __init__(self, descriptor: int) -> None:
         super().__init__()
@@ -53,9 +53,9 @@ def put_at(descriptor: int, at: int, text: memoryview) -> None:
 
 
 def copy_text(first: AgeFile, source: Callable[[], Any], out: Callable[[int, memoryview], None] | memoryview, workers: int) -> None:
-    """Writes the text of a file at its places, or into memory, by so many threads. Each reads a part by a file object that `source` makes, without
-    the work of a passphrase. If one fails, those after it stop, and the fault of the first part that has one is raised: no part before
-    it has any. Only if none is raised the text is whole: the last chunk proved its length when `first` was opened."""
+    """Writes the text of a file at its places, or into memory, with this many threads. Each reads a part by a file object that `source` makes,
+    without the work of a passphrase. If one fails, those after it stop, and the fault of the first part that has one is raised: no part before it
+    has any. The plaintext is complete only if none is raised: the last chunk proved its length when `first` was opened."""
     step = max(1, -(-first.size // (CHUNK * workers))) * CHUNK
     faults: list[BaseException | None] = [None] * workers  # of each thread its own
     over = threading.Event()

@@ -29,7 +29,7 @@ os.register_at_fork(after_in_child=_forked)
 
 
 def begun(call: Any, given: bytes, random: bytes, *work: int) -> Begun:
-    """A stream, and what stands before the payload, by a call that begins a file with these random bytes."""
+    """A stream, and what comes before the payload, by a call that begins a file with these random bytes."""
     stream, out, written = WriteStreamState(), Bytes(len(given) + SEAL_FRONT), ctypes.c_size_t()
     held, taken = Bytes(given), Bytes(random)
     answer = call(*held.given, *work, *taken.given, *out.given, written, stream.writer)
@@ -45,8 +45,9 @@ def begun_under(passphrase: Any, work: int) -> Begun:
 
 
 class AgeWriter(Buffered):
-    """An age file that is being written. It is whole once close() returned; abandon() leaves one that every reader refuses. What is
-    written to is given bytes, which it may keep. In a forked child every call is refused: the file is its parent's."""
+    """An age file that is being written. It is complete once close() has returned; abandon() leaves one that every reader refuses.
+    The file object that is written to gets bytes, which it may keep. In a forked child every call is refused: the file is its
+    parent's."""
 
     def __init__(self, file: Any, begun: Begun, owned: bool = False) -> None:
         super().__init__()
@@ -63,7 +64,7 @@ class AgeWriter(Buffered):
         self._begun = True
 
     def _change(self) -> None:
-        """Begins what changes the file: until it is done, and if an exception ends it, the file can't be finished."""
+        """Begins what changes the file: until it is done, or if an exception ends it, the file can't be finished."""
         if self._failed:
             raise ValueError("a block couldn't be written: the file isn't whole")
         self._failed = True
@@ -148,7 +149,7 @@ class AgeWriter(Buffered):
         return self._count
 
     def flush(self) -> None:
-        """Passes on what is sealed; a chunk that isn't full stays."""
+        """Passes on what is sealed; a chunk that isn't full is kept."""
         if self._over and not self.closed:  # it is being closed
             return
         self._see_open()
@@ -159,7 +160,7 @@ class AgeWriter(Buffered):
             self._file.flush()
 
     def close(self) -> None:
-        """Seals the last chunk, so that the file is whole. If that fails, so does each later close()."""
+        """Seals the last chunk, so that the file is complete. If that fails, so does each later close()."""
         self._calls.make(self._finish)
 
     def _finish(self) -> None:
@@ -179,7 +180,7 @@ class AgeWriter(Buffered):
         self._unfinished = False
 
     def spoil(self) -> None:
-        """Part of the text is lost: the file can't be finished."""
+        """Part of the plaintext is lost: the file can't be finished."""
         self._failed = True
 
     def abandon(self) -> None:

@@ -417,9 +417,9 @@ pub record HasNotBegun (asked : Request) (ending : Ending) (before after : Files
   pub none : PutsOnly [] before after
   pub order : Follows (order_asked asked).done before.events after.events
 
--- What stands before and after a command: `IsPorts` says which are the ports of its files,
--- `Unshown` that the progress is unchanged, and `Progress` what was shown of it, by the name of IN
--- and by how the command ended.
+-- What holds before and after a command: `IsPorts` says which are the ports of its files, `Unshown`
+-- that the progress is unchanged, and `Progress` what was shown of it, by the name of IN and by how
+-- the command ended.
 module _ (IsPorts : Ports → Type 0) (asked : Request) (before after : FilesView) (Unshown : Type 0)
     (Progress : Text → Result (Unit {0}) Ending → Type 0) (ended : Result (Unit {0}) Ending) where
   abbrev OfIts : (Engine → Paths → Type 0) → Type 0

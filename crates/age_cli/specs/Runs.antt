@@ -109,7 +109,7 @@ module _ (words : List Text) (IsPorts : Ports → Type 0) (before after : World)
 
 -- ---- What a run did.
 
--- What stands before and after a run with this status, of its words, and what was put to `faults`.
+-- What holds before and after a run with this status, of its words, and what was put to `faults`.
 -- `Quiet`, `Unread`, `Unprinted` and `Unshown` say that `faults`, the input, the output and the
 -- progress are unchanged, and `Progress` what was shown of the progress.
 pub record Runs (words : List Text) (IsPorts : Ports → Type 0) (before after : World)

@@ -177,8 +177,9 @@ IsPlacedBy (Some m) start settled own position =
     IsSomeAnd position (λ p. (IsMarked m settled p × IfSome start (λ s. s.index ≤ p.index))
     ⊎ ((start ≡ Some p) × (q : Position) × IsMarked m settled q × (q.index < p.index)))
 
--- An engine ran over a source and a sink of the files, and OUT was ended. `end` is how it ended, and
--- `place` has the position that is saved if that isn't whole, and how many bytes are certain.
+-- An engine ran over a source and a sink of the files, and OUT was ended. `end` is how it ended,
+-- and `place` has the position that is saved if that isn't complete, and how many bytes are
+-- certain.
 pub record RunsEngine (IsPorts : Ports → Type 0) (Came : Outcome → Type 0) (engine : Engine) (p : Paths)
     (before : Ports) (old new : FilesView) (Unshown : Type 0) (IsShown : Supply → Supply → Type 0)
     (result : Result (Unit {0}) Ending) : Type 0 where

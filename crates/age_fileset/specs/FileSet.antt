@@ -242,7 +242,7 @@ abbrev pub or_empty : Option (List ℕ) → Option (List ℕ)
 or_empty None = Some []
 or_empty (Some bytes) = Some bytes
 
--- ---- What stands under each name, by what came.
+-- ---- What is stored under each name, by what came.
 
 abbrev pub Files : Type 0
 Files = List ℕ → Option (List ℕ)
@@ -293,9 +293,9 @@ entry_of es q = option_map (λ e. e.bytes) (find (has_name q) es)
 -- these bytes were to be put under a name, in place of its old contents
 pub record PutsEntry {E : Type 0} (name bytes : List ℕ) (result : Result (Unit {0}) E)
     (old new : List MemEntry) : Type 0 where
-  -- They stand there, if it succeeded.
+  -- They are stored there, if it succeeded.
   pub put : OnOk result (entry_of new name ≡ Some bytes)
-  -- What stands under any other name doesn't change.
+  -- What is stored under any other name doesn't change.
   pub others : (q : List ℕ) → q ≢ name → entry_of new q ≡ entry_of old q
   -- Nothing changes at all, if it failed.
   pub err : OnErr result (new ≡ old)
@@ -323,7 +323,7 @@ seen_in shelf = record {
   saved = record { path = None; calls = [] };
 }
 
--- what stands under each name is what came of what was done, which is all true
+-- what is stored under each name is what came of what was done, which is all true
 pub record AreTrue (entries : List MemEntry) (outcomes : List Outcome) : Type 0 where
   pub stand : (q : List ℕ) → entry_of entries q ≡ stands no_files outcomes q
   pub fit : AllFit no_files outcomes

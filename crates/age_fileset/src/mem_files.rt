@@ -205,7 +205,7 @@ impl MemFiles {
         bytes_of(self.entries.as_slice(), name)
     }
 
-    /// A law: what stands under each name is what came of what was done.
+    /// A law: what is stored under each name is what came of what was done.
     pub fn is_kept(&self)
         ensures { AreTrue self.now.entries self.now.outcomes }
     {

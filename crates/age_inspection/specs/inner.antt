@@ -14,7 +14,7 @@ pub record CountsRest (old new : ReaderView) (count : ℕ) : Type 0 where
   pub small : count ≤ pull_room * (2 ^ 63 + 1)
   pub unfailed : new.source.failed ≡ old.source.failed
 
--- the rest could not be read: some bytes came after those that were there, and then no more
+-- the rest couldn't be read: some bytes came after those that had been pulled, and then no more
 pub record RestFails (old new : ReaderView) (fault : FileFault) : Type 0 where
   pub more : (start : Start) (used : List ℕ)
       → Pulled start old.source.supply old.unread.pulls (used ++ old.unread.bytes)

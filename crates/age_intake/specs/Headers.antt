@@ -10,7 +10,7 @@ use Rattle.age_fault.specs.{HasFailed}
 use Rattle.age_fault.specs.declared.fault.FileFault.{FileFault}
 use Rattle.age_fault.specs.declared.fault.FileFault.TheVariants.{Head, Read, Memory, ReadNeverEnds}
 
--- how many bytes one pull gives at most: a chunk's, so that a pull of a text that is encrypted
+-- how many bytes one pull gives at most: a chunk's, so that a pull of a plaintext that is encrypted
 -- fills a chunk
 abbrev pub pull_room : ℕ
 pull_room = chunk_length
@@ -21,7 +21,7 @@ pub record EndsInHeader (bytes : List ℕ) : Type 0 where
   pub no_fault : NoFault bytes
   pub short : length bytes < header_limit
 
--- the bytes end within a header, and were cut there
+-- the bytes end within a header, and were truncated there
 abbrev pub IsCut : List ℕ → HeadFault → Type 0
 IsCut bytes fault = EndsInHeader bytes
     × (fault ≡ record { kind = HeadCut; line = line_after bytes })

@@ -14,7 +14,7 @@ use std::marker::Model;
 /// After this many pulls that gave bytes, a call decides that its sources never end.
 const MOST_PULLS: u64 = 9_223_372_036_854_775_808;
 
-/// How many bytes are pulled at once, at most: a chunk's, so that a pull of a text that is
+/// How many bytes are pulled at once, at most: a chunk's, so that a pull of a plaintext that is
 /// encrypted fills a chunk.
 const PULL_ROOM: usize = CHUNK_LEN;
 

@@ -24,7 +24,7 @@ pub record IsX25519Stanza (s : Stanza) (share body : List ℕ) : Type 0 where
   pub share_length : length share ≡ 32
   pub body_length : length body ≡ 32
 
--- the fault of a stanza that is no valid X25519 stanza
+-- the fault of a stanza that isn't a valid X25519 stanza
 abbrev pub ReadRefuses : Stanza → KeyFault → Type 0
 ReadRefuses s NoMatch = is_x25519 s ≡ false
 ReadRefuses s BadX25519 = (is_x25519 s ≡ true)

@@ -45,8 +45,8 @@ pub fn authentic_runs<U: Unlock>()
     ensures { AuthenticRuns U U.allows }
 {}
 
-/// The fault of a header that an engine reports is the fault of the whole input, even if the engine
-/// read only a part of it.
+/// The fault of a header that an engine reports is the fault of all of the input, even if the
+/// engine read only a part of it.
 pub fn head_faults_stay()
     ensures { HeadFaultsStay }
 {}

@@ -6,8 +6,8 @@ use Rattle.age_position.specs.declared.position.PositionPolicy.TheVariants.{Kept
 
 -- ---- Where a reader may continue within a part of what was written: marks.
 
--- The last of so many chunks that a position is after, if only so many bytes of them are there, is no
--- further before the end of these than four times as far as they are: after all, if all are there.
+-- The last of so many chunks that a position is after, if only so many bytes of them exist, is no
+-- further before the end of these than four times as far as they are: after all, if all exist.
 abbrev pub IsNear : (chunks bytes index : ℕ) → Type 0
 IsNear chunks bytes index = chunks ≤ index + 4 * (chunks - bytes / chunk_length)
 

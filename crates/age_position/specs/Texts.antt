@@ -14,7 +14,7 @@ pub record IsDigest (bytes : List ℕ) : Type 0 where
   pub fits : IsBytes bytes
   pub size : length bytes ≡ 32
 
--- the text is none of a position
+-- the text isn't a position's
 abbrev pub NoPosition : List ℕ → Type 0
 NoPosition words = (p : Position) → IsDigest p.file_id → IsDigest p.chain → IsDigest p.tag
     → words ≢ position_text p

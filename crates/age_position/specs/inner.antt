@@ -34,7 +34,7 @@ SameWriter old new = new.sink.ghost_name ≡ old.sink.ghost_name
 
 -- ---- How the parts of a position's text are spelled. Not of the age format.
 
--- how a text begins that has this index
+-- how a text with this index begins
 abbrev pub index_text : ℕ → List ℕ
 index_text index = codes "age-position/v2 " ++ decimal index
 

@@ -166,8 +166,8 @@ impl<'k, B: ChunkBox, const SEALED: usize> ReplayState<'k, B, SEALED> {
 }
 
 /// Feeds deliveries to an opener, and holds the plaintext that it released. A restart truncates the
-/// plaintext to the chunks before it and makes a new opener. [`drill`](crate::drill) gives a whole
-/// list of deliveries to a new replay.
+/// plaintext to the chunks before it and makes a new opener. [`drill`](crate::drill) gives a
+/// complete list of deliveries to a new replay.
 ///
 /// A contract sees the key, the opener of the current segment, the plaintext that is held and the
 /// number of restarts that were refused. `SEALED` is the length of a full block in bytes, from 17

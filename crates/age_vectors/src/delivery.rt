@@ -66,7 +66,7 @@ pub fn hostile_rows(alloc: Global) -> bool {
 /// What is held of a text, the status, the number of the chunk, and how many restarts were refused.
 type Held<'a> = (&'a [u8], Status, u64, u64);
 
-/// Whether these deliveries leave this, with their pieces whole and byte by byte.
+/// Whether these deliveries leave this, with their pieces unsplit and byte by byte.
 fn leaves<B: ChunkBox>(
     alloc: Global,
     key: &B,

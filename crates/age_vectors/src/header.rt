@@ -1,4 +1,4 @@
-// Headers of the C2SP page's grammar, whole and in single bytes.
+// Headers of the C2SP page's grammar, in one piece and in single bytes.
 ghost use Rattle.std.specs.Prelude.{◌<◌, IsTrue, IfOk, IfErr, take};
 ghost use Rattle.age_stanza.specs.{HeadText};
 ghost use Rattle.age_vectors.specs.Rows.{IsReported, Accepts, RefusesHeader, AcceptedRows, FirstLineRows};
