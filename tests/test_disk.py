@@ -263,15 +263,17 @@ class DiskTest(FilesCase):
         self.see("another run was quicker: OUT is there", self.is_there("new") and self.read("new") == b"")
 
     def test_written_by_another(self):
-        """A new OUT that another program has written to isn't removed."""
-        os.mkfifo(self.path("in"))
-        run = self.started("decrypt --pass pass in new")
-        with open(self.path("in"), "wb") as pipe:
-            waits_for(lambda: self.is_there("new"))
-            self.write("new", b"another's")
-            pipe.write(b"this is no age file\n")
-        self.ends("another program has written to OUT", run, 1, b"age_tool: 1 NotAge line 1\n")
-        self.see("another program has written to OUT: it is there", self.is_there("new") and self.read("new") == b"another's")
+        """A new OUT that another program has written to isn't removed, nor a file that it has put in its place."""
+        for name, write in (("written to OUT", lambda: self.path("new").write_bytes(b"another's")), ("replaced OUT", lambda: self.write("new", b"another's"))):
+            self.remove("in", "new")
+            os.mkfifo(self.path("in"))
+            run = self.started("decrypt --pass pass in new")
+            with open(self.path("in"), "wb") as pipe:
+                waits_for(lambda: self.is_there("new"))
+                write()
+                pipe.write(b"this is no age file\n")
+            self.ends(f"another program has {name}", run, 1, b"age_tool: 1 NotAge line 1\n")
+            self.see(f"another program has {name}: it is there", self.is_there("new") and self.read("new") == b"another's")
 
     @needs("cc")
     def test_no_locks(self):
@@ -303,6 +305,13 @@ class DiskTest(FilesCase):
         self.path("link").symlink_to("out")
         self.expect(0, b"", "decrypt --pass pass age link", "an OUT behind a link", {"GONE": 1})
         self.see("an OUT behind a link", self.read("link") == PLAIN)
+
+    @needs("cc")
+    def test_lost_before_its_lock(self):
+        """An OUT that another run removes before this one has its lock isn't written."""
+        self.write("out", b"old text")
+        self.expect(1, unwritten("out", errno.ENOENT), "decrypt --pass pass age out", "an OUT that goes before its lock", {"LOST": 1})
+        self.see("an OUT that goes before its lock: it is gone", not self.is_there("out"))
 
     @needs("cc")
     def test_failing_looks(self):
