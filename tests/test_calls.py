@@ -3,6 +3,7 @@ if a call fails (tools/shim.c), and computes what that leaves by `age_calls/spec
 
 - the disk that the definitions give is the real one, so they say rightly what calls do;
 - after status 0 a power cut leaves OUT as it is, and so a position, once it was said to be saved;
+- nothing but OUT, the file of --save and new files beside that is touched, wherever it is;
 - OUT is locked before it is changed, what was written is closed before status 0, and a file that the run didn't make is removed only if it
   was locked: the room that a stopped run left;
 - at each moment it leaves a position as it was, or the new one, whole;
@@ -145,10 +146,21 @@ class Run:
         saved = case.word_after("--save")
         self.saved = bytes(folder / saved) if saved else None
         self.before, self.disk = files_in(folder), Disk(folder)
+        self.own = {self.disk.disk["file"](it)[1] for it in self.before if self.touches(it)}
         room.path("record").write_bytes(b"")
         self.ended = room.run(folder, case.words, shim.loaded(RECORD=room.path("record"), **failing))
         self.after = files_in(folder)
         self.record = list(cuts.calls(room.path("record")))
+
+    def touches(self, path):
+        """Whether a run may do something to what is at a path, or is made there."""
+        return path in (self.out, self.saved) or self.saved and re.fullmatch(re.escape(self.saved) + rb"\.new-\d+", path)
+
+    def strays(self, call):
+        """Whether a call is about another file than those that were at such paths, or that the run has made there."""
+        paths = [it for it in call[1:3] if isinstance(it, bytes)]
+        self.own |= {call[2]} if call[0] == "Made" else set()
+        return call[0] != "SyncedNames" and not (all(map(self.touches, paths)) if paths else call[1] in self.own)
 
     def wrong(self):
         """What is wrong with it: a sentence for each kind."""
@@ -158,6 +170,8 @@ class Run:
         yield from self.faults_now()
         locked, open_to_write, paths = set(), set(), [it for it in (self.out, self.saved) if it]
         for call in calls_of(self.record, self.disk):
+            if self.strays(call):
+                yield "another file is touched"
             if not self.disk.is_answer(call, paths):
                 yield "a call that the definitions don't expect"
             if call[0] in LOCKS.values():

@@ -281,6 +281,13 @@ class DiskTest(FilesCase):
         self.see("an OUT behind a link", self.read("link") == PLAIN)
 
     @needs("cc")
+    def test_lost_before_its_lock(self):
+        """An OUT that another run removes before this one has its lock isn't written."""
+        self.write("out", b"old text")
+        self.expect(1, unwritten("out", errno.ENOENT), "decrypt --pass pass age out", "an OUT that goes before its lock", {"LOST": 1})
+        self.see("an OUT that goes before its lock: it is gone", not self.is_there("out"))
+
+    @needs("cc")
     def test_failing_looks(self):
         """A file that can't be looked at is no fault of the command line: the run says 26 or 27 or goes on, and leaves no empty position."""
         self.expect(1, chunk_fault(2), "decrypt --pass pass --save position cut old")

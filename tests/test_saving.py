@@ -92,11 +92,12 @@ class SavingTest(FilesCase):
         self.path("folder").mkdir()
         self.path("other").mkdir()
         self.write("other/place", b"somebody's file")
-        for held in (None, b"an old position"):
+        # As OUT's first bytes are written, and as the position's are.
+        for held, turn in ((None, 2), (None, 4), (b"an old position", 2), (b"an old position", 4)):
             if held:
                 self.write("folder/place", held)
-            name = f"the folder becomes a link at the last moment, {held}"
-            self.expect(1, chunk_fault(2) + unsaved("folder/place", MOVED), "decrypt --pass pass --save folder/place cut out", name, {"SWAP": 2})
+            name = f"the folder becomes a link at the last moment, {held}, write {turn}"
+            self.expect(1, chunk_fault(2) + unsaved("folder/place", MOVED), "decrypt --pass pass --save folder/place cut out", name, {"SWAP": turn})
             self.see(f"{name}: kept", self.read("other/place") == b"somebody's file" and os.listdir(self.path("other")) == ["place"])
             self.path("folder").unlink()
             os.rename(self.path("moved"), self.path("folder"))
