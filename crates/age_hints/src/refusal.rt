@@ -181,13 +181,19 @@ fn hint_of(word: &str) -> Option<&'static str> {
         "-p" | "--passphrase" => Some("the passphrase is read from a file: --pass FILE"),
         "-o" | "--output" => Some("OUT is the last word, without an option"),
         "-i" | "--identity" => {
-            Some("for a key file: python3 -m agefile decrypt --identity FILE IN OUT")
+            Some(
+                "for a key file, by a release's Python module: python3 -m agefile decrypt --identity FILE IN OUT",
+            )
         }
         "-r" | "--recipient" => {
-            Some("for a recipient: python3 -m agefile encrypt --recipient KEY IN OUT")
+            Some(
+                "for a recipient, by a release's Python module: python3 -m agefile encrypt --recipient KEY IN OUT",
+            )
         }
         "-R" | "--recipients-file" => {
-            Some("for recipients: python3 -m agefile encrypt --recipients-file FILE IN OUT")
+            Some(
+                "for recipients, by a release's Python module: python3 -m agefile encrypt --recipients-file FILE IN OUT",
+            )
         }
         "-a" | "--armor" => Some("age_tool doesn't do armor: leave it out"),
         "-f" | "--force" | "--overwrite" | "--yes" => {
