@@ -182,17 +182,17 @@ fn hint_of(word: &str) -> Option<&'static str> {
         "-o" | "--output" => Some("OUT is the last word, without an option"),
         "-i" | "--identity" => {
             Some(
-                "for a key file, by a release's Python module: python3 -m agefile decrypt --identity FILE IN OUT",
+                "for a key file (a release's Python module): python3 -m agefile decrypt --identity FILE IN OUT",
             )
         }
         "-r" | "--recipient" => {
             Some(
-                "for a recipient, by a release's Python module: python3 -m agefile encrypt --recipient KEY IN OUT",
+                "for a recipient (a release's Python module): python3 -m agefile encrypt --recipient KEY IN OUT",
             )
         }
         "-R" | "--recipients-file" => {
             Some(
-                "for recipients, by a release's Python module: python3 -m agefile encrypt --recipients-file FILE IN OUT",
+                "for recipients (a release's Python module): python3 -m agefile encrypt --recipients-file FILE IN OUT",
             )
         }
         "-a" | "--armor" => Some("age_tool doesn't do armor: leave it out"),
