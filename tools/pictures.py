@@ -222,11 +222,11 @@ WAY = [
 CARRY = ("age_stream", "age_opening", "age_c", "age_cli", "age_machine")
 # How much of a crate is tested and not proved, as it is drawn.
 TESTED = {"age_hints": 1, "age_messages": 1, "age_disk": 0.4, "age_machine": 0.2}
-# Each crate's column, so that the way passes behind no other.
+# Each crate's column, so that the way passes behind no other, except for a corner.
 COLUMN = {
     "age_hints": 0, "age_drill": 1, "age_cli": 2, "age_tool": 3, "age_disk": 1, "age_command": 2, "age_messages": 3, "age_cli_args": 0, "age_fileset": 2, "age_file": 3,
-    "age_c": 4, "age_calls": 0, "age_opening": 1, "age_sealing": 2, "age_machine": 3, "age_inspection": 4, "age_intake": 0, "age_keys": 2, "age_position": 4,
-    "age_scrypt": 0, "age_stream": 1, "age_fault": 3, "age_stanza": 4, "age_kdf": 0, "age_chunk": 1, "age_cipher": 2, "age_io": 4,
+    "age_c": 4, "age_calls": 0, "age_opening": 1, "age_sealing": 2, "age_machine": 4, "age_inspection": 3, "age_intake": 0, "age_keys": 2, "age_position": 3,
+    "age_scrypt": 0, "age_stream": 1, "age_fault": 4, "age_stanza": 3, "age_kdf": 0, "age_chunk": 1, "age_cipher": 2, "age_io": 4,
 }
 
 
