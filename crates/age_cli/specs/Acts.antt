@@ -166,7 +166,7 @@ paths_of other = None
 abbrev pub OpensOf : (Came : Outcome → Type 0) → Decrypting → Identity → Type 0
 OpensOf Came d identity = MakesBy (HasGivenAll Came) d.identity identity
 
--- how a command ends before its output is written: 26 and 27 have a reason, and so has 24, of
+-- how a command ends before its output is written: 26 and 27 have a reason, and so has 23, of
 -- `resume`; memory runs out, or the command line is refused
 abbrev pub EndsBefore : (Came : Outcome → Type 0) → Ending → Request → Type 0
 EndsBefore Came (Fault Read) asked = IsUnreadable Came
