@@ -152,7 +152,7 @@ class ChecksTest(unittest.TestCase):
         spoiling += ("use std::fs as disk;", "use std::{fs as disk, fs, io};", "use std::fs::File as Opened;", "use std::{io as sys};", "use std::fs::*;")
         spoiling += ("std::os::unix::fs::FileExt::write_at(file, from, 0)?;", "use std::os::unix::fs::{chown};", "fs :: rename(rt, one, other)?;")
         spoiling += ("use crate::output::HostOut as Own;", "use age_machine::HostMachine as Own;")
-        opening = ("let mut own = HostMachine::new(self.rt);", "let _ = HostOut::make(alloc, rt, name, durability);", "let mut own = kept.machine();", "let mut log = HostOut::faults(rt);")
+        opening = ("let mut own = HostMachine::new(self.rt);", "let _ = HostOut::to_make(alloc, rt, name, durability);", "let mut own = kept.machine();", "let mut log = HostOut::faults(rt);")
         spoiling += ("use std::fs::{File, rename};", "File::set_len(&file, 0)?;", "file.write_vectored(&held)?;", "fs::create(rt, path)?;")
         spoiling += ("file.write_all_at(b\"x\", 0)?;", "let it = calls :: remove;", "libc::unlink(path);", "std::fs::remove_file(rt, name)?;")
         spoiling += ("use std::process::Command;", "let _ = std::env::var(\"HOME\");", "use std::{net, io};", "rt.stdin().read(into)?;", "std::thread::spawn(it);", "let _ = eprint!(rt; \"{byte}\");")

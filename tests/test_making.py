@@ -16,6 +16,11 @@ def within_memory():
     resource.setrlimit(resource.RLIMIT_AS, (500_000 << 10, 500_000 << 10))
 
 
+def hears_sigint():
+    """What a shell starts in the background ignores SIGINT, and so does all that it starts."""
+    signal.signal(signal.SIGINT, signal.SIG_DFL)
+
+
 class MakingTest(FilesCase):
     def setUp(self):
         super().setUp()
@@ -29,7 +34,7 @@ class MakingTest(FilesCase):
 
     def deriving(self, words):
         """A run that derives its key now."""
-        run = self.started(words)
+        run = self.started(words, preexec_fn=hears_sigint)
         waits_for(lambda: is_deriving(run))
         return run
 
