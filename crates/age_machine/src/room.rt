@@ -26,7 +26,7 @@ pub(crate) struct EmptyRoom<'a> {
     ghost blank: { held ≡ replicate 256 32 },
 }
 
-/// The room that a file at a path is, if it begins with the bytes of an empty one.
+/// The empty room at a path, if the file there begins with the bytes of one.
 fn room_in<'a>(file: &File, path: &'a str) -> io::Result<Option<EmptyRoom<'a>>>
     ensures { IfOk result (λ room. IfSome room (λ r. r.path.now ≡ path.now)) }
 {
@@ -40,7 +40,7 @@ fn room_in<'a>(file: &File, path: &'a str) -> io::Result<Option<EmptyRoom<'a>>>
 }
 
 /// Removes an empty room that a stopped run left at a path. `None` if what is there isn't known to
-/// be one: it stays. A run has the lock of its room before that is full.
+/// be one, so that it stays. A run locks its room before the room is full.
 pub(crate) fn reclaim<'a>(rt: &HostRuntime, path: &'a str) -> io::Result<Option<EmptyRoom<'a>>>
     ensures { IfOk result (λ room. IfSome room (λ r. r.path.now ≡ path.now)) }
 {
