@@ -128,7 +128,7 @@ module _ (n : ℕ) (path bytes : List ℕ) where
 
 -- it gets its bytes by two writes
 module _ (n : ℕ) (path bytes more : List ℕ) where
-  -- it holds what was written, and more of it
+  -- a file holds what was written, and what is written after that
   wrote_first : (disk : Disk) → disk.bytes n ≡ [] → (after_call (Wrote n 0 bytes) disk).bytes n ≡ bytes
   wrote_first disk empty = grind (arith, common_steps, append-nil, drop_all, file_same)
 

@@ -17,7 +17,7 @@ pub data FileCall : Type 0 where
   Broke : ℕ → FileCall
   -- a file was seen to have this many bytes
   Measured : ℕ → ℕ → FileCall
-  -- what a file holds has reached the disk; or the system can't wait for that
+  -- what a file holds has reached the disk; or the system can't wait for it
   Synced : ℕ → FileCall
   Unwaited : ℕ → FileCall
   -- a descriptor of a file was closed, and the system reported no failure of what was written
@@ -35,7 +35,7 @@ pub data FileCall : Type 0 where
   Removed : List ℕ → FileCall
   -- an empty room that a stopped run left at a path was removed, while its lock was held
   Reclaimed : List ℕ → FileCall
-  -- the names in the folder of a path have reached the disk; or the system can't wait for that
+  -- the names in the folder of a path have reached the disk; or the system can't wait for it
   SyncedNames : List ℕ → FileCall
   UnwaitedNames : List ℕ → FileCall
 

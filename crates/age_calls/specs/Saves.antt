@@ -111,12 +111,12 @@ IsWithin path calls (Reclaimed p) = IsNumbered path p
 IsWithin path calls (SyncedNames p) = p ≡ path
 IsWithin path calls (UnwaitedNames p) = p ≡ path
 
--- `P` holds of each of these calls, after those before it
+-- `P` holds of each of these calls, given those before it
 abbrev pub AllSo : (List FileCall → FileCall → Type 0) → List FileCall → Type 0
 AllSo P [] = Unit {0}
 AllSo P (call ∷ calls) = P calls call × AllSo P calls
 
--- `P` holds of each call since the old ones, after the calls between them and it
+-- `P` holds of each call since the old ones, given those between them and it
 pub record Since (P : List FileCall → FileCall → Type 0) (old new : List FileCall) : Type 0 where
   pub since : List FileCall
   pub are : new ≡ since ++ old

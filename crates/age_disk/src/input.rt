@@ -22,7 +22,7 @@ use std::rt::{HostRuntime, Stdin};
 /// filled, since two runs would take the same keys from it.
 const RANDOM: &str = "/dev/urandom";
 
-/// What its bytes are read from.
+/// What the bytes of an input are read from.
 #[derive(Drop)]
 enum Handle {
     /// A file that was opened.

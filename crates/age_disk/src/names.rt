@@ -44,7 +44,7 @@ impl StandardStream {
         }
     }
 
-    /// A second descriptor of it. Fails if the program was started without this stream.
+    /// A second descriptor of the stream. Fails if the program was started without this stream.
     pub(crate) fn copy(self, rt: &HostRuntime) -> io::Result<OwnedFd> {
         match self {
             StandardStream::Input => rt.stdin().as_fd().try_clone_to_owned(),
@@ -62,7 +62,7 @@ impl StandardStream {
         Ok(())
     }
 
-    /// Whether it leads to a file that holds bytes on a disk, as far as the system shows it.
+    /// Whether the stream leads to a file that holds bytes on a disk, as far as the system shows that.
     pub(crate) fn may_be_on_disk(self, rt: &HostRuntime) -> bool {
         match fs::metadata(rt, self.path()) {
             Ok(metadata) => is_on_disk(&metadata),
@@ -97,7 +97,7 @@ impl<'w> Led<'w> {
     }
 }
 
-/// How many links are followed, as the system does.
+/// How many links are followed, which is as many as the system follows.
 const LINKS_MAX: usize = 40;
 
 /// What a name stands for, at the end of its links.
@@ -266,7 +266,7 @@ pub fn is_on_disk(metadata: &Metadata) -> bool {
     kind.is_file() || kind.is_block_device()
 }
 
-/// Whether a file is a pipe or a socket, which hands on what is written to it to nobody knows whom.
+/// Whether a file is a pipe or a socket, so that nobody knows who has what is written to it.
 pub(crate) fn is_handed_on(metadata: &Metadata) -> bool {
     let kind = metadata.file_type();
     kind.is_fifo() || kind.is_socket()

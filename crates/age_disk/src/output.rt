@@ -454,7 +454,8 @@ impl HostOut {
 
     /// Opens what a name stands for without emptying it; if nothing exists, a file is to be made.
     /// Standard input can't be written. If the output is to be on the disk at the end, the disk is
-    /// waited for every 16 MiB to 1 GiB, to see a failure early, and for `settle`.
+    /// waited for every 16 MiB to 1 GiB, so that a failure is seen early, and `settle` can tell
+    /// what is certain.
     pub fn open(
         alloc: Global,
         rt: &HostRuntime,

@@ -26,7 +26,7 @@ enum Found {
     Device(Node),
 }
 
-/// A file that is to be replaced later: where its name led when that was judged.
+/// A file that is to be replaced later, and where its name led when it was judged.
 #[derive(Drop)]
 pub struct Prepared<'n> {
     name: &'n str,

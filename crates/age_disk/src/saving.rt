@@ -132,7 +132,7 @@ impl<'a> Order<'a> {
         }
     }
 
-    /// Writes the bytes to what is open; they replace what it holds.
+    /// Writes the bytes to an open file, where they replace what it holds.
     fn fill_directly(&self, mut out: HostOut, saved: &mut Saved) -> io::Result<()>
         requires { IsNew out }
         ensures same { saved.new.file ≡ saved.old.file }

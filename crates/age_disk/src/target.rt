@@ -24,12 +24,12 @@ use std::{fs, mem};
 /// them: a network connection holds megabytes.
 const ON_THE_WAY: u64 = 4 << 20;
 
-/// Where its bytes go.
+/// Where the bytes of an output go.
 #[derive(Drop)]
 pub(crate) enum Target {
     /// A regular file that was opened or made.
     File(Out<HostMachine>),
-    /// One that is to be made at this path, once there is something to write.
+    /// A file that is to be made at this path, once something is to be written.
     Unmade(String),
     /// A pipe or a device that was opened.
     Device(Device),

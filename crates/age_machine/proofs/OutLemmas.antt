@@ -18,7 +18,7 @@ use Rattle.age_machine.specs.inner.{IsHeld, IsAtPath, StaysHeld, RemovesAt}
 use Rattle.age_calls.proofs.DiskLemmas.{path_same, file_same, file_other, sized_within, contains_first, contains_later, contains_none, contains_cases, claimed_later, no_claim}
 use Rattle.age_machine.proofs.SaveLemmas.{led, leaves_fewer, leaves_new, leaves_synced, if_either, if_made, if_waited, saves_loudly, saves_none, saves_quietly}
 
--- ---- What only opening has done.
+-- ---- A file that was only opened.
 
 module _ (path : List ℕ) (n : ℕ) where
   pub no_text : (opening : Opening) → text_of (opening_of path n opening ∷ []) ≡ []

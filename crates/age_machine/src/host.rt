@@ -162,7 +162,7 @@ fn is_locked(answer: Result<(), TryLockError>) -> io::Result<bool>
     }
 }
 
-/// Takes a regular file for this run alone, as long as it is open; `false` if the file system has no
+/// Takes a regular file for this run alone, while it is open; `false` if the file system has no
 /// locks, so that every run may have it. Fails if another run has it.
 pub fn lock(file: &File) -> io::Result<bool> {
     if !file.metadata()?.is_file() {
@@ -254,7 +254,7 @@ fn made_file(rt: &HostRuntime, made: io::Result<File>, path: &str) -> io::Result
     }
 }
 
-/// What is reported of a write that took nothing.
+/// The error for a write that took nothing.
 fn no_byte() -> io::Error {
     io::Error::new(io::ErrorKind::WriteZero, "failed to write whole buffer")
 }

@@ -40,7 +40,7 @@ pub struct Out<M: Machine> {
     // Whether what it held still exists, beyond the bytes that were written.
     is_stale: bool,
     written: u64,
-    // How much was written when it was last seen to look as it should.
+    // How much had been written when it was last seen to look as it should.
     seen: u64,
     // Whether its length is how much was written, as long as nobody else changes it. Files that the
     // system makes up, as in /proc, have another length.

@@ -46,7 +46,7 @@ pub trait Machine {
     // How many calls have failed.
     ghost failed: { Self → ℕ };
 
-    // Which file it is, whatever its names: its device and inode as one number.
+    // Which file it is, whatever its names, by its device and inode as one number.
     ghost number: { Self.File → ℕ };
 
     /// Makes an empty file at a path where nothing exists, not even a link, and opens it.

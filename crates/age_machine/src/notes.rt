@@ -13,7 +13,7 @@ use age_calls::Kind;
 use age_io::Tape;
 use std::marker::Model;
 
-/// A call, as code has it.
+/// A call, as the code notes it.
 #[derive(Clone, Copy)]
 pub(crate) enum Word<'a> {
     Made(&'a str, Node),
@@ -123,7 +123,7 @@ impl Model for FailedCalls {
 }
 
 impl FailedCalls {
-    /// None so far.
+    /// No failure so far.
     pub(crate) fn new() -> FailedCalls
         ensures { result ≡ 0 }
     {

@@ -27,7 +27,7 @@ pub enum Spot {
     Taken,
 }
 
-/// What is reported of a file that appeared where none was. Another run may have saved it.
+/// The error for a file that appeared where none was. Another run may have saved it.
 pub fn made_meanwhile() -> io::Error {
     io::Error::other("another program made it meanwhile")
 }
@@ -176,7 +176,7 @@ pub(crate) fn settle_names<M: Machine>(
 }
 
 /// Puts a new file that was filled to a path. Fails if it isn't in the folder that was judged, as
-/// when its path has come to lead elsewhere before it was made.
+/// when its path led elsewhere by the time it was made.
 #[tactic(auto, using(crate::proofs::since_none, crate::proofs::names_named))]
 fn place<M: Machine>(
     machine: &mut M,

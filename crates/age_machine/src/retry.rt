@@ -26,7 +26,7 @@ pub fn is_to_retry(rt: &HostRuntime, error: &io::Error) -> bool {
     }
 }
 
-/// What is reported when no try is left.
+/// The error when no try is left.
 pub fn too_many_tries() -> io::Error {
     io::Error::from(io::ErrorKind::TimedOut)
 }

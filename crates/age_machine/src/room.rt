@@ -1,4 +1,4 @@
-//! Empty rooms: what a file that is to take another's place holds until its bytes are written.
+//! Empty rooms, which a file that is to take another's place holds until its bytes are written.
 
 ghost use Rattle.std.specs.Prelude.{◌≡◌, IfOk, IfSome, replicate};
 
@@ -13,12 +13,12 @@ use std::rt::HostRuntime;
 /// whatever happens to the disk.
 pub(crate) const ROOM: [u8; 256] = [b' '; 256];
 
-/// Whether a file may be an empty room, by what the system shows of it.
+/// Whether a file may be an empty room, by what the system shows.
 fn may_be_room(found: &Metadata) -> bool {
     found.is_file() && found.nlink() == 1 && found.len() == ROOM.len() as u64
 }
 
-/// What was read of a file that was removed as an empty room.
+/// What was read from a file that was removed as an empty room.
 #[derive(Drop)]
 pub(crate) struct EmptyRoom<'a> {
     pub(crate) path: &'a str,
