@@ -1,4 +1,4 @@
--- A disk and calls, by values: what is at a path, how long a file is, and what calls contain.
+-- A disk and calls, by values, namely what is at a path, how long a file is, and what calls contain.
 use Rattle.std.proofs.lemmas.Grind.{common_steps}
 use Rattle.std.proofs.Common.{◌≡◌, ◌⊎◌, inl, inr, ℕ, zero, suc, ◌-◌, ◌≤◌, List, [], ◌∷◌, ◌++◌, Bool, refl, ap, length, take, arith, ◌∙◌}
 use Rattle.std.specs.Prelude.{bytes_eq, if◌then◌else◌, Contains, replicate}
@@ -52,7 +52,7 @@ pub claimed_later : (n : ℕ) (call : FileCall) (calls : List FileCall) → IsCl
 claimed_later n call calls (inl held) = inl (contains_later call (Locked n) calls held)
 claimed_later n call calls (inr held) = inr (contains_later call (Unlockable n) calls held)
 
--- ---- What only opening has done.
+-- ---- A file that was only opened.
 
 module _ (path : List ℕ) (n : ℕ) where
   no_lock : (opening : Opening) (call : FileCall) → (Made path n ≡ call → ⊥) → ((kind : Kind) → Opened path n kind ≡ call → ⊥)

@@ -31,7 +31,7 @@ garbage bytes same = let same_list : (0 ∷ bytes) ≡ bytes = cc in omega (arit
 -- ---- A file that is put to a path.
 
 module _ (n : ℕ) (from path bytes : List ℕ) (apart : from ≡ path → ⊥) where
-  -- the new file, before and after it was written, and when it was waited for
+  -- the disk when the new file is empty, when it was written, and when the disk was waited for
   abbrev begun : Disk
   begun = after_call (Made from n) bare
 
@@ -52,7 +52,7 @@ module _ (n : ℕ) (from path bytes : List ℕ) (apart : from ≡ path → ⊥) 
 
 -- ---- Two runs.
 
--- without a lock nothing of a file is changed
+-- without a lock nothing in a file is changed
 never_changed : (n : ℕ) (calls : List FileCall) → LocksFirst n calls → (IsClaimed n calls → ⊥)
     → (call : FileCall) → Contains calls call → MayChange n call → ⊥
 never_changed n [] locks none call held may = contains_none call held
@@ -128,7 +128,7 @@ module _ (n : ℕ) (path bytes : List ℕ) where
 
 -- it gets its bytes by two writes
 module _ (n : ℕ) (path bytes more : List ℕ) where
-  -- it holds what was written, and more of it
+  -- a file holds what was written, and what is written after that
   wrote_first : (disk : Disk) → disk.bytes n ≡ [] → (after_call (Wrote n 0 bytes) disk).bytes n ≡ bytes
   wrote_first disk empty = grind (arith, common_steps, append-nil, drop_all, file_same)
 

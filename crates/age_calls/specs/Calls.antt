@@ -1,41 +1,41 @@
--- The calls of the system by which a file is written, or put in another's place.
+-- The system calls that write a file, or put one in another's place.
 use Rattle.std.specs.Prelude.{◌≡◌, ◌⊎◌, ◌<◌, ℕ, List, [], ◌∷◌, Result, Ok, Err}
 use Rattle.age_calls.specs.declared.opening.Kind.{Kind}
 
 -- a call that succeeded, or that may have done something although it failed, or what a call showed;
--- a file goes by its number, a name by its path
+-- a file is identified by its number, a name by its path
 pub data FileCall : Type 0 where
   -- an empty file was made at a path
   Made : List ℕ → ℕ → FileCall
   -- what is at a path was opened, and is of this kind
   Opened : List ℕ → ℕ → Kind → FileCall
-  -- bytes were written to a file, from this place on
+  -- bytes were written to a file, from this offset on
   Wrote : ℕ → ℕ → List ℕ → FileCall
-  -- a file was cut off after so many bytes
+  -- a file was truncated to this many bytes
   Cut : ℕ → ℕ → FileCall
-  -- a write to a file has failed, or a cut, or the wait for the disk: it may hold anything
+  -- a write to a file, its truncation or a wait for the disk has failed, so the file may hold anything
   Broke : ℕ → FileCall
-  -- a file was seen to have so many bytes
+  -- a file was seen to have this many bytes
   Measured : ℕ → ℕ → FileCall
-  -- what a file holds has reached the disk; the system can't wait for it
+  -- what a file holds has reached the disk; or the system can't wait for it
   Synced : ℕ → FileCall
   Unwaited : ℕ → FileCall
-  -- what a run has of a file was closed, and the system said of nothing of it that it has failed
+  -- a descriptor of a file was closed, and the system reported no failure of what was written
   Closed : ℕ → FileCall
-  -- this run alone has a file, until it ends; the system has no lock for it, so every run may have it
+  -- this run alone has a file until the run ends; or the system has no lock, so every run may have it
   Locked : ℕ → FileCall
   Unlockable : ℕ → FileCall
   -- nothing was seen at a path
   Missing : List ℕ → FileCall
-  -- the file at the first path is at the second now too, where nothing was
+  -- the file at the first path is now at the second too, where nothing was
   Linked : List ℕ → List ℕ → FileCall
-  -- the file at the first path is at the second now, in place of what was there
+  -- the file at the first path is now at the second, in place of what was there
   Renamed : List ℕ → List ℕ → FileCall
-  -- a path leads to nothing now
+  -- a path now leads to nothing
   Removed : List ℕ → FileCall
-  -- an empty room that a stopped run left at a path was removed, under its lock
+  -- an empty room that a stopped run left at a path was removed, while its lock was held
   Reclaimed : List ℕ → FileCall
-  -- the names in the folder of a path have reached the disk; the system can't wait for them
+  -- the names in the folder of a path have reached the disk; or the system can't wait for it
   SyncedNames : List ℕ → FileCall
   UnwaitedNames : List ℕ → FileCall
 
@@ -52,7 +52,7 @@ IsOf n (Locked m) = m ≡ n
 IsOf n (Unlockable m) = m ≡ n
 IsOf n call = ⊥
 
--- a file was closed, and no call came later that may change one
+-- a file was closed, and no later call is one that may change a file
 abbrev pub ClosesLast : ℕ → List FileCall → Type 0
 ClosesLast n [] = ⊥
 ClosesLast n (Closed m ∷ calls) = m ≡ n
@@ -61,15 +61,15 @@ ClosesLast n (Cut m len ∷ calls) = ⊥
 ClosesLast n (Broke m ∷ calls) = ⊥
 ClosesLast n (call ∷ calls) = ClosesLast n calls
 
--- this call was made, or none
+-- this call was made, or none was
 abbrev pub MayHave : FileCall → List FileCall → List FileCall → Type 0
 MayHave call old new = (new ≡ old) ⊎ (new ≡ call ∷ old)
 
--- the call that waits was made, or the one that can't
+-- the call that waits was noted, or the one that says that the system can't
 abbrev pub Waited : FileCall → FileCall → List FileCall → List FileCall → Type 0
 Waited waits cant old new = (new ≡ waits ∷ old) ⊎ (new ≡ cant ∷ old)
 
--- it is counted if it failed, and only then
+-- a call is counted if it failed, and only then
 abbrev pub CountsFailure : {X E : Type 0} → Result X E → ℕ → ℕ → Type 0
 CountsFailure (Ok x) old new = new ≡ old
 CountsFailure (Err e) old new = old < new

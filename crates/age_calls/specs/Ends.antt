@@ -13,26 +13,26 @@ use Rattle.age_calls.specs.Saves.{IsSafe, IsThereAs, SavesWhole}
 pub record EndedFile : Type 0 where
   -- the bytes that its sink had taken
   pub took : List ℕ
-  -- it was closed with them, and not discarded
+  -- whether it was closed with them, and not discarded
   pub is_closed : Bool
   -- which regular file of a disk it is, if it is one
   pub file : Option OutFile
-  -- the calls that were made for that, the newest first, and how many have failed
+  -- the calls that were made for it, the newest first, and how many have failed
   pub calls : List FileCall
   pub failed : ℕ
 
--- one call was made, which opened this, and it is no regular file
+-- one call was made, which opened this file, and it isn't a regular file
 abbrev pub OpensDevice : ℕ → List FileCall → Type 0
 OpensDevice n calls = (path : List ℕ) × (calls ≡ Opened path n Device ∷ [])
 
--- Nothing but its file was touched. Where it is none, no regular file was opened or made for it: it is
--- a device, or a stream, of which no call is noted.
+-- Nothing except its file was touched. An output without one had no regular file opened or made for
+-- it. It is a device, or a stream, for which no call is noted.
 abbrev pub TouchesItself : EndedFile → Type 0
 TouchesItself e =
     MatchOption e.file ((e.calls ≡ []) ⊎ ((n : ℕ) × OpensDevice n e.calls))
     (λ f. TouchesFile f e.calls)
 
--- it is there, with exactly what its sink took
+-- it is at its path, with exactly what its sink took
 abbrev pub IsThere : EndedFile → Type 0
 IsThere e = IfSome e.file (λ f. IsThereAs f.path f.number e.took e.calls)
 
@@ -40,29 +40,29 @@ IsThere e = IfSome e.file (λ f. IsThereAs f.path f.number e.took e.calls)
 abbrev pub IsOnDisk : EndedFile → Type 0
 IsOnDisk e = IfSome e.file (λ f. IsSafe f.path e.took e.calls)
 
--- No call has changed what it held, if it was there. If no put has failed, a power cut leaves at its
+-- No call has changed what it held, if it existed. If no put has failed, a power cut leaves at its
 -- path what it might have left before, or the empty file that was made.
 abbrev pub IsUntouched : (failed : ℕ) → EndedFile → Type 0
 IsUntouched failed e = IfSome e.file (λ f. (f.is_made ≡ false → has_changed e.calls ≡ false)
     × (failed ≡ 0 → SavesWhole f.path [] [] e.calls))
 
--- an output was closed, which is this file and whose sink is this
+-- an output with this file and this sink was closed
 pub record Closes {E : Type 0} (durability : Durability) (file : Option OutFile) (sink : SinkView)
     (result : Result (Unit {0}) E) (e : EndedFile) : Type 0 where
   pub took : e.took ≡ sink.taken.bytes
   pub closed : e.is_closed ≡ true
   pub same : e.file ≡ file
   pub within : TouchesItself e
-  -- What took bytes wasn't discarded, and was closed once it had them, if the end hasn't failed.
+  -- A file whose sink took bytes was closed once it had them, if the end hasn't failed.
   pub kept : sink.taken.bytes ≢ [] → OnOk result (IfSome file (λ f. ClosesLast f.number e.calls))
-  -- It is there, if neither a put nor the end has failed.
+  -- It is at its path, if neither a put nor the end has failed.
   pub there : sink.failed ≡ 0 → OnOk result (IsThere e)
-  -- It is on the disk, if that was waited for, and neither a put nor the end has failed.
+  -- It is on the disk, if the disk was waited for, and neither a put nor the end has failed.
   pub safe : durability ≡ Synced → sink.failed ≡ 0 → OnOk result (IsOnDisk e)
   -- If the end of a regular file has failed, so has a call.
   pub caused : OnErr result (IfSome file (λ f. 0 < e.failed))
 
--- it was discarded, and is untouched if its sink took nothing
+-- an output was discarded, and is untouched if its sink took nothing
 pub record Discards (file : Option OutFile) (sink : SinkView) (e : EndedFile) : Type 0 where
   pub took : e.took ≡ sink.taken.bytes
   pub closed : e.is_closed ≡ false

@@ -1,5 +1,5 @@
--- What may become of a file that is put to a path, or written in place, with a call less, or with two
--- in another order.
+-- What may become of a file that is put to a path, or written in place, if one call is left out, or
+-- two are made in another order.
 use Rattle.std.specs.Prelude.{◌≡◌, ◌≢◌, ℕ, List, [], ◌∷◌, ◌++◌, length, Some, None, true}
 use Rattle.std.specs.Prelude.{false, Contains}
 use Rattle.age_calls.specs.Calls.{FileCall, Made, Opened, Wrote, Cut, Measured, Synced, Closed}
@@ -43,12 +43,12 @@ PutsAreAnswered = (n : ℕ) (from path bytes : List ℕ) → from ≢ path
 
 -- ---- A file that is written in place.
 
--- an empty file is at a path
+-- a disk with an empty file at a path, and no other
 abbrev pub bare_but : List ℕ → ℕ → Disk
 bare_but path n = record bare { file = at_path path (Some n) bare.file }
 
--- the calls of an output that was there, and of one that is made, which gets its bytes by two writes;
--- the newest first
+-- the calls, the newest first, of an output that existed, and of one that is made; each gets its
+-- bytes by two writes
 abbrev pub overwritten : ℕ → List ℕ → (bytes more : List ℕ) → List FileCall
 overwritten n path bytes more =
     SyncedNames path ∷ Closed n ∷ Synced n ∷ Wrote n (length bytes) more ∷ Cut n (length bytes)
@@ -71,8 +71,8 @@ TornIfCutLast = (n : ℕ) (path bytes : List ℕ)
 
 -- ---- A file that two runs open.
 
--- Two runs at a time, on a system that gives a file's lock to one of them at most: one has it, and the
--- other changes the file only after it has claimed it.
+-- Two runs at once, on a system that gives a file's lock to at most one of them. One has it, and
+-- the other changes the file only after claiming it.
 pub record HasOneLock (n : ℕ) (one other : List FileCall) : Type 0 where
   -- (in any order: no call gives a lock back)
   pub has : Contains one (Locked n)
@@ -80,7 +80,7 @@ pub record HasOneLock (n : ℕ) (one other : List FileCall) : Type 0 where
   pub lockable : Contains other (Unlockable n) → ⊥
   pub first : LocksFirst n other
 
--- No call may have changed a file, and a disk on which none made it has it as it was.
+-- No call may have changed a file, and a disk on which none of them made it has it unchanged.
 pub record IsUnchanged (n : ℕ) (calls : List FileCall) : Type 0 where
   -- (in any order: no call changes it, first or last)
   pub none : (call : FileCall) → Contains calls call → MayChange n call → ⊥
@@ -97,8 +97,8 @@ OutsAreAnswered = (n : ℕ) (path bytes more : List ℕ)
     × (CanLeave path (bytes ++ more) (put_out n path bytes more) bare
     × HasOneLock n (put_out n path bytes more) (Opened path n (Regular true) ∷ []))
 
--- So are those of each output that was made, or opened where its path is known to lead: what holds on
--- each disk that answers holds on one at least.
+-- The calls of each output that was made, or opened where its path is known to lead, are answered
+-- too. So what holds on each disk that answers holds on at least one.
 abbrev pub CallsAreAnswered : Type 0
 CallsAreAnswered = (file : OutFile) (calls : List FileCall) (touches : TouchesFile file calls)
     → is_waited touches.opening ≡ true → (disk : Disk) × AllAnswered file.path calls disk
@@ -107,7 +107,7 @@ abbrev pub ChangedIfLockedLate : Type 0
 ChangedIfLockedLate = (n : ℕ) (path bytes : List ℕ)
     → LocksFirst n (Locked n ∷ Wrote n 0 bytes ∷ Opened path n (Regular true) ∷ []) → ⊥
 
--- No file but the output's own is changed.
+-- No file except the output's own is changed.
 abbrev pub OthersAreKept : Type 0
 OthersAreKept = (path : List ℕ) (n m : ℕ) (calls : List FileCall) → AllOn path n calls → m ≢ n
     → (disk : Disk) → (after_calls calls disk).bytes m ≡ disk.bytes m

@@ -13,8 +13,8 @@ pub record OutFile : Type 0 where
   pub number : ℕ
   pub is_made : Bool
 
--- What contracts see: the file, the calls that were made, the newest first, how many have failed, and
--- whether one has after which what it holds can't be relied on.
+-- What contracts see: the file, the calls that were made, the newest first, how many have failed,
+-- and whether one of those was a call after which what the file holds can't be relied on.
 pub record OutView : Type 0 where
   pub file : OutFile
   pub calls : List FileCall
@@ -30,7 +30,7 @@ abbrev pub is_making : Opening → Bool
 is_making way.New = true
 is_making (way.Found named waited) = false
 
--- the path is known to lead to a file that was opened so, and its name is waited for
+-- whether the path is known to lead to a file that was opened like this, and its name is waited for
 abbrev pub is_waited : Opening → Bool
 is_waited way.New = true
 is_waited (way.Found named waited) = waited
@@ -48,8 +48,8 @@ has_changed (Wrote n at part ∷ calls) = true
 has_changed (Cut n len ∷ calls) = true
 has_changed (call ∷ calls) = has_changed calls
 
--- After these calls, this one is about this path or this file, which only the first of all opens or
--- makes. What was written stays: a write goes to its end, and a cut leaves it. Each of these is so.
+-- After these calls, this one is about this path or this file, which only the first call opens or
+-- makes. What was written stays, since a write goes after it, and a truncation leaves it.
 abbrev pub IsOn : List ℕ → ℕ → (before : List FileCall) → FileCall → Type 0
 IsOn path n before (Made p m) = (p ≡ path) × (m ≡ n) × (before ≡ [])
 IsOn path n before (Opened p m kind) = (p ≡ path) × (m ≡ n) × (before ≡ [])
@@ -65,7 +65,7 @@ abbrev pub AllOn : List ℕ → ℕ → List FileCall → Type 0
 AllOn path n [] = Unit {0}
 AllOn path n (call ∷ calls) = IsOn path n calls call × AllOn path n calls
 
--- ---- Of two runs one writes to a file.
+-- ---- Only one of two runs writes to a file.
 
 -- this call may have changed what a file holds
 abbrev pub MayChange : ℕ → FileCall → Type 0
@@ -79,13 +79,13 @@ MayChange n call = ⊥
 abbrev pub IsClaimed : ℕ → List FileCall → Type 0
 IsClaimed n calls = Contains calls (Locked n) ⊎ Contains calls (Unlockable n)
 
--- each call that may have changed a file came after that
+-- each call that may have changed a file came after the run had claimed it
 abbrev pub LocksFirst : ℕ → List FileCall → Type 0
 LocksFirst n [] = Unit {0}
 LocksFirst n (call ∷ calls) = (MayChange n call → IsClaimed n calls) × LocksFirst n calls
 
--- These calls opened or made a file, touched nothing but its path and it, and changed it only after
--- this run had locked it, if the system has locks.
+-- These calls opened or made a file, touched nothing except it and its path, and changed it only
+-- after this run had locked it, if the system has locks.
 pub record TouchesFile (file : OutFile) (calls : List FileCall) : Type 0 where
   pub opening : Opening
   pub is_made : is_making opening ≡ file.is_made

@@ -11,7 +11,7 @@ pub record SavedFile : Type 0 where
   -- the calls that were made for it, the newest first
   pub calls : List FileCall
 
--- these bytes were put to a path since the old calls, or that was tried
+-- since the old calls, these bytes were put to a path, or that failed
 pub record PutsAtOnce {E : Type 0} (bytes : List ℕ) (durability : Durability)
     (result : Result (Unit {0}) E) (old calls : List FileCall) (path : List ℕ) : Type 0 where
   -- After success the path leads to a file of these bytes, which was closed once it had them.
@@ -19,8 +19,8 @@ pub record PutsAtOnce {E : Type 0} (bytes : List ℕ) (durability : Durability)
   -- Only the path, new files beside it and rooms that stopped runs left there are touched.
   pub touches : Touches path old calls
 
--- The bytes of a position were put there at once, unless they were written directly. What a power cut
--- leaves of it is tested, whether the disk was waited for or not: nothing here depends on that.
+-- The bytes of a position were put to a path at once, unless they were written directly. Tests show
+-- what a power cut leaves, and nothing here depends on a wait for the disk.
 abbrev pub Saves : {E : Type 0} → List ℕ → Durability → Result (Unit {0}) E → SavedFile → Type 0
 Saves bytes durability result saved =
     IfSome saved.path (PutsAtOnce bytes durability result [] saved.calls)

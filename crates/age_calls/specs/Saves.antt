@@ -1,4 +1,4 @@
--- What it means that a file is at a path, also after a power cut, and what is touched for it.
+-- What it means that a file is at a path, even after a power cut, and what is touched for that.
 use Rattle.std.specs.Prelude.{◌≡◌, ◌≢◌, ◌⊎◌, ℕ, List, [], ◌∷◌, ◌++◌, length, Option, Some, None}
 use Rattle.std.specs.Prelude.{true, false, codes, decimal, Contains}
 use Rattle.age_calls.specs.Calls.{FileCall, Made, Opened, Wrote, Cut, Broke, Measured, Synced}
@@ -7,9 +7,9 @@ use Rattle.age_calls.specs.Calls.{Removed, Reclaimed, SyncedNames, UnwaitedNames
 use Rattle.age_calls.specs.declared.opening.Kind.TheVariants.{Regular}
 use Rattle.age_calls.specs.Disk.{Disk, after_calls, MayLead, MayLeave}
 
--- A disk on which this call is the next one answers. A file that is made is a new one, to which the
--- path may not lead, and comes where nothing is, as a link does. What is opened is the regular file at
--- its path, and no call about it has failed.
+-- A disk on which this call is the next one answers it. A file that is made is a new one, to which
+-- the path doesn't lead, even after a power cut. It is made where nothing is, and so is a link.
+-- What is opened is the regular file at its path, and no call about it has failed.
 abbrev pub IsAnswered : List ℕ → FileCall → Disk → Type 0
 IsAnswered path (Made p n) disk = (disk.file p ≡ None) × (MayLead disk path (Some n) → ⊥)
 IsAnswered path (Opened p n kind) disk =
@@ -19,13 +19,13 @@ IsAnswered path (Missing p) disk = disk.file p ≡ None
 IsAnswered path (Linked from to) disk = disk.file to ≡ None
 IsAnswered path call disk = Unit {0}
 
--- each of these calls is answered so
+-- each of these calls is answered like this
 abbrev pub AllAnswered : List ℕ → List FileCall → Disk → Type 0
 AllAnswered path [] disk = Unit {0}
 AllAnswered path (call ∷ calls) disk =
     IsAnswered path call (after_calls calls disk) × AllAnswered path calls disk
 
--- The system could wait for the disk, if that is what this call was to do; so it could for each.
+-- The system could wait for the disk, if this call was to wait. `AllWaited` says so of each call.
 abbrev pub IsWaited : FileCall → Type 0
 IsWaited (Unwaited n) = ⊥
 IsWaited (UnwaitedNames p) = ⊥
@@ -65,7 +65,7 @@ LeadsTo path n bytes calls = (disk : Disk) → AllAnswered path calls disk
     → ((after_calls calls disk).file path ≡ Some n) × ((after_calls calls disk).bytes n ≡ bytes)
     × ((after_calls calls disk).is_lost n ≡ false)
 
--- It does, and the file was closed after it got them.
+-- The path leads to this file of just these bytes, and the file was closed after it got them.
 abbrev pub IsThereAs : List ℕ → ℕ → List ℕ → List FileCall → Type 0
 IsThereAs path n bytes calls = LeadsTo path n bytes calls × ClosesLast n calls
 
@@ -111,12 +111,12 @@ IsWithin path calls (Reclaimed p) = IsNumbered path p
 IsWithin path calls (SyncedNames p) = p ≡ path
 IsWithin path calls (UnwaitedNames p) = p ≡ path
 
--- each of these calls is so, after those before it
+-- `P` holds of each of these calls, given those before it
 abbrev pub AllSo : (List FileCall → FileCall → Type 0) → List FileCall → Type 0
 AllSo P [] = Unit {0}
 AllSo P (call ∷ calls) = P calls call × AllSo P calls
 
--- and so is each one since the old calls, after those since then
+-- `P` holds of each call since the old ones, given those between them and it
 pub record Since (P : List FileCall → FileCall → Type 0) (old new : List FileCall) : Type 0 where
   pub since : List FileCall
   pub are : new ≡ since ++ old

@@ -1,5 +1,5 @@
-//! Laws of disks: that the calls of a replacement and of an output can be answered, and what none may
-//! leave out.
+//! Laws of disks: a disk can answer the calls of a replacement and of an output, and some calls
+//! must not be left out.
 
 ghost use Rattle.age_calls.specs.{PutsAreAnswered, OutsAreAnswered, CallsAreAnswered, OthersAreKept};
 ghost use Rattle.age_calls.specs.{TornIfUnsynced, TornIfCutLast, SecondRunIsHarmless, ChangedIfLockedLate};
@@ -9,36 +9,36 @@ pub fn puts_are_answered()
     ensures { PutsAreAnswered }
 {}
 
-/// There are disks that answer the calls of an output, whether it was there or is made. It has the only
-/// lock of its file then, though another run has opened that.
+/// There are disks that answer the calls of an output, whether its file existed or is made. The
+/// output has the only lock on that file then, though another run has opened it.
 pub fn outs_are_answered()
     ensures { OutsAreAnswered }
 {}
 
-/// There is a disk that answers the calls of each output that was made, or opened where its path is
-/// known to lead.
+/// Each output that was made, or opened where its path is known to lead, has a disk that answers
+/// its calls.
 pub fn calls_are_answered()
     ensures { CallsAreAnswered }
 {}
 
-/// An output that wasn't waited for may be torn.
+/// An output may be torn unless the disk was waited for.
 #[tactic(auto, using(crate::proofs::LawLemmas::unsynced))]
 pub fn torn_if_unsynced()
     ensures { TornIfUnsynced }
 {}
 
-/// An output that is cut off after it was waited for may be torn.
+/// An output that is truncated after the disk was waited for may be torn.
 #[tactic(auto, using(crate::proofs::LawLemmas::cut_last))]
 pub fn torn_if_cut_last()
     ensures { TornIfCutLast }
 {}
 
-/// If one of two runs has locked a file, the other changes nothing of it.
+/// If one of two runs has locked a file, the other changes nothing in it.
 pub fn second_run_changes_nothing()
     ensures { SecondRunIsHarmless }
 {}
 
-/// A run that locks a file after it wrote to it doesn't lock it first.
+/// A run that locks a file only after writing to it doesn't lock it first.
 #[tactic(auto, using(crate::proofs::LawLemmas::late))]
 pub fn changed_if_locked_late()
     ensures { ChangedIfLockedLate }

@@ -1,9 +1,9 @@
-//! The calls of the system by which a file is written or put in another's place, and what they leave
-//! on a disk, also if the power is cut between two of them.
+//! The system calls that write a file or put one in another's place, and what they leave on a disk,
+//! even if the power is cut between two of them.
 //!
-//! This is what contracts say of an output and of a saved position, for any list of calls: a crate that
-//! only cites it needs no proof of the machine that makes them (`age_machine`). So what is proved of
-//! a list of calls is proved of every disk that does what the definitions say of a call.
+//! Contracts say by these definitions what was done for an output and for a saved position, for any
+//! list of calls. A crate that only cites them needs no proof of the machine (`age_machine`). What
+//! is proved of a list of calls holds on every disk that does what the definitions say of a call.
 #![tactic(auto)]
 
 mod laws;

@@ -6,35 +6,35 @@ ghost use Rattle.age_calls.specs.Outs.{is_making};
 /// What was opened.
 #[derive(Clone, Copy)]
 pub enum Kind {
-    /// A regular file; whether the path is known to lead to it.
+    /// A regular file, and whether the path is known to lead to it.
     Regular(bool),
-    /// No regular file: a device or a pipe.
+    /// A device, a pipe or anything else that isn't a regular file.
     Device,
 }
 
 /// How a file was opened.
 #[derive(Clone, Copy)]
 pub enum Opening {
-    /// It was made.
+    /// Opening made it.
     New,
-    /// It was there.
+    /// It existed.
     Found {
-        /// It had a name then.
+        /// Whether it had a name then.
         is_named: bool,
-        /// The path is known to lead to it, so the end waits for that name.
+        /// Whether the path is known to lead to it, so that the end waits for that name.
         is_waited: bool,
     },
 }
 
 impl Opening {
-    /// Whether it was made.
+    /// Whether opening made it.
     pub fn is_made(self) -> bool
         ensures { result ≡ is_making self }
     {
         matches!(self, Opening::New)
     }
 
-    /// Whether it had a name.
+    /// Whether the file had a name when it was opened or made.
     pub fn is_named(self) -> bool {
         match self {
             Opening::New => true,

@@ -262,7 +262,7 @@ IsSaved Came durability settled (Some p) (Some name) save puts saved Untried =
 IsSaved Came durability settled position name save puts saved Untried =
     (save ≡ Ok tt) × (puts ≡ []) × Untried
 
--- the position was saved, or not, and the ending says how that went
+-- the position was saved or not, and the ending says how saving it went
 pub record PutsRest (durability : Durability) (save : Option Text) (fault : FileFault) (place : Reached)
     (old new : FilesView) (ending : Ending) : Type 0 where
   pub how : Result (Unit {0}) FileFault
@@ -274,19 +274,19 @@ pub record PutsRest (durability : Durability) (save : Option Text) (fault : File
   pub saved : IsSaved (CameSince old new) durability place.settled due save how rest new.saved
       (new.events ≡ old.events)
 
--- that of this stop; nothing else was done
+-- the position of this stop was saved or not, and nothing else was done
 pub record IsConcluded (s : Stop) (old new : FilesView) (ending : Ending) : Type 0 where
   pub noted : Follows (replacing (option_text s.save) s.durability) old.events new.events
   pub unended : new.ended ≡ old.ended
   pub put : PutsRest s.durability (option_text s.save) s.fault s.place old new ending
 
--- what is unfinished was concluded
+-- an unfinished command was concluded, with this ending
 abbrev pub Concluding : Unfinished → (old new : FilesView) → Ending → Type 0
 Concluding (Ended e) old new ending = (ending ≡ e) × (new ≡ old)
 Concluding (StoppedAt s) old new ending = IsConcluded s old new ending
 
--- This holds of the files and of how a command ended: at once, if all was done, and otherwise however what
--- is unfinished is concluded.
+-- `P` holds of the files and of how a command ended: at once if it is done, and otherwise however
+-- it is concluded.
 pub record Finally (P : FilesView → Result (Unit {0}) Ending → Type 0) (files : FilesView)
     (result : Result (Unit {0}) Unfinished) : Type 0 where
   pub done : OnOk result (P files (Ok tt))

@@ -52,8 +52,8 @@ pub(crate) fn sealing_end(sealed: Result<Written, FileFault>) -> Result<(), File
     }
 }
 
-/// The position to write to the file of this name: that of a stop. But one at chunk 0 says nothing
-/// that `decrypt` doesn't do, so it replaces nothing.
+/// The position of a stop, to be written to the file of this name. A position at chunk 0 says
+/// nothing that `decrypt` doesn't do, so it replaces nothing.
 fn due_position<'w, F: FileSet<'w>>(
     files: &mut F,
     name: Option<&'w str>,
@@ -72,8 +72,8 @@ fn due_position<'w, F: FileSet<'w>>(
     if files.is_absent(to) { position } else { None }
 }
 
-/// Saves a position, if there is one and a file for it. It isn't saved (27) if it is beyond what
-/// OUT certainly holds: `settled` bytes.
+/// Saves a position, if there is one and a file for it. A position beyond the `settled` bytes that
+/// OUT certainly holds isn't saved (27).
 pub(crate) fn save<'w, F: FileSet<'w>>(
     alloc: Global,
     files: &mut F,
@@ -106,7 +106,7 @@ pub(crate) fn save<'w, F: FileSet<'w>>(
     files.replace(alloc, name, text.as_slice(), durability)
 }
 
-/// A command that stopped, and its position is still to be saved.
+/// A command that stopped, and whose position is still to be saved.
 #[derive(Clone, Copy)]
 pub struct Stop<'w> {
     pub(crate) fault: FileFault,
@@ -114,14 +114,14 @@ pub struct Stop<'w> {
     pub(crate) place: Reached,
     /// The file of its position.
     pub(crate) save: Option<&'w str>,
-    /// Whether that is to be on the disk.
+    /// Whether that file is to be on the disk.
     pub(crate) durability: Durability,
 }
 
 /// Why a command isn't done.
 #[derive(Drop)]
 pub enum Unfinished<'w> {
-    /// It ended so.
+    /// It ended with this.
     Ended(Ending),
     /// It stopped.
     Stopped(Stop<'w>),
@@ -155,7 +155,7 @@ fn save_stop<'w, F: FileSet<'w>>(
     )
 }
 
-/// Reports a stop, and saves its position after that, since what it goes to may block.
+/// Reports a stop, and saves its position only after that, since the file that it goes to may block.
 fn conclude_stop<'w, F: FileSet<'w>, E: Sink>(
     alloc: Global,
     files: &mut F,
@@ -178,8 +178,8 @@ fn conclude_stop<'w, F: FileSet<'w>, E: Sink>(
     }
 }
 
-/// Reports to `faults` why a command isn't done. If it stopped, its position is saved then, if it has
-/// one and a file for it, and isn't beyond what the output holds for certain. Returns how it ended.
+/// Reports to `faults` why a command isn't done. If it stopped, its position is saved after that, if it
+/// has one and a file for it, and isn't beyond what OUT certainly holds. Returns how the command ended.
 pub fn conclude<'w, F: FileSet<'w>, E: Sink>(
     alloc: Global,
     files: &mut F,

@@ -66,7 +66,7 @@ module _ (durability : Durability) (out : OutView) (failed : ℕ) (failing : Boo
 
 -- ---- A new file that was put to a path.
 
--- it was put there at once, by these calls, which began with none
+-- the bytes were put to their path at once, by these calls, which began with none
 pub saved_at : {E : Type 0} (bytes path : List ℕ) (durability : Durability) (r : Result (Unit {0}) E) (s : SavedFile)
     (old calls : List FileCall) → s.path ≡ Some path → s.calls ≡ calls → old ≡ [] → PutsAtOnce bytes durability r old calls path
     → Saves bytes durability r s

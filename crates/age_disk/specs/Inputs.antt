@@ -9,15 +9,15 @@ pub record InputView : Type 0 where
   -- how many pulls have failed, and whether the last one did
   pub failed : ℕ
   pub failing : Bool
-  -- the bytes that it gave or passed over, and whether a pull found the end
+  -- the bytes that it gave or skipped, and whether a pull found the end
   pub given : List ℕ
   pub is_at_end : Bool
-  -- how many it still has to give, by its length as it was opened, if it is a regular file
+  -- how many it still has to give, by its length when it was opened, if it is a regular file
   pub size : Option ℕ
   -- what tells it from other files, if that is known
   pub id : Option FileId
 
--- it was opened under this name, and nothing was read of it yet
+-- it was opened under this name, and nothing was read from it yet
 pub record IsFresh (name : List ℕ) (source : InputView) : Type 0 where
   pub named : source.name ≡ name
   pub failed : source.failed ≡ 0

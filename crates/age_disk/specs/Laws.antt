@@ -9,7 +9,7 @@ use Rattle.age_disk.specs.declared.names.FileId.{FileId}
 use Rattle.age_disk.specs.declared.names.FileId.TheVariants.{File}
 
 -- The calls of a regular output that is none of the files that were opened leave on every disk what
--- these hold.
+-- these files hold.
 -- (in any order: each of these files is open, whichever came first)
 abbrev pub NoInputIsChanged : Type 0
 NoInputIsChanged = (opened : List FileId) (out : OutputView) (file : OutFile) (calls : List FileCall)
@@ -17,7 +17,7 @@ NoInputIsChanged = (opened : List FileId) (out : OutputView) (file : OutFile) (c
     → (input : Node) → input.inode < 2 ^ 64 → Contains opened (File input) → (disk : Disk)
     → (after_calls calls disk).bytes (number_of input) ≡ disk.bytes (number_of input)
 
--- Those of one that is new leave what every file holds to which a path led before.
+-- The calls of a new output leave what every file to which a path led before holds.
 abbrev pub NoOtherIsChanged : Type 0
 NoOtherIsChanged = (file : OutFile) (calls : List FileCall) → AllOn file.path file.number calls
     → (disk : Disk) → ((path : List ℕ) → disk.file path ≡ Some file.number → ⊥)

@@ -14,12 +14,12 @@ pub record OutputView : Type 0 where
   -- how many puts have failed, and whether the last call did
   pub failed : ℕ
   pub failing : Bool
-  -- the bytes that it took, and how many of them were there when the disk was last waited for
+  -- the bytes that it took, and how many of them it had taken when the disk was last waited for
   pub took : List ℕ
   pub settled : ℕ
   -- which regular file it is, if it is one
   pub file : Option OutFile
-  -- the path at which it is to be made, if it isn't there yet
+  -- the path at which it is to be made, if it doesn't exist yet
   pub unmade : Option (List ℕ)
   -- what tells it from other files, if that is known
   pub id : Option FileId
@@ -71,7 +71,7 @@ pub record IsMadeAt (path : List ℕ) (now : Option OutFile) : Type 0 where
   pub at : file.path ≡ path
   pub made : file.is_made ≡ true
 
--- It is the same file as before. One that wasn't there yet still isn't, or was made at its path.
+-- It is the same file as before. One that didn't exist yet still doesn't, or was made at its path.
 abbrev pub Stays : (unmade later : Option (List ℕ)) (file now : Option OutFile) (id known : Option FileId)
     → Type 0
 Stays None later file now id known = (later ≡ None) × (now ≡ file) × (known ≡ id)
@@ -81,6 +81,6 @@ Stays (Some path) later file now id known = ((later ≡ Some path) × (now ≡ f
 abbrev pub KeepsFile : (old new : OutputView) → Type 0
 KeepsFile old new = Stays old.unmade new.unmade old.file new.file old.id new.id
 
--- an output was closed that had taken just these bytes; it is there
+-- an output that had taken just these bytes was closed; it is at its path
 abbrev pub WritesDirectly : List ℕ → EndedFile → Type 0
 WritesDirectly bytes e = (e.took ≡ bytes) × (e.is_closed ≡ true) × IsThere e

@@ -17,7 +17,7 @@ use std::rt::HostRuntime;
 pub(crate) struct Kept {
     // The calls that made it.
     machine: HostMachine,
-    // Where it is to be put.
+    // The path to which it is to be put.
     path: String,
     beside: Beside<HostFile>,
 }
@@ -52,8 +52,8 @@ impl Drop for Kept {
 }
 
 impl Kept {
-    /// A file beside a path with room for a position; `None` if none can be made there. Fails if it
-    /// can't be filled.
+    /// Makes a file beside a path with room for a position; `None` if none can be made there. Fails
+    /// if the file can't be filled.
     pub(crate) fn make(
         alloc: Global,
         rt: &HostRuntime,
@@ -79,7 +79,7 @@ impl Kept {
         self.machine.again()
     }
 
-    /// Where it is to be put.
+    /// The path to which it is to be put.
     pub(crate) fn path(&self) -> &str
         ensures { result.now ≡ self.now.path }
     {

@@ -1,4 +1,4 @@
-//! What is opened to be written and no regular file.
+//! What is opened for writing and isn't a regular file.
 
 ghost use Rattle.std.specs.Prelude.{◌≡◌, Some};
 ghost use Rattle.age_machine.specs.{number_of};

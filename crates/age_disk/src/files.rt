@@ -31,13 +31,13 @@ use std::alloc::Global;
 use std::rt::HostRuntime;
 use std::{fs, io};
 
-/// The machine's files. Contracts see what was done with them and what came of it, and of their
-/// bytes what was read and put. A name is a path; `/dev/stdin`, `/dev/stdout`, `/dev/stderr` and
-/// their names under `/dev/fd` and `/proc/self/fd` are the streams that the program was started
-/// with. Two regular files or pipes are one if they have the same device and inode, and two block
-/// devices if they have the same number. Character devices and sockets that are written aren't
-/// compared. A stream gives each of its bytes once, and is opened once to be read: a pipe, a socket,
-/// a terminal and the like, and standard input, whatever that is.
+/// The machine's files. Contracts see what was done with them and what came of that, and which
+/// bytes were read and put. A name is a path; `/dev/stdin`, `/dev/stdout`, `/dev/stderr` and their
+/// names under `/dev/fd` and `/proc/self/fd` are the streams that the program was started with. Two
+/// regular files or pipes are one if they have the same device and inode, and two block devices if
+/// they have the same number. Character devices and sockets that are written aren't compared. A
+/// stream gives each of its bytes once, and is opened only once for reading: a pipe, a socket, a
+/// terminal and the like, and standard input, whatever that is.
 #[derive(Drop)]
 pub struct HostFiles<'r, 'w> {
     rt: &'r HostRuntime,
@@ -68,7 +68,7 @@ impl<'r, 'w> HostFiles<'r, 'w> {
         }
     }
 
-    /// Keeps a stream that is to be opened, before that is tried: it may wait forever.
+    /// Keeps a stream before it is opened, since opening it may wait forever.
     fn admit_stream(&mut self, alloc: Global, name: &'w str) -> Result<(), OpenFault>
         ensures kept { (self.new.log ≡ self.old.log) × (self.new.ended ≡ self.old.ended)
             × (self.new.saved ≡ self.old.saved) × (self.new.open ≡ self.old.open) }
@@ -87,7 +87,7 @@ impl<'r, 'w> HostFiles<'r, 'w> {
         }
     }
 
-    /// Opens a file to be read, which may count as empty if it isn't there, and keeps it.
+    /// Opens a file for reading, and keeps it. A missing one may count as empty.
     fn admit_in(
         &mut self,
         alloc: Global,
@@ -162,7 +162,7 @@ impl<'r, 'w> HostFiles<'r, 'w> {
         }
     }
 
-    /// Keeps why a file can't be written, which is the fault.
+    /// Keeps why a file can't be written, and returns the fault.
     fn refusal(&self, name: &'w str, error: io::Error) -> OpenFault
         ensures faults { OpenFails Write result }
         ensures other { result ≢ SameFile }
@@ -204,7 +204,7 @@ impl<'r, 'w> HostFiles<'r, 'w> {
         }
     }
 
-    /// Refuses the names among these that lead to one stream.
+    /// Refuses these names if two of them lead to one stream.
     fn check_each(&self, alloc: Global, names: &[Option<&'w str>]) -> Result<(), OpenFault>
         ensures { IfErr result (OpenFails Memory) }
     {
@@ -216,7 +216,7 @@ impl<'r, 'w> HostFiles<'r, 'w> {
         Ok(())
     }
 
-    /// Replaces the file of a name, as that was prepared, or as it stands now.
+    /// Replaces the file of a name, as it was prepared, or else as it is found now.
     fn replace_named(
         &self,
         alloc: Global,
@@ -242,8 +242,8 @@ impl<'r, 'w> HostFiles<'r, 'w> {
         }
     }
 
-    /// Fails if a file that was prepared is open now, or was written, or is standard error, or in
-    /// another folder.
+    /// Fails if a file that was prepared is open now, or was written, or is standard error, or is
+    /// in another folder.
     fn check_apart(&self, prepared: &Prepared<'_>) -> io::Result<()> {
         prepared.check_folder(self.rt)?;
         let id = prepared.id(self.rt)?;
@@ -272,7 +272,7 @@ impl<'r, 'w> HostFiles<'r, 'w> {
         prepared_at(alloc, self.rt, name, spared, durability, self.failures)
     }
 
-    /// Keeps a file that was prepared, if it is none of those that are open, nor standard error.
+    /// Keeps a file that was prepared, unless it is one of those that are open, or standard error.
     fn admit_prepared(
         &mut self,
         prepared: Prepared<'w>,
@@ -301,7 +301,7 @@ impl<'r, 'w> HostFiles<'r, 'w> {
     }
 }
 
-/// What is done to open an output: one is to be made if there is none.
+/// What is done to open an output, which is to be made if it doesn't exist.
 fn opening(rt: &HostRuntime, name: &str) -> Action {
     match found_at(rt, name) {
         Ok(None) => Action::Create,
@@ -468,7 +468,7 @@ impl<'r, 'w> FileSet<'w> for HostFiles<'r, 'w> {
         Err(fault)
     }
 
-    /// What can't be looked at may be there.
+    /// A file that can't be looked at may exist.
     fn is_absent(&mut self, name: &'w str) -> bool {
         let is_absent = matches!(found_at(self.rt, name), Ok(None));
         self.log.note(if is_absent {

@@ -23,7 +23,7 @@ pub(crate) fn is_for_faults(rt: &HostRuntime, id: Option<FileId>) -> bool {
     id.is_some() && id == FileId::of_stream(rt, StandardStream::Faults)
 }
 
-/// Keeps a stream, if it is none of those that were kept before.
+/// Keeps a stream. Refuses one that was kept before.
 pub(crate) fn keep_stream(kept: &mut Vec<StreamId>, stream: StreamId) -> Result<(), OpenFault>
     ensures faults { IfErr result (OpenFails Read) }
     ensures only { result ≡ Err SameFile → kept.old.items ≢ [] }
@@ -41,7 +41,7 @@ fn is_one_stream(alloc: Global, rt: &HostRuntime, one: &str, other: &str) -> io:
     Ok(matches!((one, other), (Some(one), Some(other)) if one.is_same(other)))
 }
 
-/// The name among those that are given that leads to the same stream as this one.
+/// The given name that leads to the same stream as this one, if one does.
 pub(crate) fn find_same<'n>(
     alloc: Global,
     rt: &HostRuntime,
@@ -69,7 +69,7 @@ pub(crate) fn is_known(opened: &[FileId], id: Option<FileId>) -> bool
     }
 }
 
-/// Fails if this is a file that was opened, or standard error's.
+/// Fails if this is a file that was opened, or that of standard error.
 pub(crate) fn check_unused(
     rt: &HostRuntime,
     opened: &[FileId],
@@ -95,7 +95,7 @@ pub(crate) fn keep(opened: &mut Vec<FileId>, id: Option<FileId>) -> Result<(), F
     Ok(())
 }
 
-/// Keeps which file was opened to be written, if it is none of those that were opened before.
+/// Keeps which file was opened for writing. Refuses one that was opened before.
 fn admit(opened: &mut Vec<FileId>, id: Option<FileId>) -> Result<(), OpenFault>
     ensures apart { (one : FileId) → id ≡ Some one → Contains opened.old.items one
         → result ≡ Err SameFile }
@@ -108,8 +108,8 @@ fn admit(opened: &mut Vec<FileId>, id: Option<FileId>) -> Result<(), OpenFault>
     Ok(keep(opened, id)?)
 }
 
-/// The name of the file that is this one among those that were prepared, or would be once it is made.
-/// Fails if the system can't look at one of them.
+/// The name of the prepared file that is this one, or would be once this one is made. Fails if the
+/// system can't look at a prepared file.
 fn find_prepared<'w>(
     rt: &HostRuntime,
     prepared: &[Prepared<'w>],
@@ -127,7 +127,7 @@ fn find_prepared<'w>(
     Ok(None)
 }
 
-/// Running out of memory is reported as such, and anything else as `other`.
+/// The fault for an error: running out of memory is reported as such, and anything else as `other`.
 pub(crate) fn fault_of(error: io::Error, other: FileFault) -> FileFault
     ensures { IsMemoryOr other result }
 {
@@ -138,8 +138,8 @@ pub(crate) fn fault_of(error: io::Error, other: FileFault) -> FileFault
     }
 }
 
-/// Keeps a file that is to be written, if it is none of those that were opened or prepared before;
-/// otherwise its name is kept, with the other one if that is known.
+/// Keeps a file that is to be written. One that was opened or prepared before is refused, and its
+/// name is kept, with the other one if that is known.
 pub(crate) fn admit_out<'w>(
     rt: &HostRuntime,
     opened: &mut Vec<FileId>,

@@ -18,18 +18,18 @@ use std::io::{self, Read, Seek, SeekFrom};
 use std::marker::Model;
 use std::rt::{HostRuntime, Stdin};
 
-/// The name of the machine's random bytes. What is read under it is no file that somebody filled:
-/// two runs would take the same keys from it.
+/// The name of the machine's random bytes. What is read under it must not be a file that somebody
+/// filled, since two runs would take the same keys from it.
 const RANDOM: &str = "/dev/urandom";
 
-/// What its bytes are read from.
+/// What the bytes of an input are read from.
 #[derive(Drop)]
 enum Handle {
     /// A file that was opened.
     File(File),
     /// Standard input, from where it stands.
     Input(Stdin),
-    /// A file that isn't there.
+    /// A file that doesn't exist.
     Nothing,
 }
 
@@ -55,7 +55,7 @@ impl Handle {
         Err(too_many_tries())
     }
 
-    /// Reads, and notes what came: what no proof sees.
+    /// Reads, and notes what came. No proof sees the call.
     fn read_once(
         &mut self,
         into: &mut [u8],
@@ -77,8 +77,8 @@ impl Handle {
         Ok(n)
     }
 
-    /// Passes over bytes of a file on a disk, and returns how many. A stream is read from where it
-    /// stands, and so is what has no places.
+    /// Skips bytes of a file on a disk, and returns how many. A stream is read from where it
+    /// stands, and so is a file that can't seek.
     fn skip(&mut self, most: u64) -> u64
         ensures { result ≤ most }
     {
@@ -89,8 +89,8 @@ impl Handle {
     }
 }
 
-/// Passes over bytes of a file by one call, and returns how many: of a regular file no more than it
-/// has now. A block device refuses to go beyond its end, and stays where it is.
+/// Skips bytes of a file by one call, and returns how many, but not beyond the end that a regular
+/// file has now. A block device refuses to go beyond its end, and stays where it is.
 fn skip_in(file: &mut File, most: u64) -> io::Result<u64>
     ensures { IfOk result (λ n. n ≤ most) }
 {
@@ -107,7 +107,7 @@ fn skip_in(file: &mut File, most: u64) -> io::Result<u64>
     Ok(n)
 }
 
-/// Whether a file stands at its end, by its length.
+/// Whether a file is at its end, by its length.
 fn is_at_end(file: &mut File) -> bool {
     match (file.stream_position(), file.metadata()) {
         (Ok(at), Ok(now)) => at >= now.len(),
@@ -124,10 +124,10 @@ fn length_of(metadata: &Metadata) -> Option<u64> {
     }
 }
 
-/// A file of the machine that is read, or standard input, under the name that the command line has
-/// for it. A contract sees the bytes that it gave or passed over, and whether a pull found the end;
-/// none that are to come; how many pulls have failed, and whether the last one did; and which file
-/// it is. What it gave and why it failed is kept for what people are told.
+/// A file of the machine that is read, or standard input, under its name on the command line. A
+/// contract sees the bytes that it gave or skipped, and none that are to come; whether a pull found
+/// the end; how many pulls have failed, and whether the last one did; and which file it is. What it
+/// gave and why it failed are kept for what people are told.
 #[derive(Drop)]
 pub struct HostIn<'r, 'w> {
     rt: HostRuntime,
@@ -224,7 +224,7 @@ impl<'r, 'w> HostIn<'r, 'w> {
         self.id
     }
 
-    /// How many bytes a regular file still has to give, by its length as it was opened.
+    /// How many bytes a regular file still has to give, by its length when it was opened.
     pub fn length(&self) -> Option<u64>
         ensures { result ≡ self.now.size }
     {
@@ -242,8 +242,8 @@ impl<'r, 'w> HostIn<'r, 'w> {
         log.note(Doing::Gave(&name, &self.given, self.is_at_end, is_failing));
     }
 
-    /// Keeps what a pull gave: how much is left, and that the file was cut off, if it is shorter now
-    /// than it was. Files that the system makes up may end before the length that they have.
+    /// Keeps what a pull gave: how much is left, and that the file was truncated, if it is shorter
+    /// now than it was. Files that the system makes up may end before the length that they show.
     fn note_pulled(&mut self, pulled: &[u8])
         ensures { self.new ≡ record self.old { size = self.new.size } }
     {

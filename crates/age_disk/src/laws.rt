@@ -5,7 +5,7 @@ ghost use Rattle.age_disk.specs.{NoInputIsChanged, NoOtherIsChanged};
 use age_calls::others_are_kept;
 use age_machine::numbers_are_apart;
 
-/// An output that is none of the files that were opened changes none of them, nor does one that is new.
+/// An output that is none of the opened files changes none of them, and neither does a new one.
 pub fn no_input_is_changed()
     ensures opened { NoInputIsChanged }
     ensures made { NoOtherIsChanged }

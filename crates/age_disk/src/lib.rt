@@ -1,9 +1,9 @@
 //! The set of the machine's files: what a name stands for, which files are in use, what is locked, read,
 //! written and synced, and what is to be replaced later.
 //!
-//! Contracts see which files were opened, created, replaced and ended, what was read of them and what
-//! was put, and nothing else that they hold. What the machine answered is noted for `RunFailures`, of an
-//! output as it is ended.
+//! Contracts see which files were opened, created, replaced and ended, what was read from them and
+//! what was put, and nothing else that they hold. The machine's answers are noted for
+//! `RunFailures`; those about an output are noted when it is ended.
 #![tactic(auto)]
 
 mod beside;

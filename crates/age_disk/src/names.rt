@@ -44,7 +44,7 @@ impl StandardStream {
         }
     }
 
-    /// A second descriptor of it. Fails if the program was started without this stream.
+    /// A second descriptor of the stream. Fails if the program was started without this stream.
     pub(crate) fn copy(self, rt: &HostRuntime) -> io::Result<OwnedFd> {
         match self {
             StandardStream::Input => rt.stdin().as_fd().try_clone_to_owned(),
@@ -53,8 +53,8 @@ impl StandardStream {
         }
     }
 
-    /// Fails if the program was started without this stream. A copy isn't made unless it has to be:
-    /// to some file systems, one that is closed says that all is written.
+    /// Fails if the program was started without this stream. A copy is made only if it has to be,
+    /// since closing one tells some file systems that all is written.
     pub fn check(self, rt: &HostRuntime) -> io::Result<()> {
         if fs::metadata(rt, self.path()).is_err() {
             self.copy(rt)?;
@@ -62,7 +62,7 @@ impl StandardStream {
         Ok(())
     }
 
-    /// Whether it leads to a file that holds bytes on a disk, as far as the system shows it.
+    /// Whether the stream leads to a file that holds bytes on a disk, as far as the system shows that.
     pub(crate) fn may_be_on_disk(self, rt: &HostRuntime) -> bool {
         match fs::metadata(rt, self.path()) {
             Ok(metadata) => is_on_disk(&metadata),
@@ -76,7 +76,7 @@ impl StandardStream {
 pub enum Resolved {
     /// A stream that the program was started with.
     Stream(StandardStream),
-    /// A path that is no link; whether there is a file is another matter.
+    /// A path that isn't a link, and at which a file may or may not exist.
     Path(PathBuf),
 }
 
@@ -88,7 +88,7 @@ pub(crate) struct Led<'w> {
 }
 
 impl<'w> Led<'w> {
-    /// What a name stands for, noted with it: where that is, no proof sees.
+    /// Looks up what a name stands for, and notes it. No proof sees where that is.
     pub(crate) fn of(alloc: Global, rt: &HostRuntime, name: &'w str) -> io::Result<Led<'w>>
         ensures { IfOk result (λ l. l.name.now ≡ name.now) }
     {
@@ -97,7 +97,7 @@ impl<'w> Led<'w> {
     }
 }
 
-/// How many links are followed, as the system does.
+/// How many links are followed, which is as many as the system follows.
 const LINKS_MAX: usize = 40;
 
 /// What a name stands for, at the end of its links.
@@ -115,7 +115,7 @@ pub fn resolve(alloc: Global, rt: &HostRuntime, name: &str) -> io::Result<Resolv
     Err(io::Error::from(io::ErrorKind::FilesystemLoop))
 }
 
-/// Where a link leads; `None` for what is no link.
+/// Where a link leads; `None` for what isn't a link.
 fn target_of(alloc: Global, rt: &HostRuntime, path: &PathBuf) -> io::Result<Option<PathBuf>> {
     match fs::read_link(rt, path.as_str()) {
         Ok(target) => match path.parent() {
@@ -137,8 +137,8 @@ pub enum FileId {
 }
 
 impl FileId {
-    /// `None` for a terminal or another character device, and for a socket: what is written to one
-    /// is never read from it again.
+    /// Identifies a file by its metadata; `None` for a terminal or another character device, and
+    /// for a socket, since what is written to one is never read from it again.
     pub fn of(metadata: &Metadata) -> Option<FileId> {
         let kind = metadata.file_type();
         if kind.is_block_device() {
@@ -158,8 +158,8 @@ impl FileId {
         FileId::File(node)
     }
 
-    /// The id of the file to which a name leads; `None` if there is none. Fails if the system can't
-    /// look at it: then nobody knows which file it is.
+    /// The id of the file to which a name leads; `None` if it leads to none. Fails if the system
+    /// can't look at it, since nobody knows then which file it is.
     pub(crate) fn seen_at(rt: &HostRuntime, name: &str) -> io::Result<Option<FileId>> {
         match fs::metadata(rt, name) {
             Ok(found) => Ok(FileId::of(&found)),
@@ -168,13 +168,13 @@ impl FileId {
         }
     }
 
-    /// The same, where a file that can't be looked at counts as none.
+    /// Like `seen_at`, but a file that can't be looked at counts as none.
     pub fn at(rt: &HostRuntime, name: &str) -> Option<FileId> {
         FileId::seen_at(rt, name).unwrap_or(None)
     }
 
-    /// The id of the file to which a stream leads that is open. Fails if the system doesn't show
-    /// that, as when there is no /proc: what is read could be overwritten.
+    /// The id of the file to which an open stream leads. Fails if the system doesn't show that, as
+    /// when /proc doesn't exist, since what is read could be overwritten.
     pub fn of_open_stream(rt: &HostRuntime, stream: StandardStream) -> io::Result<Option<FileId>> {
         match fs::metadata(rt, stream.path()) {
             Ok(metadata) => Ok(FileId::of(&metadata)),
@@ -194,7 +194,7 @@ impl FileId {
 /// Identifies what gives each of its bytes once, whatever its names.
 #[derive(Clone, Copy, PartialEq, Eq)]
 pub enum StreamId {
-    /// Standard input, if it is a file that others can open: it is read on from where it stands.
+    /// Standard input, if it is a file that others can open. It is read from where it stands.
     Input,
     /// A terminal, or another device that is read byte by byte, by its number.
     Device(u64),
@@ -206,8 +206,8 @@ pub enum StreamId {
 const CONTROLLING_TERMINAL: u64 = 0x500;
 
 impl StreamId {
-    /// The stream to which a name leads, before it is opened: `None` for what can be read twice.
-    /// Fails if memory is refused.
+    /// The stream to which a name leads, before it is opened; `None` for what can be read twice.
+    /// Fails if memory runs out.
     pub fn at(alloc: Global, rt: &HostRuntime, name: &str) -> io::Result<Option<StreamId>> {
         match resolve(alloc, rt, name) {
             Ok(Resolved::Path(_)) => Ok(StreamId::found(rt, name)),
@@ -241,8 +241,8 @@ impl StreamId {
         }
     }
 
-    /// `None` for the devices without an end or a state: `/dev/null`, `zero`, `full`, `random` and
-    /// `urandom`.
+    /// The stream of a device; `None` for those without an end or a state: `/dev/null`, `zero`,
+    /// `full`, `random` and `urandom`.
     fn of_device(number: u64) -> Option<StreamId> {
         match number {
             0x103 | 0x105 | 0x107 | 0x108 | 0x109 => None,
@@ -266,7 +266,7 @@ pub fn is_on_disk(metadata: &Metadata) -> bool {
     kind.is_file() || kind.is_block_device()
 }
 
-/// Whether a file hands on what is written to it, and nobody knows who has it: a pipe or a socket.
+/// Whether a file is a pipe or a socket, so that nobody knows who has what is written to it.
 pub(crate) fn is_handed_on(metadata: &Metadata) -> bool {
     let kind = metadata.file_type();
     kind.is_fifo() || kind.is_socket()

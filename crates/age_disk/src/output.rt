@@ -32,12 +32,12 @@ use std::rt::HostRuntime;
 /// How much a file took, and when the disk is waited for.
 #[derive(Clone, Copy)]
 struct Pace {
-    // How many bytes it took, and how many of them were there when the disk was last waited for.
+    // How many bytes it took, and how many of them it had taken when the disk was last waited for.
     taken: u64,
     settled: u64,
-    // Whether the disk is waited for as it is written.
+    // Whether the disk is waited for while it is written.
     durability: Durability,
-    // How a wait for the disk failed. The system says so once: a later wait proves nothing.
+    // How a wait for the disk failed. The system says so only once, so a later wait proves nothing.
     lost: Option<io::Error>,
 }
 
@@ -54,7 +54,7 @@ impl Pace {
         }
     }
 
-    /// Waits until what was written has reached the disk. Fails for good once that has failed.
+    /// Waits until what was written has reached the disk. Once a wait has failed, each later one fails.
     fn reach_disk(&mut self, target: &mut Target) -> io::Result<()>
         ensures settled { OnOk result (self.new.settled ≡ self.new.taken) }
         ensures more { (took : List ℕ) → IsPaced self.old took → self.old.settled ≤ self.new.settled }
@@ -72,8 +72,8 @@ impl Pace {
         reached
     }
 
-    /// Whether all that was written has reached the disk, and the machine says so again as a copy is
-    /// closed.
+    /// Whether all that was written has reached the disk, and the machine says so again when a copy
+    /// is closed.
     fn is_stored(&mut self, rt: &HostRuntime, target: &mut Target) -> bool
         ensures stored { result ≡ true → self.new.taken ≤ self.new.settled }
         ensures more { (took : List ℕ) → IsPaced self.old took → self.old.settled ≤ self.new.settled }
@@ -214,7 +214,7 @@ impl Which {
 #[derive(Drop)]
 pub struct HostEnded {
     took: Tape,
-    // It was closed with what was written, and not discarded.
+    // Whether it was closed with what was written, and not discarded.
     is_closed: bool,
     which: Option<Which>,
     machine: HostMachine,
@@ -257,9 +257,9 @@ impl HostEnded {
 }
 
 /// A file of the machine that is written, or standard output or error. A regular file keeps its
-/// bytes until a put takes some. One that isn't there yet is made by then, or by the flush: so a run
-/// that stops before leaves nothing. A contract sees the bytes that it took, none that it holds, how
-/// many puts have failed, and whether the last call did.
+/// bytes until a put takes some. One that doesn't exist yet is made then, or by the flush, so a run
+/// that stops before leaves nothing. A contract sees the bytes that it took, but not what it holds,
+/// how many puts have failed, and whether the last call did.
 #[derive(Drop)]
 pub struct HostOut {
     rt: HostRuntime,
@@ -300,8 +300,8 @@ impl Model for HostOut {
         × IfSome (unmade_of s.target) (λ _. s.took ≡ [])))) };
 }
 
-/// How many bytes are written at least, and at most, between two waits for the disk. In between,
-/// they grow with what was written: so a stop seldom loses more than half of it.
+/// The least and the most bytes that are written between two waits for the disk. In between, their
+/// number grows with what was written, so a stop seldom loses more than half of it.
 const WAIT_FIRST: u64 = 1 << 24;
 
 const WAIT_MOST: u64 = 1 << 30;
@@ -311,7 +311,7 @@ fn is_wait_due(taken: u64, settled: u64) -> bool {
     taken.saturating_sub(settled) >= settled.min(WAIT_MOST).max(WAIT_FIRST)
 }
 
-/// What was done to a device or a stream: no call is noted but the one that opened it.
+/// What was done to a device or a stream. No call is noted except the one that opened it.
 fn unseen(rt: &HostRuntime, target: &Target, took: Tape, is_closed: bool) -> HostEnded
     requires { regular_of target.now ≡ None }
     ensures is { result ≡ record {
@@ -357,7 +357,7 @@ fn end_file(
     (ended, end)
 }
 
-/// Ends a regular file as it was before it was opened, if nothing was written.
+/// Ends a regular file unchanged, if nothing was written.
 fn discard_file(
     out: Out<HostMachine>,
     took: Tape,
@@ -377,7 +377,7 @@ fn discard_file(
     }
 }
 
-/// Ends a regular file to which each put failed: it is closed as it was before it was opened.
+/// Ends a regular file to which each put failed, by closing it unchanged.
 fn close_untouched(
     out: Out<HostMachine>,
     took: Tape,
@@ -394,7 +394,7 @@ fn close_untouched(
     (ended, Ok(()))
 }
 
-/// Ends a device or a stream, and closes it, in either case.
+/// Ends a device or a stream, and closes it in any case.
 fn end_stream(
     rt: &HostRuntime,
     mut target: Target,
@@ -452,9 +452,10 @@ impl HostOut {
         HostOut::new(rt, String::new(rt.alloc()), target, None)
     }
 
-    /// Opens what a name stands for without emptying it; if there is none, a file is to be made. Nothing
-    /// can be written to standard input. If it is to be on the disk at the end, the disk is waited
-    /// for each 16 MiB to 1 GiB: so a failure is seen early, and `settle` can tell what is there.
+    /// Opens what a name stands for without emptying it; if nothing exists, a file is to be made.
+    /// Standard input can't be written. If the output is to be on the disk at the end, the disk is
+    /// waited for every 16 MiB to 1 GiB, so that a failure is seen early, and `settle` can tell
+    /// what is certain.
     pub fn open(
         alloc: Global,
         rt: &HostRuntime,
@@ -497,7 +498,7 @@ impl HostOut {
         Ok(out)
     }
 
-    /// Opens the file at the end of a name's links, which is to be made if there is none.
+    /// Opens the file at the end of a name's links, which is to be made if it doesn't exist.
     fn open_at(alloc: Global, rt: &HostRuntime, name: String, path: &str) -> io::Result<HostOut>
         ensures fresh { IfOk result IsNew }
         ensures named { IfOk result (λ o. o.name ≡ string_bytes name) }
@@ -520,7 +521,7 @@ impl HostOut {
         Ok(HostOut::new(rt, name, Target::Unmade(path), None))
     }
 
-    /// What was opened to be written; what is written to a regular file replaces what it holds.
+    /// Takes what was opened for writing. What is written to a regular file replaces what it holds.
     fn of_opened(
         rt: &HostRuntime,
         machine: HostMachine,
@@ -549,8 +550,8 @@ impl HostOut {
         Ok(HostOut::new(rt, name, Target::File(out), id))
     }
 
-    /// A file that is open to be written, to which a path leads, unless it is a device. Its name
-    /// isn't waited for.
+    /// Takes a file that is open for writing, to which a path leads, unless it is a device. Its
+    /// name isn't waited for.
     pub fn over(alloc: Global, rt: &HostRuntime, file: File, path: &str) -> io::Result<HostOut>
         ensures { IfOk result IsNew }
     {
@@ -578,8 +579,8 @@ impl HostOut {
         Ok(HostOut::new(rt, name, target, id))
     }
 
-    /// Takes a regular file for this run alone, so that no two runs write to one. Fails if another
-    /// run has it, or if its name leads to it no longer, as when another run that had made it has
+    /// Takes a regular file for this run alone, so that no two runs write to it. Fails if another
+    /// run has it, or if its name no longer leads to it, as when another run that had made it has
     /// removed it.
     pub fn claim(self, rt: &HostRuntime) -> io::Result<HostOut>
         ensures { IfOk result (λ o. o ≡ self) }
@@ -610,7 +611,7 @@ impl HostOut {
         self.id
     }
 
-    /// The path at which it is to be made, if it isn't there yet.
+    /// The path at which it is to be made, if it doesn't exist yet.
     pub fn unmade(&self) -> Option<&str>
         ensures { option_map (λ s. s.now) result ≡ self.now.unmade }
     {
@@ -640,16 +641,16 @@ impl HostOut {
         }
     }
 
-    /// Whether it took no byte so far.
+    /// Whether it has taken no byte so far.
     pub fn is_empty(&self) -> bool
         ensures { result ≡ true ↔ (self.now.took ≡ []) }
     {
         self.pace.taken == 0
     }
 
-    /// How many of the bytes that it took are there for certain: on the disk, if they are to be and
-    /// the machine can wait for that. A file that was cut off or removed has fewer; of a pipe, what
-    /// may still be on its way isn't counted.
+    /// How many of the bytes that it took are certainly stored: on the disk, if they are to be and
+    /// the machine can wait for that. A file that was truncated or removed has fewer. What may
+    /// still be on its way through a pipe isn't counted.
     pub fn settle(&mut self, rt: &HostRuntime, durability: Durability) -> u64
         ensures same { self.new ≡ record self.old { settled = self.new.settled } }
         ensures most { result ≤ length self.old.took }
@@ -666,8 +667,8 @@ impl HostOut {
         self.target.certain_of(rt, held)
     }
 
-    /// The same, by what the waits so far have shown, and without one: so none of what is looked at
-    /// is told a failure that the end is to find. If the disk isn't waited for, nothing is certain.
+    /// Like `settle`, but by what the waits so far have shown, without another one, which might take a
+    /// failure away that the end is to find. If the disk isn't waited for, nothing is certain.
     pub fn settled_so_far(&self, rt: &HostRuntime, durability: Durability) -> u64
         ensures most { result ≤ length self.now.took }
         ensures stored { result ≤ self.now.settled }
@@ -696,8 +697,8 @@ impl HostOut {
         }
     }
 
-    /// Ends it with what was written, and closes it, in either case. If each put failed, it is as
-    /// it was before it was opened. Fails if it wasn't made.
+    /// Ends it with what was written, and closes it in any case. If each put failed, it is
+    /// unchanged. Fails if it wasn't made.
     pub fn close(self, rt: &HostRuntime, durability: Durability) -> (HostEnded, io::Result<()>)
         ensures closes { Closes durability self.file (as_sink self) result.1 result.0 }
         ensures made { OnOk result.1 (self.unmade ≡ None) }
@@ -727,7 +728,7 @@ impl HostOut {
         }
     }
 
-    /// Ends it if nothing was written, as it was before it was opened.
+    /// Ends it unchanged, if nothing was written.
     pub fn discard(self, rt: &HostRuntime, durability: Durability) -> HostEnded
         ensures discards { Discards self.file (as_sink self) result }
     {
@@ -777,7 +778,7 @@ impl Sink for HostOut {
         self.failures.note(taken)
     }
 
-    /// The machine's files have no buffer of the program's: it makes a file that isn't there yet.
+    /// Makes a file that doesn't exist yet. The program keeps no buffer for the machine's files.
     fn flush(&mut self) -> Result<(), Failed>
         ensures flushed { OnOk result ((as_sink self.new).flushed ≡ true) }
         ensures bytes { Keeps (as_sink self.old).taken (as_sink self.new).taken }

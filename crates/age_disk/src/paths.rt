@@ -9,9 +9,9 @@ use std::fs::{self, File};
 use std::io;
 use std::rt::HostRuntime;
 
-/// Opens a file of a position to be written and read, or only to be written if reading isn't
-/// allowed. If a pipe has come to its place, opening it to be read too doesn't wait for a reader;
-/// one that may only be written is refused, since opening it would wait.
+/// Opens the file of a position for writing and reading, or only for writing if reading isn't
+/// allowed. If a pipe has come to its place, opening it for both doesn't wait for a reader. A pipe
+/// that may only be written is refused, since opening it would wait.
 pub(crate) fn open_at_once(rt: &HostRuntime, name: &str) -> io::Result<Option<File>> {
     let found = match fs::metadata(rt, name) {
         Ok(found) => found,
@@ -26,20 +26,20 @@ pub(crate) fn open_at_once(rt: &HostRuntime, name: &str) -> io::Result<Option<Fi
     }
 }
 
-/// Makes a file for a position, at a path where there is neither a file nor a link.
+/// Makes a file for a position, at a path where neither a file nor a link exists.
 pub(crate) fn make_file(rt: &HostRuntime, path: &str) -> io::Result<File> {
     kept_above(rt, calls::make(rt, path, POSITION_MODE)?, path)
 }
 
 /// Removes a file that this run made at a path, unless another run has it, or another file is there
-/// by now. If the file system has no locks it stays: another run may be writing to it.
+/// by now. If the file system has no locks, it stays, since another run may be writing to it.
 pub(crate) fn remove_own(rt: &HostRuntime, file: &File, path: &str) {
     if matches!(file.try_lock(), Ok(())) && is_at(rt, file, path) {
         let _ = calls::remove(rt, path);
     }
 }
 
-/// Fails if no file can be made at a path, since it has no name or its folder isn't there.
+/// Fails if no file can be made at a path, since it has no name or its folder doesn't exist.
 pub(crate) fn check_place(rt: &HostRuntime, path: &str) -> io::Result<()> {
     if path.is_empty() || path.ends_with('/') {
         return Err(io::Error::from(io::ErrorKind::IsADirectory));
@@ -51,8 +51,8 @@ pub(crate) fn check_place(rt: &HostRuntime, path: &str) -> io::Result<()> {
     }
 }
 
-/// Fails if no file can be made at a path, or none that can be looked at. One that can is removed at
-/// once.
+/// Fails if no file can be made at a path, or it can't be looked at. A file that was made is
+/// removed at once.
 pub(crate) fn check_makes(rt: &HostRuntime, path: &str) -> io::Result<()> {
     let file = make_file(rt, path)?;
     let looked = file.metadata();
@@ -72,7 +72,7 @@ pub(crate) fn remove_new(rt: &HostRuntime, file: &File, path: &str) {
     }
 }
 
-/// What was opened, if it is the file that was found at a name: so no new link is followed.
+/// What was opened, if it is the file that was found at a name, so that no new link is followed.
 pub(crate) fn if_found(opened: Option<File>, found: Node) -> io::Result<File> {
     match opened {
         Some(file) if Node::of(&file.metadata()?) == found => Ok(file),
@@ -80,9 +80,9 @@ pub(crate) fn if_found(opened: Option<File>, found: Node) -> io::Result<File> {
     }
 }
 
-/// The pipe that was found at a name, open to be written. It is opened to be read too for a moment,
-/// so that opening it doesn't wait for a reader; what is written fails if nobody else reads it by
-/// then. A pipe that this run may not read is refused: there is no other way to open it.
+/// The pipe that was found at a name, open for writing. For a moment it is opened for reading too,
+/// so that opening it doesn't wait for a reader. A write fails if nobody else reads the pipe by
+/// then. A pipe that this run may not read is refused, since it can't be opened in any other way.
 pub(crate) fn open_pipe(rt: &HostRuntime, name: &str, found: Node) -> io::Result<File> {
     let reader = if_found(Some(calls::open_there(rt, name, true)?), found)?;
     let opened = open_to_write(rt, name, POSITION_MODE);

@@ -20,13 +20,13 @@ enum Found {
     Nothing,
     /// A file that can be written, kept open.
     File(File),
-    /// A pipe, kept open to be written.
+    /// A pipe, kept open for writing.
     Pipe(File),
     /// A character device or a socket.
     Device(Node),
 }
 
-/// A file that is to be replaced later: where its name led when that was judged.
+/// A file that is to be replaced later, and where its name led when it was judged.
 #[derive(Drop)]
 pub struct Prepared<'n> {
     name: &'n str,
@@ -36,17 +36,17 @@ pub struct Prepared<'n> {
     found: Found,
     // The file that is to take its place, if one could be made there.
     kept: Option<Kept>,
-    // A file that it may be although that is open.
+    // A file that it may be although that file is open.
     spared: Option<FileId>,
-    // Which file was there, if that is known, unless it may be open.
+    // Which file was found, if that is known, unless it may be open.
     pub(crate) seen: Option<FileId>,
 }
 
 impl<'n> Prepared<'n> {
     /// Judges where a name leads, and prepares what is to replace the file there: a file beside it
     /// with room for a position, which is on the disk by then if it is to be. Fails if there is
-    /// neither room for that nor a file that can be written itself, or if the system can't look at
-    /// what is there. A pipe is opened without waiting for its reader.
+    /// neither room for that nor an existing file that can be written directly, or if the system
+    /// can't look at what is there. A pipe is opened without waiting for its reader.
     pub fn new(
         alloc: Global,
         rt: &HostRuntime,
@@ -123,8 +123,8 @@ impl<'n> Prepared<'n> {
         self.name == name
     }
 
-    /// The pipe to which the name led, if it was one, with that name: no path may lead to it, as when
-    /// the name is a descriptor's.
+    /// The pipe to which the name led, if it was one, with that name, since perhaps no path leads
+    /// to it, as when the name is a descriptor's.
     pub(crate) fn pipe(&self) -> Option<(&'n str, &File)> {
         match &self.found {
             Found::Pipe(file) => Some((self.name, file)),
@@ -132,7 +132,7 @@ impl<'n> Prepared<'n> {
         }
     }
 
-    /// The same of a device.
+    /// The device to which the name led, if it was one, with that name.
     pub fn device(&self) -> Option<(&'n str, Node)> {
         match self.found {
             Found::Device(node) => Some((self.name, node)),
@@ -160,7 +160,7 @@ impl<'n> Prepared<'n> {
         Ok(id.is_some() && (kept == id || self.id(rt)? == id))
     }
 
-    /// Whether its path is this one, at which nothing is: it has the same name in the same folder.
+    /// Whether its path is this one, at which nothing is, since both have the same name and folder.
     pub fn is_at(&self, rt: &HostRuntime, path: &str) -> io::Result<bool> {
         let Resolved::Path(own) = &self.resolved else {
             return Ok(false);
@@ -282,7 +282,7 @@ pub(crate) fn prepared_at<'w>(
     Prepared::new(alloc, rt, name, spared, durability)
 }
 
-/// Whether a regular file has this name that isn't empty, other than the one that is spared.
+/// Whether a regular file that isn't empty has this name, other than the one that is spared.
 fn is_of_use(rt: &HostRuntime, name: &str, spared: Option<FileId>) -> io::Result<bool> {
     match fs::metadata(rt, name) {
         Ok(found) => Ok(found.is_file() && found.len() > 0 && FileId::of(&found) != spared),

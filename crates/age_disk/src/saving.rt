@@ -23,7 +23,7 @@ use std::os::unix::fs::FileTypeExt;
 use std::path::PathBuf;
 use std::rt::HostRuntime;
 
-/// Where a new file was put, if one was made beside, and by which calls, for contracts alone.
+/// Where a new file was put, if one was made beside the path, and by which calls, for contracts alone.
 #[derive(Drop)]
 pub struct Placed {
     path: Option<Tape>,
@@ -77,8 +77,8 @@ impl Saved {
     }
 }
 
-/// The device that was found at a name, open to be written. A pipe that has come there is refused:
-/// opening it might wait for a reader.
+/// The device that was found at a name, open for writing. A pipe that has come there is refused,
+/// since opening it might wait for a reader.
 fn open_device(rt: &HostRuntime, name: &str, found: Node) -> io::Result<File> {
     if fs::metadata(rt, name)?.file_type().is_fifo() {
         return Err(io::Error::from(io::ErrorKind::NotFound));
@@ -97,8 +97,8 @@ struct Order<'a> {
 }
 
 impl<'a> Order<'a> {
-    /// Puts a new file to a path. It is the one that was made beside when this was prepared, unless
-    /// that is gone, or can't be written over.
+    /// Puts a new file to a path. It is the one that was made beside the path when that was
+    /// prepared, unless that file is gone, or can't be written over.
     fn replace_beside(&self, path: &PathBuf, to: Spot, saved: &mut Saved) -> Result<(), Unplaced>
         ensures saves { Saves self.now.bytes.now self.now.durability result saved.new.file }
         ensures beside { is_some saved.new.file.path ≡ true }
@@ -132,7 +132,7 @@ impl<'a> Order<'a> {
         }
     }
 
-    /// Writes the bytes to what is open; they replace what it holds.
+    /// Writes the bytes to an open file, where they replace what it holds.
     fn fill_directly(&self, mut out: HostOut, saved: &mut Saved) -> io::Result<()>
         requires { IsNew out }
         ensures same { saved.new.file ≡ saved.old.file }
@@ -155,7 +155,7 @@ impl<'a> Order<'a> {
         HostOut::over(self.alloc, self.rt, file.try_clone()?, path)
     }
 
-    /// Makes a file at a path where there is none.
+    /// Makes a file at a path where none exists.
     fn make_directly(&self, path: &PathBuf, saved: &mut Saved) -> io::Result<()>
         ensures same { saved.new.file ≡ saved.old.file }
         ensures direct { OnOk result (IsSomeAnd saved.new.direct (WritesDirectly self.now.bytes.now)) }
@@ -179,7 +179,7 @@ impl<'a> Order<'a> {
         Ok(())
     }
 
-    /// Makes a file at a path where there is none, or a link, which it replaces.
+    /// Makes a file at a path where none exists, or only a link, which it replaces.
     fn make_at(&self, path: &PathBuf, to: Spot, saved: &mut Saved) -> io::Result<()>
         ensures { SavesBytes self.now.bytes.now self.now.durability result saved.new }
     {
@@ -194,8 +194,8 @@ impl<'a> Order<'a> {
         }
     }
 
-    /// The file that was found at a path, open to be written and taken for this run alone: the one
-    /// that is open since it was prepared, or another one that has come to its place.
+    /// The file that was found at a path, open for writing and taken for this run alone: the one
+    /// that has been open since it was prepared, or another one that has come to its place.
     fn open_found(&self, path: &PathBuf, found: Node) -> io::Result<File> {
         match self.prepared.claimed(found) {
             Some(file) => file.try_clone(),
@@ -207,7 +207,7 @@ impl<'a> Order<'a> {
         }
     }
 
-    /// Replaces the file that was found at a path. One that no other can replace is written
+    /// Replaces the file that was found at a path. A file that no other can replace is written
     /// directly.
     fn replace_found(&self, path: &PathBuf, found: &Metadata, saved: &mut Saved) -> io::Result<()>
         requires { saved.old.file.path ≡ None }
@@ -226,9 +226,9 @@ impl<'a> Order<'a> {
         self.fill_directly(out, saved)
     }
 
-    /// Puts a file where a path led, without following a link that has come there. What is no file
-    /// is refused, since a pipe that has come there might have to be waited for forever. So is a
-    /// file that has come to where none was.
+    /// Puts a file where a path led, without following a link that has come there. What isn't a
+    /// file is refused, since a pipe that has come there might have to be waited for forever. So is
+    /// a file that has appeared where none was.
     fn replace_at(&self, path: &PathBuf, saved: &mut Saved) -> io::Result<()>
         requires { saved.old.file.path ≡ None }
         ensures { SavesBytes self.now.bytes.now self.now.durability result saved.new }
@@ -271,8 +271,8 @@ impl<'a> Order<'a> {
     }
 }
 
-/// Puts a file of these bytes where a name led. A regular file stays as it is until the new one is
-/// whole, if its folder allows that.
+/// Puts a file of these bytes where a name led. A regular file stays unchanged until the new one is
+/// complete, if its folder allows that.
 pub(crate) fn replace(
     alloc: Global,
     rt: &HostRuntime,

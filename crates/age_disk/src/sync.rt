@@ -15,14 +15,14 @@ pub(crate) fn sync_file(file: &File) -> io::Result<()> {
     Ok(())
 }
 
-/// A second descriptor of the file to which a stream leads, by which the disk is waited for: the kit
-/// can't wait by the one that was inherited. It is opened before anything is written, since the
-/// system reports a failed write to each descriptor that was open then, and to no later one.
+/// A second descriptor of the file to which a stream leads, by which the disk is waited for, since
+/// the kit can't wait by the one that was inherited. It is opened before anything is written, since
+/// the system reports a failed write to each descriptor that was open then, and to no later one.
 #[derive(Drop)]
 pub(crate) struct Witness(Option<io::Result<File>>);
 
 impl Witness {
-    /// None, of what is no stream.
+    /// None, for what isn't a stream.
     pub(crate) fn none() -> Witness {
         Witness(None)
     }
@@ -36,7 +36,7 @@ impl Witness {
         }
     }
 
-    /// Whether the file couldn't be opened, as one of another user's.
+    /// Whether the file couldn't be opened, as when it is another user's.
     pub(crate) fn is_missing(&self) -> bool {
         match &self.0 {
             Some(Err(_)) => true,
@@ -55,7 +55,7 @@ impl Witness {
     }
 }
 
-/// Opens a file to be read, or else to be written.
+/// Opens a file for reading, or else for writing.
 fn open_either_way(rt: &HostRuntime, path: &str) -> io::Result<File> {
     match File::open(rt, path) {
         Ok(file) => above_streams(file),

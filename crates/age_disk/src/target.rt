@@ -24,12 +24,12 @@ use std::{fs, mem};
 /// them: a network connection holds megabytes.
 const ON_THE_WAY: u64 = 4 << 20;
 
-/// Where its bytes go.
+/// Where the bytes of an output go.
 #[derive(Drop)]
 pub(crate) enum Target {
     /// A regular file that was opened or made.
     File(Out<HostMachine>),
-    /// One that is to be made at this path, once there is something to write.
+    /// A file that is to be made at this path, once something is to be written.
     Unmade(String),
     /// A pipe or a device that was opened.
     Device(Device),
@@ -39,7 +39,7 @@ pub(crate) enum Target {
     Faults(Stderr, Witness),
 }
 
-/// Writes to what is no regular file, and notes what it took: what no proof sees.
+/// Writes to what isn't a regular file, and notes what it took. No proof sees the call.
 fn write_once<W: Write>(to: &mut W, from: &[u8], handed: &mut Tape) -> io::Result<usize>
     ensures bound { WritesAtMost result from.now }
     ensures notes { handed.new ≡ handed.old ++ part_of result from.now }
@@ -104,8 +104,8 @@ impl Target {
         }
     }
 
-    /// Closes a second descriptor of it, if one can be had: some file systems store a file only as
-    /// one is closed, and say only then that they can't.
+    /// Closes a second descriptor of it, if one can be made, since some file systems store a file
+    /// only when one is closed, and say only then that they can't.
     pub(crate) fn close_copy(&self, rt: &HostRuntime) -> io::Result<()> {
         let copy = match self {
             Target::File(out) => out.file().file().as_fd().try_clone_to_owned(),
@@ -134,8 +134,8 @@ impl Target {
         }
     }
 
-    /// How many of so many bytes are certain: a file has no more than its length, and of a pipe the
-    /// last ones may be on their way to whoever reads it.
+    /// How many of `held` bytes are certain. A file has no more than its length, and the last bytes
+    /// of a pipe may be on their way to whoever reads it.
     pub(crate) fn certain_of(&self, rt: &HostRuntime, held: u64) -> u64
         ensures { result ≤ held }
     {
@@ -181,7 +181,7 @@ fn take_alone(
     }
 }
 
-/// A target of which a regular file is taken for this run alone, if its name still leads to it.
+/// A target whose regular file is taken for this run alone, if its name still leads to it.
 pub(crate) fn claimed(
     rt: &HostRuntime,
     target: Target,
@@ -202,8 +202,8 @@ pub(crate) fn claimed(
     }
 }
 
-/// Makes the file of a target that isn't there yet, and takes it for this run alone. Fails if
-/// something has come to its path, or if its name doesn't lead to it. What was made stays the target.
+/// Makes the file of a target that doesn't exist yet, and takes it for this run alone. Fails if
+/// something has appeared at its path, or if its name doesn't lead to it. A file that was made stays.
 pub(crate) fn make_first(
     rt: &HostRuntime,
     name: &str,

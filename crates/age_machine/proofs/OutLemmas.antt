@@ -18,14 +18,14 @@ use Rattle.age_machine.specs.inner.{IsHeld, IsAtPath, StaysHeld, RemovesAt}
 use Rattle.age_calls.proofs.DiskLemmas.{path_same, file_same, file_other, sized_within, contains_first, contains_later, contains_none, contains_cases, claimed_later, no_claim}
 use Rattle.age_machine.proofs.SaveLemmas.{led, leaves_fewer, leaves_new, leaves_synced, if_either, if_made, if_waited, saves_loudly, saves_none, saves_quietly}
 
--- ---- What only opening has done.
+-- ---- A file that was only opened.
 
 module _ (path : List ℕ) (n : ℕ) where
   pub no_text : (opening : Opening) → text_of (opening_of path n opening ∷ []) ≡ []
   no_text way.New = refl
   no_text (way.Found named waited) = refl
 
--- ---- What stays so.
+-- ---- What stays true.
 
 pub held_more : (path : List ℕ) (n : ℕ) (opening call : FileCall) (calls : List FileCall) → IsOn path n calls call
     → IsHeld path n opening calls → IsHeld path n opening (call ∷ calls)
@@ -188,7 +188,7 @@ module _ (path : List ℕ) (n : ℕ) (opening : Opening) (is_stale is_lost is_cl
       grind (arith, common_steps)
   out_claimed (Err e) now later free waited same counted = grind (arith, common_steps)
 
-  -- after a call that changes nothing of what was written, which is something
+  -- after a call that changes nothing in what was written, which isn't empty
   pub out_after : (stale lost : Bool) (now : ℕ) (later : List FileCall) → 0 < written
       → StaysHeld path n call calls later → text_of later ≡ text_of calls → (now ≡ 0 → AlwaysHasWritten path n stale (text_of calls) later)
       → (lost ≡ true → 0 < now) → IsOut path n call stale lost is_claimed written now later
@@ -246,7 +246,7 @@ saves_claimed : (path : List ℕ) (n : ℕ) (calls later : List FileCall) → Sa
     → (later ≡ calls) ⊎ Waited (Locked n) (Unlockable n) calls later → SavesWhole path [] [] later
 saves_claimed path n calls later saves = grind (arith, common_steps, if_either, saves_quietly)
 
--- one that was made, and perhaps claimed, is as it was made
+-- a file that was made, and perhaps claimed, is unchanged since
 fresh_made : (path : List ℕ) (n : ℕ) (calls : List FileCall) → IsJustOpened n (Made path n) calls → (disk : Disk) → AllAnswered path calls disk
     → (after_calls calls disk ≡ after_call (Made path n) disk) × (disk.file path ≡ None)
 fresh_made path n calls h0 = grind (arith, common_steps)

@@ -1,4 +1,4 @@
--- What a call leaves as it was, what a power cut leaves after it, and how a replacement goes on, call by call.
+-- What a call leaves unchanged, what a power cut leaves after it, and how a replacement proceeds.
 use Rattle.std.proofs.lemmas.Grind.{common_steps}
 use Rattle.std.proofs.lemmas.Bool.Decides.{eqb_tells}
 use Rattle.std.proofs.Common.{◌≡◌, ◌⊎◌, inl, inr, ℕ, List, [], ◌∷◌, Option, Some, None, refl, sym, ◌∙◌, ap, subst, rules, ⊎_elim, ◌+◌, ◌-◌, ◌≤◌, ◌++◌}
@@ -17,9 +17,9 @@ use Rattle.age_io.specs.declared.durability.Durability.{Durability}
 use Rattle.age_machine.specs.declared.replacing.Spot.{Spot}
 use Rattle.age_machine.specs.declared.replacing.Spot.TheVariants as spot
 
--- ---- What stays as it was.
+-- ---- What stays unchanged.
 
--- no name, after a call about one file
+-- a call about one file changes no name
 of_file : (n : ℕ) (call : FileCall) (disk : Disk) → IsOf n call → (after_call call disk).file ≡ disk.file
 of_file n (Wrote m at part) disk of = refl
 of_file n call disk of = search rules
@@ -229,7 +229,7 @@ module _ (to : Spot) (path from : List ℕ) (n : ℕ) where
       → IsNaming to path from calls call → IsReplacing to path (calls ++ first) call
   step_naming first calls call apart made names = grind (arith, common_steps, Contains-append_right, sparing_more)
 
--- where nothing was, what has come there stays
+-- where nothing was, what has appeared there stays
 spares_one : (path : List ℕ) (since old : List FileCall) (call : FileCall) → IsReplacing spot.Free path since call
     → (disk : Disk) → AllAnswered path (call ∷ (since ++ old)) disk → (m : ℕ) → (after_calls (since ++ old) disk).file path ≡ Some m
     → (after_calls (call ∷ (since ++ old)) disk).file path ≡ Some m
@@ -400,11 +400,11 @@ module _ {E : Type 0} (to : Spot) (path bytes : List ℕ) (wanted : Durability) 
     spares : to ≡ spot.Free → SparesFile path old new
     spares free = rw steps.are (spares_all path old steps.since (subst (λ (t : Spot). AllSo (IsReplacing t path) steps.since) free steps.each))
 
-  -- nothing was done but that rooms were reclaimed
+  -- nothing was done except reclaiming rooms
   pub replaces_none : (e : E) → Reclaims path old new → Replaces {E = E} to bytes wanted (Err e) old new path
   replaces_none e reclaims = replaces_by (Err e) (reclaims_steps to path old new reclaims) tt
 
-  -- it was tried once more
+  -- it was tried again
   pub replaces_again : (mid : List FileCall) (r : Result (Unit {0}) E) → Since (IsReplacing to path) old mid → Replaces to bytes wanted r mid new path
       → Replaces to bytes wanted r old new path
   replaces_again mid r steps again =
@@ -462,7 +462,7 @@ abbrev Holding : ℕ → List ℕ → List FileCall → List FileCall → Type 0
 Holding n bytes old new = StaysSound n old new
     × ((path : List ℕ) (disk : Disk) → AllAnswered path new disk → (after_calls new disk).bytes n ≡ bytes)
 
--- also if that is not waited for
+-- a file gets all of the bytes, even if the disk isn't waited for
 pub gets_all : (n : ℕ) (bytes : List ℕ) (old wrote cut settled new : List FileCall) → WritesOver n (length bytes) bytes old wrote
     → CutsOff n (length bytes) wrote cut → (settled ≡ cut) ⊎ Waited (Synced n) (Unwaited n) cut settled → new ≡ Closed n ∷ settled → Gets n bytes old new
 gets_all n bytes old wrote cut settled new writes cuts either closed = rw closed (close (if_either (Holding n bytes old) (Synced n) (Unwaited n) cut settled all

@@ -6,12 +6,12 @@ use Rattle.age_calls.specs.Disk.{Disk, after_calls}
 use Rattle.age_calls.specs.Saves.{AllAnswered}
 use Rattle.age_calls.specs.Outs.{text_of, has_changed, AllOn, IsClaimed, LocksFirst}
 
--- it begins with what was written, on a disk
+-- the file begins with what was written, on a disk
 pub record HasWritten (path : List ℕ) (n : ℕ) (is_stale : Bool) (text : List ℕ) (disk : Disk)
     : Type 0 where
   pub file : disk.file path ≡ Some n
   pub front : take (length text) (disk.bytes n) ≡ text
-  -- nothing stands beyond that, unless what it held is still there
+  -- nothing is beyond that, unless what it held still exists
   pub whole : is_stale ≡ false → disk.bytes n ≡ text
   pub is_lost : disk.is_lost n ≡ false
 
@@ -19,7 +19,7 @@ abbrev pub AlwaysHasWritten : List ℕ → ℕ → Bool → List ℕ → List Fi
 AlwaysHasWritten path n is_stale text calls = (disk : Disk) → AllAnswered path calls disk
     → HasWritten path n is_stale text (after_calls calls disk)
 
--- it was opened, and perhaps claimed
+-- the file was opened, and perhaps claimed
 abbrev pub IsJustOpened : ℕ → FileCall → List FileCall → Type 0
 IsJustOpened n opening calls = (calls ≡ opening ∷ [])
     ⊎ Waited (Locked n) (Unlockable n) (opening ∷ []) calls

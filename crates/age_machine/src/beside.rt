@@ -21,11 +21,11 @@ const TRIES: u32 = 1000;
 /// Why a file that was made next to another didn't take its place.
 #[derive(Drop)]
 pub enum Unplaced {
-    /// None can be put there.
+    /// No file can be put there.
     NotBeside,
-    /// It could not be filled or renamed, or it took the place and the wait for the disk failed.
+    /// The file couldn't be filled or renamed, or it was, and the wait for the disk failed.
     Failed(io::Error),
-    /// Memory was refused.
+    /// Memory ran out.
     Memory,
 }
 
@@ -42,7 +42,7 @@ pub struct Beside<F> {
     pub path: String,
 }
 
-/// The name of a path with a number.
+/// The path of a new file: a path with `.new-` and a number.
 fn numbered(alloc: Global, path: &str, n: u32) -> Result<String, AllocError>
     ensures { IfOk result (λ p. IsNumbered path.now (string_bytes p)) }
 {
@@ -50,8 +50,8 @@ fn numbered(alloc: Global, path: &str, n: u32) -> Result<String, AllocError>
     Ok(beside)
 }
 
-/// Makes a file next to another, under its name with the first number that is free, or becomes so:
-/// an empty room that a stopped run left there is removed.
+/// Makes a file next to another, under its name with the first number that is free, or becomes free
+/// when an empty room that a stopped run left there is removed.
 pub(crate) fn make_beside<M: Machine>(
     alloc: Global,
     machine: &mut M,
@@ -98,7 +98,7 @@ pub(crate) fn write_all<M: Machine>(machine: &mut M, file: &M::File, bytes: &[u8
     Ok(())
 }
 
-/// Waits until what a file holds has reached the disk, if it is to.
+/// Waits until what a file holds has reached the disk, if it is to be there.
 #[tactic(auto, using(crate::proofs::since_waited, crate::proofs::since_one))]
 pub(crate) fn settle<M: Machine>(
     machine: &mut M,
@@ -123,7 +123,7 @@ pub(crate) fn settle<M: Machine>(
     }
 }
 
-/// Takes a new file for this run alone, as far as that can be done.
+/// Takes a new file for this run alone, as far as possible.
 fn lock_room<M: Machine>(machine: &mut M, file: &M::File)
     ensures about { IsAbout (M.number file.now) (M.calls machine.old) (M.calls machine.new) }
     ensures sound { StaysSound (M.number file.now) (M.calls machine.old) (M.calls machine.new) }
@@ -132,8 +132,8 @@ fn lock_room<M: Machine>(machine: &mut M, file: &M::File)
     let _ = machine.lock(file);
 }
 
-/// Fills a new file with room for a position. It is locked before that: so one that is full, and that
-/// nobody has locked, was left by a stopped run.
+/// Fills a new file with room for a position. The file is locked first, so a full one that nobody
+/// has locked was left by a stopped run.
 fn keep_room<M: Machine>(machine: &mut M, file: &M::File, durability: Durability) -> io::Result<()>
     ensures about { IsAbout (M.number file.now) (M.calls machine.old) (M.calls machine.new) }
     ensures sound { OnOk result
@@ -146,8 +146,8 @@ fn keep_room<M: Machine>(machine: &mut M, file: &M::File, durability: Durability
     settle(machine, file, durability)
 }
 
-/// A file beside a path with room for a position, which is on the disk then if it is to be; `None` if
-/// none can be made there. Fails if it can't be filled.
+/// Makes a file beside a path with room for a position, which is on the disk then if it is to be;
+/// `None` if no file can be made there. Fails if the file can't be filled.
 pub fn prepare_beside<M: Machine>(
     alloc: Global,
     machine: &mut M,

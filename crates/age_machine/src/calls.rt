@@ -1,5 +1,5 @@
-//! The calls that change what a folder or a disk holds: each function makes one, and says what the
-//! system answered.
+//! The calls that change what a folder or a disk holds. Each function makes one, and returns what
+//! the system answered.
 
 ghost use Rattle.std.specs.Io.{WritesAtMost};
 
@@ -9,18 +9,18 @@ use std::os::unix::fs::{FileExt, OpenOptionsExt};
 use std::rt::HostRuntime;
 use std_io::io::last_error;
 
-/// A name that no folder can hold, since it has more than 255 letters: a look at it fails.
+/// A name that no folder can hold, since it has more than 255 bytes. Looking it up fails.
 const TOO_LONG: &str =
     "/too-long-a-name-too-long-a-name-too-long-a-name-too-long-a-name-too-long-a-name\
     -too-long-a-name-too-long-a-name-too-long-a-name-too-long-a-name-too-long-a-name\
     -too-long-a-name-too-long-a-name-too-long-a-name-too-long-a-name-too-long-a-name\
     -too-long-a-name-too-long-a-name-too-long-a-name-too-long-a-name-too-long-a-name";
 
-/// Closes a descriptor, which may be one of several of an open file, and says what the system
-/// answered: a file system that stores a file only as it is closed reports a failure here, and
-/// nowhere else. `std` closes what is dropped and loses the answer, but the system keeps the reason
-/// of its last failure. So something else fails first, and if the reason is another one then, it is
-/// that of the close. Only a close for which a name is too long would go unnoticed.
+/// Closes a descriptor, which may be one of several for an open file, and returns what the system
+/// answered. A file system that stores a file only when it is closed reports a failure here, and
+/// nowhere else. `std` closes what is dropped and loses the answer, but the system keeps the reason for
+/// its last failure. So another call is made to fail first, and if the reason is a different one after
+/// the close, the close failed. Only a close that failed because a name is too long would go unnoticed.
 pub fn close<D: Drop>(rt: &HostRuntime, descriptor: D) -> io::Result<()> {
     let _ = fs::metadata(rt, TOO_LONG);
     let before = last_error().raw_os_error();
@@ -38,13 +38,13 @@ pub fn sync_whole(file: &File) -> io::Result<()> {
     file.sync_all()
 }
 
-/// Cuts a file off, or makes it longer.
+/// Truncates a file, or makes it longer.
 pub fn cut(file: &File, len: u64) -> io::Result<()> {
     file.set_len(len)
 }
 
-/// Writes some bytes to a file, from a place on, without moving where it stands. A file without
-/// places, as one that the system makes up, gets them where it stands.
+/// Writes some bytes to a file, from an offset on, without moving where it stands. A file that
+/// can't seek, such as one that the system makes up, gets them where it stands.
 pub fn write_at(file: &File, bytes: &[u8], at: u64) -> io::Result<usize>
     ensures { WritesAtMost result bytes.now }
 {
@@ -56,7 +56,7 @@ pub fn write_at(file: &File, bytes: &[u8], at: u64) -> io::Result<usize>
     }
 }
 
-/// Makes a file that wasn't there, at a path that is no link.
+/// Makes a file at a path where nothing exists, not even a link.
 pub fn make(rt: &HostRuntime, path: &str, mode: u32) -> io::Result<File> {
     let mut options = File::options();
     options
@@ -66,7 +66,7 @@ pub fn make(rt: &HostRuntime, path: &str, mode: u32) -> io::Result<File> {
         .open(rt, path)
 }
 
-/// Makes a file that wasn't there, at a path that is no link. Each write to it goes to its end.
+/// Makes a file at a path where nothing exists, not even a link. Each write to it goes to its end.
 pub fn make_to_append(rt: &HostRuntime, path: &str, mode: u32) -> io::Result<File> {
     let mut options = File::options();
     options
@@ -76,7 +76,7 @@ pub fn make_to_append(rt: &HostRuntime, path: &str, mode: u32) -> io::Result<Fil
         .open(rt, path)
 }
 
-/// Opens a file to be written, and read if that is wanted. It is made if it has just been removed.
+/// Opens a file for writing, and reading if wanted. It is made if it has just been removed.
 pub fn open_or_make(rt: &HostRuntime, name: &str, is_read: bool, mode: u32) -> io::Result<File> {
     let mut options = File::options();
     options
@@ -87,14 +87,13 @@ pub fn open_or_make(rt: &HostRuntime, name: &str, is_read: bool, mode: u32) -> i
         .open(rt, name)
 }
 
-/// Opens a file that is there to be written, and read if that is wanted: so a pipe keeps nobody
-/// waiting.
+/// Opens an existing file for writing, and reading if wanted, so that a pipe keeps nobody waiting.
 pub fn open_there(rt: &HostRuntime, name: &str, is_read: bool) -> io::Result<File> {
     let mut options = File::options();
     options.read(is_read).write(true).open(rt, name)
 }
 
-/// Gives a file another name, whatever file has that.
+/// Gives a file another name, even if another file has that name.
 pub fn rename(rt: &HostRuntime, from: &str, to: &str) -> io::Result<()> {
     fs::rename(rt, from, to)
 }

@@ -18,7 +18,7 @@ pub fn folder_of(path: &str) -> &str {
 pub enum Folder {
     /// Its path, without links.
     Path(PathBuf),
-    /// What it is, if it has no such path, as when that is longer than the system takes.
+    /// Its node, if it has no such path, as when the path is longer than the system takes.
     Node(Node),
 }
 
@@ -41,8 +41,8 @@ impl Folder {
     }
 }
 
-/// Fails if what was the folder before isn't the one that is found now. What is done there next
-/// goes by its path again, so somebody who may rename that folder has the moment between.
+/// Fails if the folder that was found before isn't the one that is found now. What is done there
+/// next goes by its path again, so somebody who may rename the folder can still do so in between.
 pub fn check_same(before: Option<&Folder>, now: io::Result<Option<Folder>>) -> io::Result<()> {
     match (before, now) {
         (Some(before), Ok(Some(now))) if before.is_same(&now) => Ok(()),

@@ -1,4 +1,4 @@
-//! The machine's calls, each of which is noted: what no proof sees.
+//! The machine's calls, each of which is noted. No proof sees what they do.
 
 ghost use Rattle.std.specs.Prelude.{◌≡◌, ◌+◌, ◌<◌, [], ◌∷◌, length, true, false, IsOk, IfOk};
 ghost use Rattle.std.specs.Prelude.{IfErr, OnOk, OnErr};
@@ -22,11 +22,11 @@ use std::os::fd::AsRawFd;
 use std::os::unix::fs::MetadataExt;
 use std::rt::HostRuntime;
 
-/// Who may do what with a new position: its owner alone, since it holds digests of the plaintext,
+/// The mode of a new position. Only its owner may use it, since it holds digests of the plaintext,
 /// against which guesses can be tried.
 pub const POSITION_MODE: u32 = 0o600;
 
-/// Who may do what with a new output, if the umask allows it.
+/// The mode of a new output, before the umask.
 const OUTPUT_MODE: u32 = 0o666;
 
 /// The highest descriptor of a standard stream.
@@ -42,8 +42,8 @@ pub fn above_streams(file: File) -> io::Result<File> {
     }
 }
 
-/// A file that was made at a path, above the standard streams; it is removed if that fails, unless
-/// by then another file is there.
+/// Moves a file that was made at a path to a descriptor above the standard streams. The file is
+/// removed if that fails, unless another file is there by then.
 pub fn kept_above(rt: &HostRuntime, made: File, path: &str) -> io::Result<File> {
     if made.as_raw_fd() > STREAM_MAX {
         return Ok(made);
@@ -56,15 +56,15 @@ pub fn kept_above(rt: &HostRuntime, made: File, path: &str) -> io::Result<File> 
 }
 
 /// Waits until the names in the folder of a path have reached the disk; `false` if the machine has
-/// no way to. Fails if the folder can't be read.
+/// no way to wait. Fails if the folder can't be read.
 pub fn sync_folder(rt: &HostRuntime, path: &str) -> io::Result<bool> {
     sync(&File::open(rt, folder_of(path))?)
 }
 
-/// Opens a file to be written without emptying it; `None` if there is none. It is opened as if it
-/// might have to be made (`O_CREAT`), since only then the system refuses somebody else's file or
-/// pipe in a sticky folder, if it protects these. One that is removed just before that is made with
-/// this mode.
+/// Opens a file for writing without emptying it; `None` if none exists. It is opened as if it might
+/// have to be made (`O_CREAT`), since only then does the system refuse somebody else's file or pipe
+/// in a sticky folder, if it protects these. A file that is removed just before is made with this
+/// mode.
 pub fn open_to_write(rt: &HostRuntime, name: &str, mode: u32) -> io::Result<Option<File>> {
     match fs::metadata(rt, name) {
         Ok(_) => Ok(Some(calls::open_or_make(rt, name, false, mode)?)),
@@ -73,14 +73,14 @@ pub fn open_to_write(rt: &HostRuntime, name: &str, mode: u32) -> io::Result<Opti
     }
 }
 
-/// Whether a file was made at another time than one that was found before, as far as the system shows
-/// that: the number of one that is gone may be given to the next.
+/// Whether a file was made at another time than one that was found before, as far as the system
+/// shows that. Nodes don't tell, since the next file may get the node of a removed one.
 fn was_made_later(before: &Metadata, now: &Metadata) -> bool {
     matches!((before.created(), now.created()), (Ok(before), Ok(now)) if before != now)
 }
 
-/// Whether opening a file has made it, since the one that was found before, and held something, is
-/// gone: it is empty, no other run has it, and its path leads to it.
+/// Whether opening a file has made it, since the one that was found before, which held something,
+/// is gone. Then it is empty, no other run has it, and its path leads to it.
 fn is_made_anew(rt: &HostRuntime, before: io::Result<Metadata>, file: &File, path: &str) -> bool {
     let (Ok(before), Ok(now)) = (before, file.metadata()) else {
         return false;
@@ -98,7 +98,7 @@ fn is_out_of_reach(error: &io::Error) -> bool {
     )
 }
 
-/// The same, where the machine also has no way to if the folder can't be read.
+/// Like `sync_folder`, but also `false` if the folder can't be read.
 fn sync_readable_folder(rt: &HostRuntime, path: &str) -> io::Result<bool> {
     match File::open(rt, folder_of(path)) {
         Ok(folder) => sync(&folder),
@@ -116,8 +116,8 @@ fn sight_of(file: &File) -> io::Result<Sight> {
     })
 }
 
-/// Fails if another program has removed a file or changed its length. A file system that takes bytes
-/// before there is room for them, as NFS does, says only at a wait why a file is too short.
+/// Fails if another program has removed a file or changed its length. A file system that takes
+/// bytes before there is room for them, as NFS does, says why a file is too short only at a wait.
 fn check(file: &File, shape: &Shape) -> io::Result<()> {
     let now = sight_of(file)?;
     let is_right = now.len == shape.len || (shape.may_be_longer && now.len > shape.len);
@@ -131,11 +131,11 @@ fn check(file: &File, shape: &Shape) -> io::Result<()> {
     }
 }
 
-/// The number of the error that says that no locks are to be had (`ENOLCK`): it has no kind.
+/// The number of the error `ENOLCK`, which says that no locks are available, and has no kind.
 const NO_LOCKS: i32 = 37;
 
-/// Whether an error says that a file system has no locks. One whose locks fail, as a network's whose
-/// server is away, says something else: another run may have the file there.
+/// Whether an error says that a file system has no locks. One whose locks fail, as when its server
+/// can't be reached, says something else, since another run may have the file there.
 fn has_no_locks(error: &io::Error) -> bool
     ensures { result ≡ true → SaysNoLocks error.now }
 {
@@ -145,8 +145,8 @@ fn has_no_locks(error: &io::Error) -> bool
     }
 }
 
-/// Whether the system gave a lock, by what it answered; `false` if it has none for the file. One that
-/// another run has is no missing one.
+/// Whether the system gave a lock, by its answer; `false` if it has no locks for the file. Fails if
+/// another run has the lock.
 fn is_locked(answer: Result<(), TryLockError>) -> io::Result<bool>
     ensures given { IfOk result (λ it. it ≡ true → IsOk answer) }
     ensures cant { IfOk result (λ it. it ≡ false → IfErr answer HasNoLocks) }
@@ -162,7 +162,7 @@ fn is_locked(answer: Result<(), TryLockError>) -> io::Result<bool>
     }
 }
 
-/// Takes a regular file for this run alone, as long as it is open; `false` if the file system has no
+/// Takes a regular file for this run alone, while it is open; `false` if the file system has no
 /// locks, so that every run may have it. Fails if another run has it.
 pub fn lock(file: &File) -> io::Result<bool> {
     if !file.metadata()?.is_file() {
@@ -176,17 +176,17 @@ fn close_copy(rt: &HostRuntime, file: &File) -> io::Result<()> {
     calls::close(rt, file.try_clone()?)
 }
 
-/// A file of the machine that is open to be written.
+/// A file of the machine that is open for writing.
 #[derive(Drop)]
 pub struct HostFile {
     file: File,
     node: Node,
-    // It had a name as it was opened.
+    // Whether it had a name when it was opened.
     is_named: bool,
 }
 
 impl HostFile {
-    /// A file that is open, and what it is.
+    /// Takes an open file, and says what kind it is.
     fn of(file: File) -> io::Result<(HostFile, Kind)> {
         let found = file.metadata()?;
         let node = Node::of(&found);
@@ -204,7 +204,7 @@ impl HostFile {
         Ok((file, kind))
     }
 
-    /// Opens a file to be written without emptying it; `None` if there is none, or none any more.
+    /// Opens a file for writing without emptying it; `None` if it doesn't exist, or no longer does.
     fn open(rt: &HostRuntime, name: &str, path: &str) -> io::Result<Option<(HostFile, Kind)>> {
         let before = fs::metadata(rt, name);
         match open_to_write(rt, name, OUTPUT_MODE)? {
@@ -219,7 +219,7 @@ impl HostFile {
         }
     }
 
-    /// Which file it is, whatever its names: calls about it go by this.
+    /// Which file it is, whatever its names. Calls about it go by this node.
     pub fn node(&self) -> Node
         ensures { result ≡ self.now.node }
     {
@@ -231,19 +231,19 @@ impl HostFile {
         &self.file
     }
 
-    /// Whether it had a name as it was opened.
+    /// Whether it had a name when it was opened.
     pub fn is_named(&self) -> bool {
         self.is_named
     }
 
-    /// The same, to be kept.
+    /// Returns the file itself, to be kept.
     pub fn into_file(self) -> File {
         let HostFile { file, .. } = self;
         file
     }
 }
 
-/// A file that was made at a path, if it was; it is removed if it can't be used.
+/// The file that was made at a path, if one was. It is removed if it can't be used.
 fn made_file(rt: &HostRuntime, made: io::Result<File>, path: &str) -> io::Result<HostFile> {
     match HostFile::of(kept_above(rt, made?, path)?) {
         Ok((file, _)) => Ok(file),
@@ -254,12 +254,12 @@ fn made_file(rt: &HostRuntime, made: io::Result<File>, path: &str) -> io::Result
     }
 }
 
-/// What is reported of a write that took nothing.
+/// The error for a write that took nothing.
 fn no_byte() -> io::Error {
     io::Error::new(io::ErrorKind::WriteZero, "failed to write whole buffer")
 }
 
-/// Writes some bytes to a file, from a place on, and tries again if the machine says to.
+/// Writes some bytes to a file, from an offset on, and tries again if the machine says to.
 fn write_at(rt: &HostRuntime, file: &File, at: u64, bytes: &[u8]) -> io::Result<usize>
     ensures bound { WritesAtMost result bytes.now }
     ensures some { IfOk result (λ n. 0 < length bytes.now → 0 < n) }
@@ -280,7 +280,7 @@ pub struct HostMachine {
     rt: HostRuntime,
     calls: Calls,
     failed: FailedCalls,
-    // A file system had no way to wait for a file.
+    // Whether a file system had no way to wait for a file.
     is_unwaited: bool,
 }
 
@@ -299,7 +299,7 @@ impl HostMachine {
         }
     }
 
-    /// The same machine once more, after the same calls, for another replacement.
+    /// The same machine again, after the same calls, for another replacement.
     pub fn again(&self) -> HostMachine
         ensures { (result.calls ≡ self.now.calls) × (result.failed ≡ 0) }
     {
@@ -316,7 +316,7 @@ impl HostMachine {
         self.is_unwaited
     }
 
-    /// Takes a file that is open to be written. Its path may lead elsewhere by now.
+    /// Takes a file that is open for writing. Its path may lead elsewhere by now.
     pub fn adopt(&mut self, file: File, path: &str) -> io::Result<(HostFile, Kind)>
         ensures ok { IfOk result (λ f. self.new.calls
             ≡ Opened path.now (number_of f.0.node) f.1 ∷ self.old.calls) }
@@ -351,7 +351,7 @@ impl HostMachine {
         }
     }
 
-    /// Notes one call if the machine could make it, and another if it has no way to.
+    /// Notes one call if the machine could make it, and another if it has no way to make it.
     fn note_either(
         &mut self,
         made: &Word<'_>,

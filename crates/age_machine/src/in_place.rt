@@ -21,8 +21,8 @@ use age_io::Durability;
 use std::io;
 use std::marker::Model;
 
-/// How many bytes may be written before a file is looked at again. Each write to one that opening made
-/// goes to its end, so that cutting it off leaves no hole: it is looked at less often.
+/// How many bytes may be written before a file is looked at again. Each write to one that opening
+/// made goes to its end, so truncating it leaves no hole, and it is looked at less often.
 const SIGHT_OF_FOUND: u64 = 1 << 24;
 
 const SIGHT_OF_MADE: u64 = 1 << 30;
@@ -32,21 +32,21 @@ const SIGHT_OF_MADE: u64 = 1 << 30;
 pub struct Out<M: Machine> {
     machine: M,
     file: M::File,
-    // Where it is, at the end of all links.
+    // Its path, at the end of all links.
     path: String,
     opening: Opening,
-    // No other run has it, if the file system has locks.
+    // Whether no other run has it, if the file system has locks.
     is_claimed: bool,
-    // What it held is still there, beyond the bytes that were written.
+    // Whether what it held still exists, beyond the bytes that were written.
     is_stale: bool,
     written: u64,
-    // How much was written when it was last seen to be as it should.
+    // How much had been written when it was last seen to look as it should.
     seen: u64,
-    // Its length is how much was written, as long as nobody else changes it. Files that the system
-    // makes up, as in /proc, have another.
+    // Whether its length is how much was written, as long as nobody else changes it. Files that the
+    // system makes up, as in /proc, have another length.
     has_length: bool,
-    // Why what it holds can't be relied on: the wait for the disk has failed, or the cut, or another
-    // program has harmed it. The system says so once: a later wait proves nothing.
+    // Why what it holds can't be relied on: the wait for the disk or the truncation has failed, or
+    // another program has harmed it. The system says so only once, so a later wait proves nothing.
     lost: Option<io::Error>,
 }
 
@@ -81,7 +81,7 @@ impl<M: Machine> Model for Out<M> {
         o.is_claimed o.written (M.failed o.machine) (M.calls o.machine) };
 }
 
-/// Cuts off what a file held beyond the bytes that were written.
+/// Truncates a file to the bytes that were written, if what it held may be beyond them.
 fn cut_stale<M: Machine>(
     machine: &mut M,
     file: &M::File,
@@ -104,8 +104,8 @@ fn cut_stale<M: Machine>(
     machine.cut(file, written)
 }
 
-/// Ends what was written to a file: cuts off what is beyond it, and waits for the disk. Fails if
-/// another program has harmed the file.
+/// Truncates a file to what was written, and waits for the disk. Fails if another program has
+/// harmed the file.
 fn finish<M: Machine>(
     machine: &mut M,
     file: &M::File,
@@ -137,8 +137,8 @@ fn finish<M: Machine>(
     machine.check(file, shape)
 }
 
-/// Waits until the name of a file has reached the disk, if it is to. Where another program made the
-/// name, that is done if its folder can be read.
+/// Waits until the name of a file has reached the disk, if it is to be there. If another program
+/// made the name, this waits only if the folder can be read.
 fn settle_name<M: Machine>(
     machine: &mut M,
     path: &str,
@@ -219,7 +219,7 @@ fn is_as_long<M: Machine>(machine: &M, file: &M::File, len: u64) -> bool {
 }
 
 impl<M: Machine + Drop> Out<M> {
-    /// A file that was opened to be written; what is written replaces what it holds.
+    /// Takes a file that was opened for writing. What is written replaces what it holds.
     pub fn new(machine: M, file: M::File, path: String, opening: Opening) -> Out<M>
         requires unfailed { M.failed machine ≡ 0 }
         requires opened { M.calls machine
@@ -256,7 +256,7 @@ impl<M: Machine + Drop> Out<M> {
         self.opening.is_made()
     }
 
-    /// Where it is, at the end of all links.
+    /// Its path, at the end of all links.
     pub fn path(&self) -> &str
         ensures { result.now ≡ self.now.file.path }
     {
@@ -270,8 +270,8 @@ impl<M: Machine + Drop> Out<M> {
         &self.file
     }
 
-    /// Takes it for this run alone, so that no other run writes to it, until it is ended. Fails if
-    /// another run has it. If the file system has no locks, every run may have it.
+    /// Takes the file for this run alone until it is ended, so that no other run writes to it.
+    /// Fails if another run has it. If the file system has no locks, every run may have it.
     pub fn claim(&mut self) -> io::Result<()>
         ensures same { (self.new.file ≡ self.old.file) × (self.new.is_lost ≡ self.old.is_lost)
             × (text_of self.new.calls ≡ text_of self.old.calls) }
@@ -291,7 +291,7 @@ impl<M: Machine + Drop> Out<M> {
         locked
     }
 
-    /// What it is to look like now.
+    /// What the file is to look like now.
     fn shape(&self, may_be_longer: bool) -> Shape
         ensures { result.len ≡ length (text_of self.now.calls) }
     {
@@ -303,9 +303,9 @@ impl<M: Machine + Drop> Out<M> {
         }
     }
 
-    /// Fails if it can't be relied on, or if another program has harmed it, if it is time to look.
-    /// While more is to be written it may be longer: somebody else may append to it, which is seen at
-    /// its end.
+    /// Fails if the file can't be relied on, or if it is time to look and another program has
+    /// harmed it. While more is to be written, the file may be longer, since somebody else may
+    /// append to it, which is noticed when it is ended.
     fn look(&mut self) -> io::Result<()>
         ensures same { (self.new.file ≡ self.old.file) × (self.new.calls ≡ self.old.calls) }
         ensures sound { OnOk result ((self.new.failed ≡ self.old.failed)
@@ -332,9 +332,9 @@ impl<M: Machine + Drop> Out<M> {
         }
     }
 
-    /// The first bytes are written before the rest is cut off, so that a first write that fails
-    /// changes nothing. If that can't be cut off, the bytes count as written, and what comes next
-    /// fails.
+    /// Truncates the file after the first bytes are written, and not before, so that a first write
+    /// that fails changes nothing. If it can't be truncated, the bytes count as written, and what
+    /// comes next fails.
     fn cut_first(&mut self, is_first: bool)
         requires { 0 < length (text_of self.old.calls) }
         ensures file { self.new.file ≡ self.old.file }
@@ -355,7 +355,7 @@ impl<M: Machine + Drop> Out<M> {
         }
     }
 
-    /// Writes some bytes behind those that were written. It is claimed before the first of them.
+    /// Writes some bytes after those that were written. The file is claimed before the first of them.
     fn write(&mut self, from: &[u8]) -> io::Result<usize>
         requires { 0 < length from.now }
         ensures bound { IfOk result (λ n. (n ≤ length from.now) × (0 < n)) }
@@ -401,8 +401,8 @@ impl<M: Machine + Drop> Out<M> {
         self.write(from)
     }
 
-    /// Waits until what was written has reached the disk. Fails for good once that has failed. What
-    /// was written before a cut that failed can still reach it.
+    /// Waits until what was written has reached the disk. Once a wait has failed, each later one
+    /// fails. What was written before a truncation that failed can still reach the disk.
     pub fn reach(&mut self) -> io::Result<()>
         ensures file { self.new.file ≡ self.old.file }
         ensures still { text_of self.old.calls ≡ [] → self.new ≡ self.old }
@@ -441,7 +441,7 @@ impl<M: Machine + Drop> Out<M> {
         }
     }
 
-    /// Whether it still holds what it held, or nothing if it was made.
+    /// Whether it is unchanged, or still empty if opening made it.
     pub fn is_untouched(&self) -> bool {
         if self.is_stale {
             self.written == 0
@@ -450,8 +450,8 @@ impl<M: Machine + Drop> Out<M> {
         }
     }
 
-    /// Ends it with what was written, and closes it, in either case. If nothing was written it is
-    /// claimed first; if another run has it, it stays as it is.
+    /// Ends it with what was written, and closes it in any case. If nothing was written, it is
+    /// claimed first, and stays unchanged if another run has it.
     pub fn end(mut self, durability: Durability) -> Ended<M>
         ensures safe { durability ≡ wait.Synced → self.failed ≡ 0 → OnOk result.end
             (IsSafe self.file.path (text_of self.calls) (M.calls result.machine)) }
@@ -495,8 +495,8 @@ impl<M: Machine + Drop> Out<M> {
         }
     }
 
-    /// Ends it if nothing was written, as it was before it was opened. One that opening made is
-    /// removed, if this run alone has it, and it is still empty.
+    /// Ends it unchanged, if nothing was written. One that opening made is removed, if this run
+    /// alone has it, and it is still empty.
     pub fn discard(self, durability: Durability) -> M
         ensures kept { self.failed ≡ 0 → text_of self.calls ≡ []
             → SavesWhole self.file.path [] [] (M.calls result) }

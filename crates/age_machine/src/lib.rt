@@ -1,9 +1,9 @@
-//! What writes a file, or puts one in another's place, by calls of the system.
+//! What writes a file, or puts one in another's place, by system calls.
 //!
-//! A [`Machine`] makes the calls, and its contracts see nothing but which ones it made, in order,
-//! and how many have failed. What they leave on a disk is defined in `age_calls`. So what is proved
-//! of a function that is generic in its machine is proved of every disk that does what the
-//! definitions say of a call.
+//! A [`Machine`] makes the calls, and its contracts see only which ones it made, in order, and how
+//! many have failed. What they leave on a disk is defined in `age_calls`. So what is proved of a
+//! function that is generic in its machine holds on every disk that does what the definitions say
+//! of a call.
 #![tactic(auto)]
 
 mod beside;

@@ -1,4 +1,4 @@
-//! The calls of the system by which a file is written, or put in another's place.
+//! The system calls that write a file, or put one in another's place.
 
 ghost use Rattle.std.specs.Prelude.{◌≡◌, ◌≤◌, ◌<◌, ℕ, List, ◌∷◌, take, length, true, false, IfOk};
 ghost use Rattle.std.specs.Prelude.{OnOk, OnErr, MatchOption};
@@ -13,7 +13,7 @@ use std::io;
 /// What a file is now.
 #[derive(Clone, Copy)]
 pub struct Sight {
-    /// It has a name.
+    /// Whether it has a name.
     pub is_named: bool,
     pub len: u64,
 }
@@ -22,9 +22,9 @@ pub struct Sight {
 #[derive(Clone, Copy)]
 pub struct Shape {
     pub len: u64,
-    /// Or it has more bytes.
+    /// Whether it may have more bytes than that.
     pub may_be_longer: bool,
-    /// Its length says how much was written to it.
+    /// Whether its length says how much was written to it.
     pub has_length: bool,
     pub is_named: bool,
 }
@@ -32,9 +32,9 @@ pub struct Shape {
 /// A system that makes the calls.
 ///
 /// Contracts see which calls were made, and which file each one was about. A call that fails has
-/// changed nothing, or what it changes if it succeeds: nobody can tell.
+/// changed nothing, or what it changes if it succeeds, and nobody can tell which.
 pub trait Machine {
-    /// A file that is open to be written.
+    /// A file that is open for writing.
     type File: Drop;
 
     /// What a path's folder was when it was judged.
@@ -46,10 +46,10 @@ pub trait Machine {
     // How many calls have failed.
     ghost failed: { Self → ℕ };
 
-    // Which file it is, whatever its names: its device and inode as one number.
+    // Which file it is, whatever its names, by its device and inode as one number.
     ghost number: { Self.File → ℕ };
 
-    /// Makes an empty file at a path where there is nothing, not even a link, and opens it.
+    /// Makes an empty file at a path where nothing exists, not even a link, and opens it.
     fn make(&mut self, path: &str) -> io::Result<Self::File>
         ensures ok { IfOk result
             (λ f. calls self.new ≡ Made path.now (number f) ∷ calls self.old) }
@@ -63,8 +63,8 @@ pub trait Machine {
         ensures err { OnErr result (calls self.new ≡ calls self.old) }
         ensures counted { CountsFailure result (failed self.old) (failed self.new) };
 
-    /// Opens what a name leads to, without emptying it, and says what it is; `None` if that is
-    /// nothing. The path is that at the end of the name's links.
+    /// Opens what a name leads to, without emptying it, and says what it is; `None` if it leads to
+    /// nothing. The path is the one at the end of the name's links.
     fn open(&mut self, name: &str, path: &str) -> io::Result<Option<(Self::File, Kind)>>
         ensures ok { IfOk result (λ found. MatchOption found (calls self.new ≡ calls self.old)
             (λ f. calls self.new ≡ Opened path.now (number f.0) f.1 ∷ calls self.old)) }
@@ -74,7 +74,7 @@ pub trait Machine {
     /// What a file is now.
     fn look(&self, file: &Self::File) -> io::Result<Sight>;
 
-    /// Fails if a file doesn't look as it is to.
+    /// Fails if a file doesn't look as it should.
     fn check(&mut self, file: &Self::File, shape: &Shape) -> io::Result<()>
         ensures same { calls self.new ≡ calls self.old }
         ensures counted { CountsFailure result (failed self.old) (failed self.new) };
@@ -87,10 +87,10 @@ pub trait Machine {
         ensures err { OnErr result (calls self.new ≡ calls self.old) }
         ensures counted { CountsFailure result (failed self.old) (failed self.new) };
 
-    /// Whether this run alone has a file. It is taken for this run then.
+    /// Takes a file for this run alone if that is possible, and says whether this run alone has it.
     fn is_alone(&self, file: &Self::File) -> bool;
 
-    /// Writes some of these bytes to a file, from a place on.
+    /// Writes some of these bytes to a file, from an offset on.
     fn write(&mut self, file: &Self::File, at: u64, bytes: &[u8]) -> io::Result<usize>
         ensures bound { IfOk result (λ n. n ≤ length bytes.now) }
         ensures some { IfOk result (λ n. 0 < length bytes.now → 0 < n) }
@@ -106,7 +106,7 @@ pub trait Machine {
         ensures err { OnErr result (calls self.new ≡ calls self.old) }
         ensures counted { CountsFailure result (failed self.old) (failed self.new) };
 
-    /// Cuts a file off after this many bytes.
+    /// Truncates a file to this many bytes.
     fn cut(&mut self, file: &Self::File, len: u64) -> io::Result<()>
         ensures ok { OnOk result (calls self.new ≡ Cut (number file.now) len ∷ calls self.old) }
         ensures err { OnErr result (calls self.new ≡ Broke (number file.now) ∷ calls self.old) }
@@ -119,8 +119,8 @@ pub trait Machine {
         ensures err { OnErr result (calls self.new ≡ Broke (number file.now) ∷ calls self.old) }
         ensures counted { CountsFailure result (failed self.old) (failed self.new) };
 
-    /// Lets the system say whether what was written has failed, as it does when a file is closed. It
-    /// stays open.
+    /// Lets the system report whether what was written has failed, as it does when a file is
+    /// closed. The file stays open.
     fn close(&mut self, file: &Self::File) -> io::Result<()>
         ensures ok { OnOk result (calls self.new ≡ Closed (number file.now) ∷ calls self.old) }
         ensures err { OnErr result (calls self.new ≡ Broke (number file.now) ∷ calls self.old) }
@@ -133,8 +133,8 @@ pub trait Machine {
         ensures err { OnErr result (calls self.new ≡ calls self.old) }
         ensures counted { CountsFailure result (failed self.old) (failed self.new) };
 
-    /// The same for a name that another program made: the system can't wait if the folder can't be
-    /// read.
+    /// Like `sync_names`, for a name that another program made. If the folder can't be read, the
+    /// system can't wait.
     fn sync_readable_names(&mut self, path: &str) -> io::Result<()>
         ensures ok { OnOk result (Waited (SyncedNames path.now) (UnwaitedNames path.now)
             (calls self.old) (calls self.new)) }
@@ -171,12 +171,12 @@ pub trait Machine {
             (MayHave (Renamed from.now to.now) (calls self.old) (calls self.new)) }
         ensures counted { CountsFailure result (failed self.old) (failed self.new) };
 
-    /// Removes what is at a path, unless by now that is another file than this one.
+    /// Removes what is at a path, unless another file than this one is there by now.
     fn remove(&mut self, file: &Self::File, path: &str)
         ensures calls { MayHave (Removed path.now) (calls self.old) (calls self.new) }
         ensures counted { failed self.old ≤ failed self.new };
 
-    /// Removes what is at a path if it is an empty room that a stopped run left: no run has its lock.
+    /// Removes what is at a path if it is an empty room of a stopped run, which no run has locked.
     fn reclaim(&mut self, path: &str)
         ensures calls { MayHave (Reclaimed path.now) (calls self.old) (calls self.new) }
         ensures counted { failed self.old ≤ failed self.new };

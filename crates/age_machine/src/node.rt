@@ -24,7 +24,7 @@ impl Node {
     }
 }
 
-/// The metadata of what is at a path, also of a link; `None` if nothing is there.
+/// The metadata of what is at a path, even if that is a link; `None` if nothing is there.
 pub fn found_at(rt: &HostRuntime, path: &str) -> io::Result<Option<Metadata>> {
     match fs::symlink_metadata(rt, path) {
         Ok(found) => Ok(Some(found)),
@@ -41,7 +41,7 @@ pub fn is_at(rt: &HostRuntime, file: &File, path: &str) -> bool {
     }
 }
 
-/// Two files have one number only if they are one.
+/// Two files have the same number only if they are one file.
 pub fn numbers_are_apart()
     ensures { NumbersAreApart }
 {}

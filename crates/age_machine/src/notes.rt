@@ -13,7 +13,7 @@ use age_calls::Kind;
 use age_io::Tape;
 use std::marker::Model;
 
-/// A call, as code has it.
+/// A call, as the code notes it.
 #[derive(Clone, Copy)]
 pub(crate) enum Word<'a> {
     Made(&'a str, Node),
@@ -44,7 +44,7 @@ enum Note<'a, 'b> {
     More(&'a Cell, Word<'b>),
 }
 
-// Calls that no code holds: the proof of `of` sets them.
+// Calls that no code holds, since the proof of `of` sets them.
 #[derive(Drop)]
 struct Cell {
     pub ghost calls: { List FileCall } by { coded_list coded_call },
@@ -90,7 +90,7 @@ impl Calls {
         }
     }
 
-    /// The same calls once more, to go on from.
+    /// The same calls again, to continue from.
     pub(crate) fn again(&self) -> Calls
         ensures { result ≡ self.now }
     {
@@ -99,7 +99,7 @@ impl Calls {
         }
     }
 
-    /// A call was made.
+    /// Notes that a call was made.
     pub(crate) fn note(&mut self, word: &Word<'_>)
         ensures { self.new ≡ file_call_of word.now ∷ self.old }
     {
@@ -123,14 +123,14 @@ impl Model for FailedCalls {
 }
 
 impl FailedCalls {
-    /// None so far.
+    /// No failure so far.
     pub(crate) fn new() -> FailedCalls
         ensures { result ≡ 0 }
     {
         FailedCalls { tape: Tape::new() }
     }
 
-    /// One more call has failed.
+    /// Notes that one more call has failed.
     pub(crate) fn note(&mut self)
         ensures { self.new ≡ self.old + 1 }
     {

@@ -1,4 +1,4 @@
-//! Puts a whole file to a path.
+//! Puts a complete file to a path.
 
 ghost use Rattle.std.specs.Prelude.{◌≡◌, ◌≢◌, ◌⊎◌, ◌≤◌, ◌<◌, ◌∷◌, List, string_bytes, OnOk};
 ghost use Rattle.std.specs.Prelude.{OnErr, Err};
@@ -18,22 +18,22 @@ use age_io::Durability;
 use std::alloc::Global;
 use std::io;
 
-/// What a path leads to that a new file is put to.
+/// What a path leads to when a new file is put to it.
 #[derive(Clone, Copy, PartialEq, Eq)]
 pub enum Spot {
     /// Nothing.
     Free,
-    /// What it is to replace.
+    /// What the new file is to replace.
     Taken,
 }
 
-/// What is reported of a file that has come to where none was: another run may have saved it.
+/// The error for a file that appeared where none was. Another run may have saved it.
 pub fn made_meanwhile() -> io::Error {
     io::Error::other("another program made it meanwhile")
 }
 
-/// What a rename that failed says: only some errors say that no file can be put there. After the
-/// others, as those of a disk that fails or is full, the file that is there is kept.
+/// What a rename that failed says. Only some errors say that no file can be put there. After the
+/// others, such as those of a disk that fails or is full, the existing file is kept.
 fn unplaced_by(error: io::Error) -> Unplaced
     ensures { result ≢ Memory }
 {
@@ -45,7 +45,7 @@ fn unplaced_by(error: io::Error) -> Unplaced
     }
 }
 
-/// Cuts off what a file holds after this many bytes.
+/// Truncates a file to this many bytes, if it has more.
 fn cut_off<M: Machine>(machine: &mut M, file: &M::File, len: u64) -> io::Result<()>
     ensures about { IsAbout (M.number file.now) (M.calls machine.old) (M.calls machine.new) }
     ensures cut { OnOk result
@@ -60,8 +60,8 @@ fn cut_off<M: Machine>(machine: &mut M, file: &M::File, len: u64) -> io::Result<
     machine.cut(file, len)
 }
 
-/// Writes bytes over what a file holds, and lets the system answer as if it was closed, so that it
-/// is whole before it takes another one's place.
+/// Writes bytes over what a file holds, and lets the system answer as if the file was closed, so
+/// that it is complete before it takes another one's place.
 fn fill<M: Machine>(
     machine: &mut M,
     file: &M::File,
@@ -109,8 +109,8 @@ fn take_free<M: Machine>(machine: &mut M, beside: &str, path: &str) -> Result<()
     }
 }
 
-/// Gives a new file the name of one that wasn't there. A second name for it never takes a file's
-/// place; where the file system has no second names, this looks first.
+/// Gives a new file a name that no file had. A second name for it (a hard link) never takes a
+/// file's place. If the file system has no hard links, this looks first.
 fn publish<M: Machine>(
     machine: &mut M,
     file: &M::File,
@@ -156,7 +156,7 @@ fn put<M: Machine>(
     }
 }
 
-/// Waits until the names in the folder of a path have reached the disk, if they are to.
+/// Waits until the names in the folder of a path have reached the disk, if they are to be there.
 pub(crate) fn settle_names<M: Machine>(
     machine: &mut M,
     path: &str,
@@ -176,7 +176,7 @@ pub(crate) fn settle_names<M: Machine>(
 }
 
 /// Puts a new file that was filled to a path. Fails if it isn't in the folder that was judged, as
-/// when its path has come to lead elsewhere before it was made.
+/// when its path led elsewhere by the time it was made.
 #[tactic(auto, using(crate::proofs::since_none, crate::proofs::names_named))]
 fn place<M: Machine>(
     machine: &mut M,
@@ -226,9 +226,9 @@ fn place_or_remove<M: Machine>(
     Err(why)
 }
 
-/// Puts a new file of these bytes to a path. What is there stays as it is until the new one is
-/// whole. The new one is its owner's alone, whoever may read the old one: what lets others do that
-/// can't all be seen.
+/// Puts a new file of these bytes to a path. An existing file stays unchanged until the new one is
+/// complete. Only its owner may use the new one, whoever may read the old one, since not all that
+/// lets others do so can be seen.
 pub fn replace_by_new<M: Machine>(
     alloc: Global,
     machine: &mut M,
@@ -250,8 +250,8 @@ pub fn replace_by_new<M: Machine>(
     }
 }
 
-/// Puts the file that was made beside a path when that was prepared there, with these bytes, or a
-/// new one if that is gone, or can't be written over.
+/// Puts a file of these bytes to a path. It is the one that was made beside the path when that was
+/// prepared, or a new one if that one is gone, or can't be written over.
 pub fn replace_by_kept<M: Machine>(
     alloc: Global,
     machine: &mut M,

@@ -12,9 +12,9 @@ pub const TRIES: u64 = u64::MAX;
 /// How many milliseconds pass before a descriptor that wasn't ready is tried again.
 const PAUSE: u64 = 1;
 
-/// Whether a read or a write that failed is to be tried again: it was interrupted, or its
+/// Whether a read or a write that failed is to be tried again, because it was interrupted, or its
 /// descriptor is non-blocking and isn't ready. Another program that shares the descriptor may have
-/// made it so. Then this waits a moment first.
+/// made it non-blocking. Then this waits a moment first.
 pub fn is_to_retry(rt: &HostRuntime, error: &io::Error) -> bool {
     match error.kind() {
         io::ErrorKind::Interrupted => true,
@@ -26,7 +26,7 @@ pub fn is_to_retry(rt: &HostRuntime, error: &io::Error) -> bool {
     }
 }
 
-/// What is reported when no try is left.
+/// The error when no try is left.
 pub fn too_many_tries() -> io::Error {
     io::Error::from(io::ErrorKind::TimedOut)
 }

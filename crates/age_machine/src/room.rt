@@ -1,4 +1,4 @@
-//! Empty rooms: what a file that is to take another's place holds until its bytes are written.
+//! Empty rooms, which a file that is to take another's place holds until its bytes are written.
 
 ghost use Rattle.std.specs.Prelude.{◌≡◌, IfOk, IfSome, replicate};
 
@@ -13,12 +13,12 @@ use std::rt::HostRuntime;
 /// whatever happens to the disk.
 pub(crate) const ROOM: [u8; 256] = [b' '; 256];
 
-/// Whether a file may be an empty room, by what the system shows of it.
+/// Whether a file may be an empty room, by what the system shows.
 fn may_be_room(found: &Metadata) -> bool {
     found.is_file() && found.nlink() == 1 && found.len() == ROOM.len() as u64
 }
 
-/// What was read of a file that was removed as an empty room.
+/// What was read from a file that was removed as an empty room.
 #[derive(Drop)]
 pub(crate) struct EmptyRoom<'a> {
     pub(crate) path: &'a str,
@@ -26,7 +26,7 @@ pub(crate) struct EmptyRoom<'a> {
     ghost blank: { held ≡ replicate 256 32 },
 }
 
-/// The room that a file at a path is, if it begins with the bytes of an empty one.
+/// The empty room at a path, if the file there begins with the bytes of one.
 fn room_in<'a>(file: &File, path: &'a str) -> io::Result<Option<EmptyRoom<'a>>>
     ensures { IfOk result (λ room. IfSome room (λ r. r.path.now ≡ path.now)) }
 {
@@ -40,7 +40,7 @@ fn room_in<'a>(file: &File, path: &'a str) -> io::Result<Option<EmptyRoom<'a>>>
 }
 
 /// Removes an empty room that a stopped run left at a path. `None` if what is there isn't known to
-/// be one: it stays. A run has the lock of its room before that is full.
+/// be one, so that it stays. A run locks its room before the room is full.
 pub(crate) fn reclaim<'a>(rt: &HostRuntime, path: &'a str) -> io::Result<Option<EmptyRoom<'a>>>
     ensures { IfOk result (λ room. IfSome room (λ r. r.path.now ≡ path.now)) }
 {

@@ -8,17 +8,17 @@ use crate::calls;
 use std::fs::File;
 use std::io;
 
-/// What the system answered that has no way to wait here. Only what asked it makes one: so no call
-/// is noted as one that can't wait unless the system said so.
+/// The answer of a system that has no way to wait here. Only the code that asked it makes one, so
+/// no call is noted as one that can't wait unless the system said so.
 #[derive(Drop)]
 pub(crate) struct CantWait {
     error: io::Error,
     ghost said: { is_of_no_wait (error_kind error) ≡ true },
 }
 
-/// Why the system hasn't waited, by what it answered, if it has no way to wait here; `None` if it
-/// has. A file system that became read-only after a file was written says something else: that its
-/// disk failed.
+/// Why the system hasn't waited, by its answer, if it has no way to wait here; `None` if it has
+/// waited. A file system that became read-only after a file was written says something else, namely
+/// that its disk failed.
 fn why_unwaited(answer: io::Result<()>) -> io::Result<Option<CantWait>>
     ensures waited { IfOk result (λ it. it ≡ None → IsOk answer) }
     ensures cant { IfOk result (λ it. IfSome it (λ c. answer ≡ Err c.error)) }

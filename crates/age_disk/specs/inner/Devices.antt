@@ -1,4 +1,4 @@
--- What was opened and is no regular file. Private: no public contract cites this module.
+-- What was opened and isn't a regular file. Private: no public contract cites this module.
 use Rattle.std.specs.Prelude.{ℕ, List, [], ◌∷◌, Option, Some, None}
 use Rattle.age_calls.specs.{FileCall, Opened}
 use Rattle.age_calls.specs.declared.opening.Kind.TheVariants.{Device}

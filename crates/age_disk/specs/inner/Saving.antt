@@ -1,4 +1,4 @@
--- What was done for a file that was replaced, at once or directly.
+-- What was done for a file that was replaced, either at once or directly.
 use Rattle.std.specs.Prelude.{◌≡◌, ℕ, List, None, IsSomeAnd, Result, OnOk}
 use Rattle.age_io.specs.declared.durability.Durability.{Durability}
 use Rattle.age_calls.specs.Saved.{Saves}

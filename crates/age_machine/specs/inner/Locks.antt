@@ -13,7 +13,7 @@ abbrev pub SaysNoLocks : Error → Type 0
 SaysNoLocks e = (error_kind e ≡ InvalidInput) ⊎ ((error_kind e ≡ Unsupported)
     ⊎ (raw_os_error e ≡ Some (pos 37)))
 
--- and no other run has the lock
+-- the answer is such an error, and not that another run has the lock
 abbrev pub HasNoLocks : TryLockError → Type 0
 HasNoLocks lock.WouldBlock = ⊥
 HasNoLocks (lock.Error e) = SaysNoLocks e

@@ -9,7 +9,7 @@ use Rattle.age_machine.specs.declared.notes.Note.TheVariants as note
 use Rattle.age_machine.specs.declared.notes.Word.{Word}
 use Rattle.age_machine.specs.declared.notes.Word.TheVariants as word
 
--- the call that a word says
+-- the call that a word stands for
 abbrev pub file_call_of : Word → FileCall
 file_call_of (word.Made path node) = Made path.now (number_of node)
 file_call_of (word.Opened path node kind) = Opened path.now (number_of node) kind
@@ -30,7 +30,7 @@ file_call_of (word.Reclaimed room) = Reclaimed room.now.path.now
 file_call_of (word.SyncedNames path) = SyncedNames path.now
 file_call_of (word.UnwaitedNames path) = UnwaitedNames path.now
 
--- the calls that a note says
+-- the calls that a note stands for
 abbrev pub calls_of : Note → List FileCall
 calls_of note.Nothing = []
 calls_of (note.All cell) = cell.now.calls

@@ -18,26 +18,26 @@ abbrev pub StaysSound : ℕ → List FileCall → List FileCall → Type 0
 StaysSound n old new =
     (disk : Disk) → (after_calls new disk).is_lost n ≡ (after_calls old disk).is_lost n
 
--- so many of these bytes are written over what a file held
+-- this many of these bytes are written over what a file held
 pub record WritesOver (n count : ℕ) (text : List ℕ) (old new : List FileCall) : Type 0 where
   pub sound : StaysSound n old new
   pub bytes : (disk : Disk) → (after_calls new disk).bytes n
       ≡ take count text ++ drop count ((after_calls old disk).bytes n)
 
--- it is cut off after so many bytes
+-- the file is truncated to this many bytes
 pub record CutsOff (n len : ℕ) (old new : List FileCall) : Type 0 where
   pub sound : StaysSound n old new
   pub bytes : (path : List ℕ) (disk : Disk) → AllAnswered path new disk
       → (after_calls new disk).bytes n ≡ take len ((after_calls old disk).bytes n)
 
--- it comes to hold these bytes, and is closed
+-- the file comes to hold these bytes, and is closed
 pub record Gets (n : ℕ) (bytes : List ℕ) (old new : List FileCall) : Type 0 where
   pub sound : StaysSound n old new
   pub closed : ClosesLast n new
   pub holds : (path : List ℕ) (disk : Disk) → AllAnswered path new disk
       → (after_calls new disk).bytes n ≡ bytes
 
--- it holds these bytes, and a power cut leaves them
+-- the file holds these bytes, and a power cut leaves them
 abbrev pub Has : ℕ → List ℕ → Disk → Type 0
 Has n text disk = (disk.bytes n ≡ text) × (disk.is_kept n ≡ true)
 
@@ -59,7 +59,7 @@ pub record RemovesAt (path : List ℕ) (old new : List FileCall) : Type 0 where
   pub removed : MayHave (Removed path) old mid
   pub named : (new ≡ mid) ⊎ Waited (SyncedNames path) (UnwaitedNames path) mid new
 
--- it is at the path, and a power cut leaves it
+-- the file is at the path, and a power cut leaves it there
 pub record IsAtPath (path : List ℕ) (n : ℕ) (bytes : List ℕ) (calls : List FileCall) : Type 0 where
   pub file : StandsAt path path n calls
   pub has : (disk : Disk) → AllAnswered path calls disk → AllWaited calls
@@ -67,7 +67,7 @@ pub record IsAtPath (path : List ℕ) (n : ℕ) (bytes : List ℕ) (calls : List
 
 -- ---- How a file that was filled comes to its path.
 
--- this call is about its name beside the path, and about the path
+-- this call is about the file's name beside the path, or about the path
 abbrev pub IsNaming : Spot → (path from : List ℕ) → List FileCall → FileCall → Type 0
 IsNaming to path from calls (Missing p) = p ≡ path
 IsNaming to path from calls (Linked f t) = (f ≡ from) × (t ≡ path)
@@ -81,6 +81,6 @@ IsNaming to path from calls call = ⊥
 abbrev pub Names : Spot → (path from : List ℕ) → List FileCall → List FileCall → Type 0
 Names to path from = Since (IsNaming to path from)
 
--- what was at the one path is at the other now
+-- what was at the one path is now at the other
 abbrev pub TakesOver : (path from : List ℕ) → List FileCall → List FileCall → Type 0
 TakesOver path from old new = (n : ℕ) → from ≢ path → StandsAt path from n old → StandsAt path path n new
