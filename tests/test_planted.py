@@ -40,6 +40,7 @@ PLANTED = {
         ("crates/age_kdf/edits/all.edit", "old: ", "old: nothing of ", "an old text isn't in its file exactly once"),
         ("checks/promises", "age_kdf lib::hmac |", "age_kdf lib::hmac3 |", "checks/promises: HMAC is RFC 2104's: no age_kdf lib::hmac3"),
         ("checks/promises", "age_kdf/pads-swapped", "age_kdf/pads-kept", "no age_kdf/pads-kept"),
+        ("course/solution.patch", " pub fn hkdf32(", " pub fn hkdf64(", "course/solution.patch: crates/age_kdf/src/lib.rt isn't what it changes"),
     ),
     "trusted": (
         ("crates/age_disk/src/files.rt", None, "\nfn spoil() {\n    let _ = std::fs::remove_file(rt, name);\n}\n", "age_disk/src/files.rt: fs::remove_file may stand in"),
