@@ -10,8 +10,9 @@ use Rattle.std.proofs.lemmas.Bool.{and_parts, cases_lt, false≢true, leb-true, 
 use Rattle.age_chunk.specs.{chunk_limit, block_length, chunk_count, chunk_length, payload}
 use Rattle.age_chunk.specs.declared.fault.StreamFault.{StreamFault}
 use Rattle.age_chunk.specs.declared.fault.StreamKind.TheVariants.{ChunkDamaged, ChunkCut, EmptyLast, Truncated, Trailing, TooManyChunks}
+use Rattle.age_stanza.proofs.ElementLemmas.{all_map}
 use Rattle.age_keys.specs.{payload_key}
-use Rattle.age_keys.specs.inner.{box_valid}
+use Rattle.age_keys.specs.inner.{box_valid, opens, seals}
 use Rattle.age_stream.specs.{IsClosed, IsSealable, Outcome, fresh, outcome, released, with_end, with_piece, IsPrefixOf, IsRest, IsRight, IsFirstWrong}
 use Rattle.age_stream.specs.declared.step.Status.{Status}
 use Rattle.age_stream.specs.declared.step.Status.TheVariants.{Done, Failed, Open}
@@ -23,7 +24,7 @@ use Rattle.age_stream.proofs.ReplayLemmas.{rest_is_right as rest_is_authentic}
 use Rattle.age_c.specs.{Reader, Answers, answer_of, misused, reader_status, AllAnswer, AnswersAreCalls, AreCalls, AreCallsAuthentic, AreParts, AreUndamaged}
 use Rattle.age_c.specs.{Call, CallsAreWritten, CanBeUsed, GoesTo, IsAt, IsCall, IsTextRight, Part, PartsAreWritten, SameFile, after_block, after_call}
 use Rattle.age_c.specs.{after_end, given_by, last_reader, reader_text, segment_from, texts_of, OpeningsAreParts}
-use Rattle.age_c.specs.inner.{key_of_reader as key_of, opens, seals}
+use Rattle.age_c.specs.inner.{key_of_reader as key_of}
 use Rattle.age_c.proofs.ReaderLemmas.{key_same, some_is, unchanged}
 
 -- ---- One call.
@@ -131,10 +132,6 @@ module _ (op : List ℕ → List ℕ → Option (List ℕ)) (m : ℕ) (f : Strea
 -- ---- What is known of each call.
 
 -- ---- Every element.
-
-all_map : {Item : Type 0} (P Q : Item → Type 0) → ((c : Item) → P c → Q c) → (calls : List Item) → AllByRecursion P calls → AllByRecursion Q calls
-all_map P Q f [] h = tt
-all_map P Q f (c ∷ calls) h = (f c h.0, all_map P Q f calls h.1)
 
 -- ---- What is left of a text.
 

@@ -10,6 +10,7 @@ use Rattle.std.proofs.lemmas.Slice.{drop-put_mid, take-put_mid}
 use Rattle.age_stanza.specs.{IsStanza, argument_line, end_line, head_text, in_lines, line, stanza_text, version, header_limit, stanzas_text, base64_text}
 use Rattle.age_stanza.specs.declared.header.Header.{Header}
 use Rattle.age_stanza.specs.declared.header.Stanza.{Stanza}
+use Rattle.age_stanza.proofs.LineLemmas.{spaced}
 use Rattle.age_stanza.proofs.{All-back, length-body, written_next, length-text}
 use Rattle.age_keys.specs.{IsScryptStanza}
 use Rattle.age_keys.proofs.{work_factor_some}
@@ -41,9 +42,6 @@ no_work h s one none = record {
 }
 
 -- ---- how long texts are
-
-abbrev pub spaced : List (List ℕ) → List ℕ
-spaced args = flat_map (λ a. 32 ∷ a) args
 
 -- a stanza's text, by its parts
 pub length-stanza : (s : Stanza) → length (stanza_text s) ≡ length (spaced s.args) + length (in_lines (base64_text s.body)) + 3

@@ -5,6 +5,7 @@ pub mod StreamLemmas
 pub mod FrontLemmas
 pub mod HeaderLemmas
 pub mod UndamagedOpeningLemmas
+pub use Rattle.age_keys.proofs.PassphraseLemmas.{mac_holds}
 unfoldable pub use ReaderLemmas.*
 unfoldable pub use CallLemmas.*
 unfoldable pub use StreamLemmas.*

@@ -3,16 +3,16 @@ use Rattle.std.proofs.lemmas.Grind.{common_steps, flat_map-append}
 use Rattle.std.proofs.Common.{◌≡◌, ◌≢◌, ℕ, ◌+◌, ◌*◌, ◌/◌, ◌<◌, ap, sym, subst, ◌∙◌, refl, arith, List, [], ◌∷◌, ◌++◌, length, true, false, Some, None, Bool}
 use Rattle.std.proofs.Common.{append-nil}
 use Rattle.std.specs.Prelude.{Option, IfSome}
-use Rattle.std.specs.List.{flat_map}
 use Rattle.std.specs.Borrow.{Bor}
 use Rattle.std.proofs.lemmas.List.{length-append, length-drop, nil_from_length}
 use Rattle.age_stream.specs.Segment.{Segment}
 use Rattle.age_stream.specs.{fresh, outcome, released, rest_bytes, with_piece, chunk_bytes, OpenerView, Stands, chunk_texts, has_failed}
 use Rattle.age_stream.specs.declared.step.Status.{Status}
 use Rattle.age_stream.specs.declared.step.Status.TheVariants.{Open}
-use Rattle.age_stream.proofs.{fresh_outcome, fresh_rest}
+use Rattle.age_stream.proofs.{fresh_outcome, fresh_rest, lent_flat}
 use Rattle.age_c.specs.{Reader, answer_of, reader_status, IsAt, SameFile, TakesBlock}
-use Rattle.age_c.specs.inner.{Keeps, PassesOn, key_of_reader as key_of, opens}
+use Rattle.age_keys.specs.inner.{opens}
+use Rattle.age_c.specs.inner.{Keeps, PassesOn, key_of_reader as key_of}
 use Rattle.age_chunk.specs.{chunk_length, block_length}
 
 pub some_is : {A : Type 0} {a b : A} → Some a ≡ Some b → a ≡ b
@@ -110,15 +110,10 @@ pub rest_text : (op : List ℕ → List ℕ → Option (List ℕ)) (s next : Seg
     → released op chunk_length next ≡ released op chunk_length s
 rest_text op s next chunk held new taken e lent none lt = grind (arith, common_steps, append-nil, no_text)
 
--- what a block released is what was lent of it
-bytes_of_texts : (chunk : Option (Bor (List ℕ))) → flat_map (λ (t : List ℕ). t) (chunk_texts chunk) ≡ chunk_bytes chunk
-bytes_of_texts None = refl
-bytes_of_texts (Some c) = append-nil c.now
-
 pub block_text : (op : List ℕ → List ℕ → Option (List ℕ)) (s next : Segment) (chunk : Option (Bor (List ℕ))) (text : List ℕ)
     → (outcome op chunk_length next).texts ≡ (outcome op chunk_length s).texts ++ chunk_texts chunk → text ≡ chunk_bytes chunk
     → released op chunk_length next ≡ released op chunk_length s ++ text
-block_text op s next chunk text e is = grind (arith, common_steps, bytes_of_texts, flat_map-append)
+block_text op s next chunk text e is = grind (arith, common_steps, lent_flat, flat_map-append)
 
 -- what is passed on after no text was
 pub passes_both : (first second : Segment → Segment) (a b c : OpenerView (List ℕ)) (text : List ℕ) → PassesOn first a b [] → PassesOn second b c text

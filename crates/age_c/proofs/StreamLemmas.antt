@@ -1,6 +1,6 @@
 -- What a stream's steps, and any calls on it, do to the segment that it was given.
 use Rattle.std.proofs.lemmas.Grind.{common_steps}
-use Rattle.std.proofs.Common.{inl, inr, ◌≡◌, ◌≢◌, ℕ, ◌+◌, ◌<◌, ◌≤◌, refl, ap, sym, subst, ◌∙◌, arith, List, [], ◌∷◌, ◌++◌, length, take, true, false}
+use Rattle.std.proofs.Common.{inl, inr, ◌≡◌, ◌≢◌, ℕ, ◌+◌, ◌<◌, ◌≤◌, refl, ap, sym, subst, ◌∙◌, arith, List, [], ◌++◌, length, take, true, false}
 use Rattle.std.specs.Prelude.{Some, min, ◌-◌}
 use Rattle.std.specs.List.{flat_map}
 use Rattle.std.proofs.lemmas.Bool.{cases_lt, false≢true}
@@ -10,7 +10,7 @@ use Rattle.age_keys.specs.{box, unbox}
 use Rattle.age_stream.specs.Segment.{Segment}
 use Rattle.age_stream.specs.{Outcome, fresh, released, with_end, with_piece}
 use Rattle.age_stream.specs.declared.step.Status.TheVariants.{Open}
-use Rattle.age_stream.proofs.{going, going_part, nothing}
+use Rattle.age_stream.proofs.{going, going_part, piece_nil}
 use Rattle.age_stream.proofs.GoingLemmas.{pieces_join}
 use Rattle.age_c.specs.{Reader, answer_of, reader_status, IsAt, IsBlockCall, SameFile, TakesBlock, TakesEnd, after_block, after_end, reader_outcome}
 use Rattle.age_c.specs.{reader_text, AnswersAreFeedCalls, FeedsAreWritten, FeedsStream, FinishesStream, IsStreamCall, StreamMoves}
@@ -19,10 +19,6 @@ use Rattle.age_c.specs.declared.stream.Stream.{Stream}
 use Rattle.age_c.proofs.CallLemmas.{Timely, a_call, any_calls, timely_piece}
 use Rattle.age_c.proofs.ReaderLemmas.{some_is, unchanged}
 use Rattle.age_c.proofs.WriterLemmas.{payload_written, few_chunks}
-
--- no bytes change nothing
-piece_nil : (s : Segment) → with_piece s [] ≡ s
-piece_nil s = nothing s.start s.bytes s.ended s.late
 
 -- a part of a block releases nothing
 part_same : (r : Reader) (blocks : Segment) (part : List ℕ) → IsAt r blocks

@@ -1,7 +1,7 @@
 -- A block that came undamaged at its place is opened.
 use Rattle.std.proofs.lemmas.Grind.{common_steps, flat_map-append}
 use Rattle.std.proofs.lemmas.Bool.Decides.{eqb_tells}
-use Rattle.std.proofs.Common.{inl, inr, ◌≡◌, ◌≢◌, ℕ, ◌+◌, ◌*◌, ◌/◌, refl, ◌<◌, ◌≤◌, ap, sym, subst, ◌∙◌, arith, List, [], ◌∷◌, ◌++◌, length, get_or, take, drop}
+use Rattle.std.proofs.Common.{inl, inr, ◌≡◌, ◌≢◌, ℕ, ◌+◌, ◌*◌, refl, ◌<◌, ◌≤◌, ap, sym, subst, ◌∙◌, arith, List, [], ◌∷◌, ◌++◌, length, get_or, take, drop}
 use Rattle.std.proofs.Common.{Bool, true, false, Option, Some, None}
 use Rattle.std.specs.Prelude.{◌==◌}
 use Rattle.std.specs.List.{AllByRecursion}
@@ -12,7 +12,7 @@ use Rattle.age_chunk.specs.{tag_length, block_bytes, block_length, chunk_count, 
 use Rattle.age_chunk.specs.{payload, sealed, sealed_before_last}
 use Rattle.age_chunk.specs.declared.fault.StreamFault.{StreamFault}
 use Rattle.age_chunk.proofs.{get_or-first_chunks, length-first_chunks, nonce_bytes-length}
-use Rattle.age_keys.specs.inner.{box_valid}
+use Rattle.age_keys.specs.inner.{box_valid, opens, seals}
 use Rattle.age_stream.specs.{IsClosed, Outcome, fresh, outcome, rest_bytes}
 use Rattle.age_stream.specs.declared.step.Status.{Status}
 use Rattle.age_stream.specs.declared.step.Status.TheVariants.{Failed, LastSeen, Open}
@@ -24,7 +24,7 @@ use Rattle.age_stream.proofs.{going, last_chunk_le, fresh_outcome, sealed_at, la
 use Rattle.age_stream.proofs.LawLemmas.{payload_is_longer}
 use Rattle.age_c.specs.{answer_of, misused, reader_status, Call, IsAt, SameFile, TakesBlock, TakesEnd, after_block, AreOpenings, IsOpenedRight, Opening}
 use Rattle.age_c.specs.{OpensAt, UndamagedOpens, chunk_of, Reader}
-use Rattle.age_c.specs.inner.{key_of_reader as key_of, opens, seals}
+use Rattle.age_c.specs.inner.{key_of_reader as key_of}
 use Rattle.age_c.proofs.CallLemmas.{calls_are_written, fault_from, refused_of, same_file, taken_next}
 use Rattle.age_c.proofs.ReaderLemmas.{key_same, unchanged}
 

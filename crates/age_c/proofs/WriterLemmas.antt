@@ -1,7 +1,7 @@
 -- What a call, and a list of them, does to a writer and to a stream that writes.
 use Rattle.std.proofs.lemmas.Grind.{common_steps, flat_map-append}
 use Rattle.std.proofs.lemmas.Bool.Decides.{eqb_tells}
-use Rattle.std.proofs.Common.{inl, inr, ◌≡◌, ◌≢◌, ℕ, suc, ◌+◌, ◌*◌, ◌<◌, ◌≤◌, refl, ap, sym, ◌∙◌, arith, List, [], ◌∷◌, ◌++◌, length, take, drop, Bool, true}
+use Rattle.std.proofs.Common.{◌≡◌, ◌≢◌, ℕ, ◌+◌, ◌*◌, ◌<◌, ◌≤◌, refl, ap, sym, ◌∙◌, arith, List, [], ◌∷◌, ◌++◌, length, take, drop, Bool, true}
 use Rattle.std.proofs.Common.{false, ap₂, subst}
 use Rattle.std.specs.Prelude.{map, ◌==◌, ◌⊎◌}
 use Rattle.std.specs.List.{enumerate_from}
@@ -12,10 +12,11 @@ use Rattle.age_chunk.specs.{nonce_bytes, chunk_limit, pair, block_bytes, payload
 use Rattle.age_chunk.proofs.{first_chunks_more, first_chunks-append, length-first_chunks}
 use Rattle.age_stream.proofs.{enumerate_from_more, last_index_is}
 use Rattle.age_c.specs.declared.writer.Writer.{Writer}
-use Rattle.age_c.specs.inner.{seals, key_of_writer as key_of, SealsChunk, SealsLast, HoldsText}
+use Rattle.age_keys.specs.inner.{seals}
+use Rattle.age_c.specs.inner.{key_of_writer as key_of, SealsChunk, SealsLast, HoldsText}
 use Rattle.age_c.specs.{HasSealed, SameKeys, blocks_of, WritesOrRefuses, FeedsText, FinishesText, HasTaken, TakesText, held_chunk, Answers, AnswersAreTextCalls}
 use Rattle.age_c.specs.{AreTextCalls, IsTextCallOn, TextCall, TextsAreFiles, WritesFile, bytes_written, stream_after, text_taken}
-use Rattle.age_keys.specs.{header_mac, IsMacOf, box, scrypt_head}
+use Rattle.age_keys.specs.{box}
 use Rattle.age_stanza.specs.declared.header.Header.{Header}
 use Rattle.age_c.specs.declared.write_stream.WriteStream.{WriteStream}
 
@@ -92,12 +93,6 @@ pub idle_or_did : {State : Type 0} (old new : State) (before after : List ℕ) (
     → Answers Fits (WritesOrRefuses Does Why old) old new answer written before after
     → (answer ≢ 0 → (new ≡ old) × (take written after ≡ [])) × (answer ≡ 0 → Does (take written after) new)
 idle_or_did old new before after answer written Fits Does Why it = grind (arith, common_steps, eqb_tells)
-
--- ---- whole files
-
-pub mac_holds : (pass : List ℕ) (work : ℕ) (salt key : List ℕ) → IsMacOf (scrypt_head pass work salt key) key
-unfolding scrypt_head header_mac
-mac_holds pass work salt key = refl
 
 -- ---- A stream that writes.
 

@@ -3,11 +3,11 @@ use Rattle.std.specs.Prelude.{ℕ, List, [], ◌≡◌, ◌≢◌, ◌++◌, Som
 use Rattle.std.specs.Prelude.{◌-◌, ◌∷◌, length, min, take, replicate}
 use Rattle.std.specs.Bool.{OnTrue}
 use Rattle.std.specs.List.{flat_map}
-use Rattle.age_cipher.specs.{sealing as sealing_with, opening as opening_with}
-use Rattle.age_chunk.specs.{Seals, OpensBlock, chunk_length, block_length, chunk_limit, chunk_count, payload}
+use Rattle.age_chunk.specs.{chunk_length, block_length, chunk_limit, chunk_count, payload}
 use Rattle.age_chunk.specs.{tag_length}
 use Rattle.age_keys.specs.{payload_key, is_before_work as is_before_work_on_keys, box, IsMacOf}
 use Rattle.age_keys.specs.{IsScryptNotAlone}
+use Rattle.age_keys.specs.inner.{opens}
 use Rattle.age_c.specs.declared.reader.Reader.{Reader}
 use Rattle.age_stream.specs.{OpenerView, Stands, has_failed, released}
 use Rattle.age_stream.specs.declared.step.Status.{Status}
@@ -33,13 +33,6 @@ use Rattle.age_c.specs.declared.write_stream.WriteStream.{WriteStream}
 -- the payload's key
 abbrev pub key_of_reader : Reader → List ℕ
 key_of_reader r = payload_key r.file_key r.nonce
-
--- how it seals a plaintext at a nonce, and opens a block there
-abbrev pub seals : List ℕ → Seals
-seals key nonce text = sealing_with key nonce [] text
-
-abbrev pub opens : List ℕ → OpensBlock
-opens key nonce block = opening_with key nonce [] block
 
 -- ---- What the parts of a call do.
 

@@ -27,7 +27,7 @@ pub(crate) fn can_be_used(writer: &Writer) -> bool
 /// Begins a file under a passphrase of 1 to 65,536 bytes, with a work factor of 1 to 22, and puts
 /// its header and the payload's nonce into `out`, which has room for 256 bytes or more. `random` is
 /// 48 new random bytes: the file key, the stanza's salt and the payload's nonce.
-#[tactic(auto, using(crate::proofs::WriterLemmas::mac_holds))]
+#[tactic(auto, using(crate::proofs::mac_holds))]
 #[unsafe(no_mangle)]
 pub extern "C" fn age_c_seal_passphrase(
     alloc: Global,

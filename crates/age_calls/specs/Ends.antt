@@ -2,8 +2,8 @@
 use Rattle.std.specs.Prelude.{◌≡◌, ◌≢◌, ◌⊎◌, ◌<◌, ℕ, List, [], ◌∷◌, Bool, true, false, Option, IfSome}
 use Rattle.std.specs.Prelude.{MatchOption, Result, OnOk, OnErr}
 use Rattle.age_io.specs.{SinkView}
-use Rattle.age_io.specs.declared.durability.Durability.{Durability}
-use Rattle.age_io.specs.declared.durability.Durability.TheVariants.{Synced}
+use Rattle.age_options.specs.declared.Durability.{Durability}
+use Rattle.age_options.specs.declared.Durability.TheVariants.{Synced}
 use Rattle.age_calls.specs.Calls.{FileCall, ClosesLast, Opened}
 use Rattle.age_calls.specs.declared.opening.Kind.TheVariants.{Device}
 use Rattle.age_calls.specs.Outs.{OutFile, TouchesFile, has_changed}

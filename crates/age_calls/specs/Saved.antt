@@ -1,6 +1,6 @@
 -- What was done for a position that was saved.
 use Rattle.std.specs.Prelude.{List, [], ℕ, Option, IfSome, Result, OnOk}
-use Rattle.age_io.specs.declared.durability.Durability.{Durability}
+use Rattle.age_options.specs.declared.Durability.{Durability}
 use Rattle.age_calls.specs.Calls.{FileCall}
 use Rattle.age_calls.specs.Saves.{IsThereAs, Touches}
 

@@ -6,7 +6,7 @@ use Rattle.std.specs.Option.{option_map_or, option_or}
 use Rattle.std.specs.Io.KnownBytes.{Consumes, IsAtEnd, prepend_known}
 use Rattle.age_io.specs.Supply.{Supply}
 use Rattle.age_io.specs.{SourceView}
-use Rattle.age_io.specs.declared.durability.Durability.{Durability}
+use Rattle.age_options.specs.declared.Durability.{Durability}
 use Rattle.clap.specs.Words.{Row, Text}
 use Rattle.clap.specs.Kinds.{Kinds, IsAmong}
 use Rattle.clap.specs.declared.error.kind.ErrorKind.TheVariants.{DisplayHelp, DisplayVersion}
@@ -24,11 +24,12 @@ use Rattle.age_opening.specs.declared.decryption.Stopped.{Stopped}
 use Rattle.age_position.specs.declared.position.Position.{Position}
 use Rattle.age_fault.specs.declared.fault.FileFault.{FileFault}
 use Rattle.age_calls.specs.{EndedFile, SavedFile}
-use Rattle.age_fileset.specs.{Event, FilesView, Files, Entry, entry, entry_of, Outcome, Found, FoundOrEmpty, PutsOnly, CameSince, HasGiven, HasGivenAll, AreTrue}
-use Rattle.age_fileset.specs.{or_empty, puts_in}
+use Rattle.age_fileset.specs.{Event, FilesView, Files, Entry, entry, entry_of, Outcome, Found, PutsOnly, CameSince, HasGiven, HasGivenAll, AreTrue}
+use Rattle.age_fileset.specs.{held_by, puts_in}
+use Rattle.age_fileset.specs.declared.files.Missing.{Missing}
+use Rattle.age_fileset.specs.declared.files.Missing.TheVariants.{Empty, Fails}
 use Rattle.age_fileset.specs.declared.mem_entry.MemEntry.{MemEntry}
-use Rattle.age_fileset.proofs.{AreOthers, others_then, same_since, put_since, before_others, found_was, found_any_was, gave_all_was, grows_by, grows_none}
-use Rattle.age_fileset.proofs.{all_as}
+use Rattle.age_fileset.proofs.{AreOthers, others_then, same_since, put_since, before_others, found_was, gave_all_was, grows_by, grows_none, all_as}
 use Rattle.age_cli_args.specs.{Asks, IsDecrypting, IsForHelp, refusals, IsIdentityOptions, IsRequest, option_text}
 use Rattle.age_cli_args.specs.declared.request.IdentityOptions.{IdentityOptions}
 use Rattle.age_cli_args.specs.declared.request.Decrypting.{Decrypting}
@@ -44,14 +45,15 @@ use Rattle.age_command.specs.Orders.{writing_order}
 use Rattle.age_command.specs.declared.identity.Identity.{Identity}
 use Rattle.age_command.specs.declared.ending.Ending.{Ending}
 use Rattle.age_command.specs.declared.ending.Ending.TheVariants.{Words, Usage}
-use Rattle.age_cli.specs.Acts.{Acts}
-use Rattle.age_cli.specs.Commands.{MakesSecret}
-use Rattle.age_cli.specs.{CameFirst, Engine, HasEngineStopped, IsSaved, IsStored, OfEngine, OpensOf, Returned, IsUsage, stop_ending}
-use Rattle.age_cli.specs.{WasRead, decrypt_engine, kept_for, status_by, old_found, World, Obeys, DoesOther, OpensBy, IsPositionIn}
+use Rattle.age_outputs.specs.Acts.{Acts}
+use Rattle.age_outputs.specs.Acts.{CameFirst, Engine, HasEngineStopped, IsSaved, IsStored, OfEngine, OpensOf, Returned, IsUsage, stop_ending}
+use Rattle.age_outputs.specs.Acts.{decrypt_engine, kept_for}
+use Rattle.age_outputs.specs.Commands.{MakesSecret, WasRead, missing_at}
+use Rattle.age_outputs.proofs.PutLemmas.{no_usage}
+use Rattle.age_outputs.proofs.ReadLemmas.{made_by}
+use Rattle.age_cli.specs.{status_by, World, Obeys, DoesOther, OpensBy, IsPositionIn}
 use Rattle.age_cli.specs.{IsRead, IsWritersInput, KeepsOut, IsWritersOld, BeginsAt, IsWritersResumption, out_of, save_of, EncryptLeavesOut, FileHolds}
 use Rattle.age_cli.specs.{DecryptLeavesOut, IsEarlierOf, IsFileIn, IsRestIn, ResumeLeavesOut}
-use Rattle.age_cli.proofs.PutLemmas.{no_usage}
-use Rattle.age_cli.proofs.ReadLemmas.{made_by}
 
 -- ---- What a decryption wrote, and read.
 
@@ -112,12 +114,12 @@ module _ (IsPorts : Ports → Type 0) (Came : Outcome → Type 0) (p : Paths) (e
     )
 
     resumes : (e : Position × Text)
-        → ((first : SourceView) (size : Option ℕ) → Came (old_found e.0 e.1 first.supply.left size) → BeginsWith e.0 first.supply text)
+        → ((first : SourceView) (size : Option ℕ) → Came (Found (missing_at e.0) e.1 first.supply.left size) → BeginsWith e.0 first.supply text)
         → ((r : Run) → BeginsAt e.0 r → IsRead identity input r → IsTextsOwn r) → Leaves (decrypt_engine IsPorts Came save identity (Some e))
     resumes e front auth =
         let own : (first last : SourceView) (r : Run) → IsFrom (resumption e.0 first last) r → IsRead identity input r → IsTextsOwn r =
         λ first last r begun. auth r (record { index = begun.index; own = begun.own }) in
-        let fits : (first last : SourceView) → WasRead Came (old_found e.0 e.1) e.1 first last → Fits text (resumption e.0 first last) =
+        let fits : (first last : SourceView) → WasRead Came (missing_at e.0) e.1 first last → Fits text (resumption e.0 first last) =
         λ first last read. begins_fits text (resumption e.0 first last) (front first read.size read.found) in (
           λ (first, last, first_is, last_is, read, (done, r, ends)). right (Some (resumption e.0 first last)) (fits first last read)
               (own first last) (Some r) (Ok done) ends,
@@ -163,18 +165,22 @@ HoldsNoMore old new text = (new ≡ old) ⊎ ((bytes : List ℕ) × (new ≡ Som
 kept_stopped : (old new : Option (List ℕ)) (status : ℕ) (text : List ℕ) → (status ≡ 0 → ⊥) → HoldsNoMore old new text → KeepsOut old new status text
 kept_stopped old new status text failed safe = record { safe = safe; whole = λ zero. absurd (failed zero) }
 
--- nothing of the old text is needed at chunk 0
-any_front : (p : Position) (text : List ℕ) (coming : Supply) (held : Option (List ℕ)) → p.index ≡ 0 → coming.left ≡ or_empty held
-    → IsWritersOld held p text → BeginsWith p coming text
-any_front p text coming None zero is front = record { all = []; shown = is; within = omega (arith, zero); begins = none } where
-  none : IsPrefixOf (take (p.index * chunk_length) text) []
-  none = subst (λ (i : ℕ). IsPrefixOf (take (i * chunk_length) text) []) (sym zero) ([], refl)
-any_front p text coming (Some b) zero is front = record { all = b; shown = is; within = (front b refl).0; begins = (front b refl).1 }
+-- what there is to read of a file that exists
+held_some : (m : Missing) (bytes : List ℕ) → held_by m (Some bytes) ≡ Some bytes
+held_some Fails bytes = refl
+held_some Empty bytes = refl
 
-some_front : (p : Position) (text : List ℕ) (coming : Supply) (held : Option (List ℕ)) → is_some coming.left ≡ true → coming.left ≡ held
-    → IsWritersOld held p text → BeginsWith p coming text
-some_front p text coming None there is front = absurd (true≢false (sym there ∙ ap is_some is))
-some_front p text coming (Some b) there is front = record { all = b; shown = is; within = (front b refl).0; begins = (front b refl).1 }
+-- the earlier output begins as the writer's; nothing of it is needed at chunk 0
+old_front : (p : Position) (text : List ℕ) (coming : Supply) (held : Option (List ℕ)) → is_some coming.left ≡ true
+    → coming.left ≡ held_by (missing_at p) held → IsWritersOld held p text → BeginsWith p coming text
+old_front p text coming (Some b) there is front = record { all = b; shown = is ∙ held_some (missing_at p) b; within = (front b refl).0; begins = (front b refl).1 }
+old_front p text coming None there is front = go (p.index == 0) refl is where
+  go : (b : Bool) → b ≡ (p.index == 0) → coming.left ≡ held_by (if b then Empty else Fails) None → BeginsWith p coming text
+  go true test none =
+      let zero : p.index ≡ 0 = search rules in
+      let begins = subst (λ (i : ℕ). IsPrefixOf (take (i * chunk_length) text) []) (sym zero) ([], refl) in
+      record { all = []; shown = none; within = omega (arith, zero); begins = begins }
+  go false test none = absurd (true≢false (sym there ∙ ap is_some none))
 
 -- ---- What the words ask for.
 
@@ -259,7 +265,7 @@ module _ (words : List Text) (IsPorts : Ports → Type 0) (before after : World)
     -- what a file gave, perhaps not all of it, stood there at its beginning
     given_was : (name bytes : List ℕ) → HasGiven since name bytes → AreOthers name puts → (rest : List ℕ) × (olds name ≡ Some (bytes ++ rest))
     given_was name bytes g other =
-        let found = found_was before.files after.files was is kept_was kept_is name (prepend_known bytes g.left) g.size g.found
+        let found = found_was before.files after.files was is kept_was kept_is Fails name (prepend_known bytes g.left) g.size g.found
         (earlier name _ other g.found) in
         front_of g.left found.0 found.1 where
           front_of : (left : Option (List ℕ)) → is_some (prepend_known bytes left) ≡ true → prepend_known bytes left ≡ olds name
@@ -279,23 +285,15 @@ module _ (words : List Text) (IsPorts : Ports → Type 0) (before after : World)
       input_was : (run : Returned IsPorts since d.paths after.files.ended)
           → (is_some (olds d.paths.from.now) ≡ true) × (olds d.paths.from.now ≡ run.before.source.supply.left)
       input_was run =
-          let found = found_was before.files after.files was is kept_was kept_is d.paths.from.now run.before.source.supply.left run.input.size run.input.found
+          let found = found_was before.files after.files was is kept_was kept_is Fails d.paths.from.now run.before.source.supply.left run.input.size run.input.found
           (earlier d.paths.from.now _ (others d.paths.from.now (inl refl)) run.input.found) in
           (ap is_some (sym found.1) ∙ found.0, sym found.1)
 
     front_was : (p : Position) (name : Text) (text : List ℕ) → AreOthers name puts → IsWritersOld (olds name) p text
-        → (first : SourceView) (size : Option ℕ) → since (old_found p name first.supply.left size) → BeginsWith p first.supply text
-    front_was p name text other front first size found = go (p.index == 0) refl found where
-      go : (b : Bool) → b ≡ (p.index == 0) → since (if b then FoundOrEmpty name first.supply.left size else Found name first.supply.left size)
-          → BeginsWith p first.supply text
-      go true test c =
-          let zero : p.index ≡ 0 = search rules in
-          any_front p text first.supply (olds name) zero (found_any_was before.files after.files was is kept_was kept_is name first.supply.left size c
-          (earlier name (FoundOrEmpty name first.supply.left size) other c)) front
-      go false test c =
-          let there = found_was before.files after.files was is kept_was kept_is name first.supply.left size c
-          (earlier name (Found name first.supply.left size) other c) in
-          some_front p text first.supply (olds name) there.0 there.1 front
+        → (first : SourceView) (size : Option ℕ) → since (Found (missing_at p) name first.supply.left size) → BeginsWith p first.supply text
+    front_was p name text other front first size found =
+        let there = found_was before.files after.files was is kept_was kept_is (missing_at p) name first.supply.left size found (earlier name _ other found) in
+        old_front p text first.supply (olds name) there.0 there.1 front
 
   -- ---- What a command put.
 
@@ -472,7 +470,7 @@ module _ (words : List Text) (IsPorts : Ports → Type 0) (before after : World)
       let puts = entry e.paths.to.now ran.out.took ∷ [] in
       let others = unread [] e.paths (Some e.pass.now) (Some random) None None None (λ twice. (acts.apart twice).1) puts
       (λ q out save. ((λ here. out (ap Some here)), tt)) in
-      let found = found_was before.files after.files was is kept_was kept_is e.paths.from.now ran.before.source.supply.left ran.input.size
+      let found = found_was before.files after.files was is kept_was kept_is Fails e.paths.from.now ran.before.source.supply.left ran.input.size
       ran.input.found (earlier puts ends.puts e.paths.from.now _ (others e.paths.from.now (inl refl)) ran.input.found) in
       let pass = gave_all_was before.files after.files was is kept_was kept_is e.pass.now made.pass.0 made.pass.1
       (earlier puts ends.puts e.pass.now _ (others e.pass.now (inr (inl refl))) made.pass.1.gave.found) in
@@ -570,27 +568,15 @@ module _ (words : List Text) (IsPorts : Ports → Type 0) (before after : World)
 
   -- the earlier output as it stood there
   old_was : (puts : List Entry) → PutsOnly puts before.files after.files → (p : Position) (name : Text) → AreOthers name puts
-      → (first : SourceView) (size : Option ℕ) → since (old_found p name first.supply.left size)
-      → (is_some first.supply.left ≡ true) × (first.supply.left ≡ or_empty (olds name))
-  old_was puts grows p name other first size found = go (p.index == 0) found where
-    some_empty : (o : Option (List ℕ)) → is_some (or_empty o) ≡ true
-    some_empty None = refl
-    some_empty (Some b) = refl
-
-    or_some : (o : Option (List ℕ)) → is_some o ≡ true → o ≡ or_empty o
-    or_some None there = absurd (true≢false (sym there))
-    or_some (Some b) there = refl
-
-    go : (b : Bool) → since (if b then FoundOrEmpty name first.supply.left size else Found name first.supply.left size)
-        → (is_some first.supply.left ≡ true) × (first.supply.left ≡ or_empty (olds name))
-    go true c =
-        let found = found_any_was before.files after.files was is kept_was kept_is name first.supply.left size c
-        (earlier puts grows name (FoundOrEmpty name first.supply.left size) other c) in
-        (ap is_some found ∙ some_empty (olds name), found)
-    go false c =
-        let found = found_was before.files after.files was is kept_was kept_is name first.supply.left size c
-        (earlier puts grows name (Found name first.supply.left size) other c) in
-        (found.0, found.1 ∙ or_some (olds name) (ap is_some (sym found.1) ∙ found.0))
+      → (first : SourceView) (size : Option ℕ) → since (Found (missing_at p) name first.supply.left size)
+      → (is_some first.supply.left ≡ true) × (first.supply.left ≡ held_by Empty (olds name))
+  old_was puts grows p name other first size found =
+      let there = found_was before.files after.files was is kept_was kept_is (missing_at p) name first.supply.left size found (earlier puts grows name _ other found) in
+      (there.0, there.1 ∙ as_empty (missing_at p) (olds name) (ap is_some (sym there.1) ∙ there.0)) where
+        as_empty : (m : Missing) (o : Option (List ℕ)) → is_some (held_by m o) ≡ true → held_by m o ≡ held_by Empty o
+        as_empty Empty o there = refl
+        as_empty Fails None there = absurd (true≢false (sym there))
+        as_empty Fails (Some b) there = refl
 
   begins_old : (held coming : Option (List ℕ)) (a more rest : List ℕ) → coming ≡ held → coming ≡ Some ((a ++ more) ++ rest)
       → IsSomeAnd held (λ all. IsPrefixOf a all)
@@ -627,7 +613,7 @@ module _ (words : List Text) (IsPorts : Ports → Type 0) (before after : World)
         p,
         first_was r.position.now (position_text p) of.3,
         gave.0,
-        (front.carries, begins_old (or_empty (olds r.old.now)) h.0.supply.left copied front.more read.0 old.1 read.1),
+        (front.carries, begins_old (held_by Empty (olds r.old.now)) h.0.supply.left copied front.more read.0 old.1 read.1),
         (
           rest.file,
           rest.own,

@@ -1,9 +1,8 @@
 -- What each arm of the part that obeys the words promises, from what its callee does.
-use Rattle.age_cli.proofs.FinalLemmas.{always_ok}
 use Rattle.std.proofs.Common.{◌≡◌, ◌∙◌, ◌⊎◌, sym, subst, refl, inl, inr, List, [], ◌∷◌, ℕ, Bool, true, false, true≢false, Option, Result, Ok, Err, length, Some}
 use Rattle.std.proofs.Common.{None, rules}
 use Rattle.std.specs.Borrow.{Bor}
-use Rattle.std.specs.Prelude.{OnOk, IfErr, IsOk, IsErr, IsErrAnd, is_err, ◌==◌, IfSome}
+use Rattle.std.specs.Prelude.{OnOk, IfErr, IsOk, ◌==◌, IfSome}
 use Rattle.std.proofs.lemmas.Result.{IfErr-weaker, on_ok_weaker}
 use Rattle.clap.specs.Words.{Text}
 use Rattle.clap.specs.Walk.{texts}
@@ -13,8 +12,6 @@ use Rattle.clap.specs.declared.error.Error.{Error}
 use Rattle.clap.specs.declared.error.kind.ErrorKind.{ErrorKind}
 use Rattle.clap.specs.declared.error.kind.ErrorKind.TheVariants.{OutOfMemory}
 use Rattle.age_io.specs.{SinkView}
-use Rattle.age_io.proofs.{Appends-trans}
-use Rattle.age_fault.specs.{HasRisen}
 use Rattle.age_fault.specs.declared.fault.FileFault.{FileFault}
 use Rattle.age_cli_args.specs.{IsForHelp, refusals}
 use Rattle.age_cli_args.specs.declared.request.Request.{Request}
@@ -22,19 +19,19 @@ use Rattle.age_cli_args.specs.declared.request.Request.TheVariants.{Inspect, Dri
 use Rattle.age_cli_args.specs.Requests.{Requests}
 use Rattle.age_cli_args.specs.declared.request.Drilling.{Drilling}
 use Rattle.age_intake.specs.{Ports}
-use Rattle.age_inspection.specs.{IsReport}
+use Rattle.age_inspection.specs.{IsReport, Inspects}
 use Rattle.age_fileset.specs.{CameSince, FilesView, Does}
 use Rattle.age_fileset.proofs.{did_events}
-use Rattle.age_command.specs.{PutsAll, ReportsEnding, fault_line, Follows, order_asked}
+use Rattle.age_command.specs.{RefusesDrill, Follows, order_asked}
 use Rattle.age_command.specs.declared.ending.Ending.{Ending}
-use Rattle.age_command.specs.declared.ending.Ending.TheVariants.{Fault, Unsaved}
-use Rattle.age_command.proofs.{followed}
-use Rattle.age_drill.specs.{DrillEnds, RefusesDrill}
+use Rattle.age_command.specs.declared.ending.Ending.TheVariants.{Fault}
+use Rattle.age_command.proofs.{always_ok, followed}
+use Rattle.age_drill.specs.{DrillEnds}
 use Rattle.age_drill.proofs.DrillLemmas.{ends_refused}
-use Rattle.age_cli.specs.Acts.{Acts, Concluding, Finally}
-use Rattle.age_cli.specs.declared.interruption.Unfinished.{Unfinished}
-use Rattle.age_cli.specs.declared.interruption.Unfinished.TheVariants.{Ended}
-use Rattle.age_cli.specs.{IsUsage, FailsReport, DoesOther, FailsWriting, IsRefusal, Obeys, World}
+use Rattle.age_outputs.specs.Acts.{Acts, Finally, IsUsage}
+use Rattle.age_outputs.specs.declared.interruption.Unfinished.TheVariants.{Ended}
+use Rattle.age_outputs.proofs.EndingLemmas.{as_ended}
+use Rattle.age_cli.specs.{FailsReport, DoesOther, FailsWriting, IsRefusal, Obeys, World}
 use Rattle.age_cli.specs.inner.{IsForOutput, IsInspected, ended_so}
 use Rattle.age_fault.specs.declared.fault.FileFault.TheVariants.{Write, Memory}
 use Rattle.age_inspection.specs.declared.report.Report.{Report}
@@ -144,52 +141,17 @@ pub obeyed_none : (words : List Text) (IsPorts : Ports → Type 0) (before after
 obeyed_none words IsPorts before after Unread Unprinted Unshown Progress ended none acts answers =
     inl (record { asked = Inspect None; made = inr (none, refl); acts = acts; answers = answers })
 
--- ---- What is put to the sink of faults.
+-- ---- How a part of the program ended.
 
--- the line of a stop, and nothing more
-pub told_alone : (fault : FileFault) (told : Result (Unit {0}) FileFault) (old new : SinkView) → PutsAll (fault_line fault) old new told → ReportsEnding (Fault fault) old new
-told_alone fault (Ok done) old new puts = inl puts.taken
-told_alone fault (Err e) old new puts = inr puts.risen
+-- it has no position
+pub so_finally : {P : FilesView → Result (Unit {0}) Ending → Type 0} {files : FilesView} (r : Result (Unit {0}) Ending) → P files r → Finally P files (ended_so r)
+so_finally (Ok x) p = record { done = p; unfinished = tt }
+so_finally {P = P} {files = files} (Err e) p = record { done = tt; unfinished = as_ended P files (Ended e) e refl p }
 
--- and then that of a second fault
-pub told_both : (fault second : FileFault) (first then : Result (Unit {0}) FileFault) (old mid new : SinkView) → is_err first ≡ false → PutsAll (fault_line fault) old mid first
-    → PutsAll (fault_line second) mid new then → ReportsEnding (Unsaved fault second) old new
-told_both fault second (Ok x) (Ok y) old mid new is first puts =
-    inl (Appends-trans old.taken mid.taken new.taken (fault_line fault) (fault_line second) first.taken puts.taken)
-told_both fault second (Ok x) (Err e) old mid new is first puts = inr (subst (λ (n : ℕ). HasRisen n new.failed) first.same puts.risen)
-told_both fault second (Err e) then old mid new is first puts = absurd (true≢false is)
-
--- unless the first couldn't be put
-pub told_none : (fault second : FileFault) (first : Result (Unit {0}) FileFault) (old new : SinkView) → is_err first ≡ true → PutsAll (fault_line fault) old new first
-    → ReportsEnding (Unsaved fault second) old new
-told_none fault second (Ok x) old new is first = absurd (true≢false (sym is))
-told_none fault second (Err e) old new is first = inr first.risen
-
--- ---- What is unfinished.
-
--- what ended is concluded as it ended
-as_ended : (P : FilesView → Result (Unit {0}) Ending → Type 0) (files : FilesView) (u : Unfinished) (e : Ending) → u ≡ Ended e → P files (Err e)
-    → (new : FilesView) (ending : Ending) → Concluding u files new ending → P new (Err ending)
-as_ended P files u e is p new ending so =
-    let same = subst (λ x. Concluding x files new ending) is so in subst (λ v. P v (Err ending)) (sym same.1) (subst (λ y. P files (Err y)) (sym same.0) p)
-
-module _ {P : FilesView → Result (Unit {0}) Ending → Type 0} {files : FilesView} where
-  -- a command ended so
-  pub ended_finally : (r : Result (Unit {0}) Unfinished) (e : Ending) → IsErr r × IsErrAnd r (λ u. u ≡ Ended e) → P files (Err e) → Finally P files r
-  ended_finally (Ok x) e is p = absurd is.1
-  ended_finally (Err u) e is p = record { done = tt; unfinished = as_ended P files u e is.1 p }
-
-  pub so_finally : (r : Result (Unit {0}) Ending) → P files r → Finally P files (ended_so r)
-  so_finally (Ok x) p = record { done = p; unfinished = tt }
-  so_finally (Err e) p = record { done = tt; unfinished = as_ended P files (Ended e) e refl p }
-
--- what follows of it
-pub finally_as : {P Q : FilesView → Result (Unit {0}) Ending → Type 0} {files : FilesView} (r : Result (Unit {0}) Unfinished)
-    → ((new : FilesView) (ended : Result (Unit {0}) Ending) → P new ended → Q new ended) → Finally P files r → Finally Q files r
-finally_as r so p = record {
-  done = on_ok_weaker r (λ all. so _ (Ok tt) all) p.done;
-  unfinished = IfErr-weaker r _ _ (λ u rest new ending concluded. so new (Err ending) (rest new ending concluded)) p.unfinished;
-}
+-- the report of an input whose length isn't known, which was read to its end
+pub read_whole : (P : Report → Type 0) (old new : Supply) (r : Result (Unit {0}) Ending) → OnOk r ((it : Report) × IsInspected None old new it × P it)
+    → OnOk r ((it : Report) × Inspects old new it × P it)
+read_whole P old new r done = on_ok_weaker r (λ told. (told.0, told.1.reports, told.2)) done
 
 -- the report of all that there is to read
 pub whole_report : (size : Option ℕ) (coming new : Supply) (r : Report) → IfSome coming.left (λ bytes. size ≡ Some (length bytes))

@@ -19,19 +19,19 @@ use Rattle.clap.specs.Words.{Text}
 use Rattle.age_fault.specs.declared.head.HeadFault.{HeadFault}
 use Rattle.age_fault.specs.declared.key.KeyFault.{KeyFault}
 use Rattle.age_calls.specs.{EndedFile, TouchesItself, IsUntouched}
-use Rattle.age_command.specs.{allows_by, refuses_by, order_asked, is_usage, IsUnreadable}
+use Rattle.age_command.specs.{allows_by, refuses_by, order_asked, is_usage, IsUnreadable, RefusesDrill}
 use Rattle.age_command.specs.declared.ending.Ending.{Ending}
 use Rattle.age_command.specs.declared.identity.Identity.{Identity}
-use Rattle.age_cli.specs.{CameFirst, decrypt_engine, HasEngineStopped, HasNotBegun, OfEngine, IsEndingOf, stop_ending}
-use Rattle.age_cli.specs.{Returned, SparesOut, IsUsage, FailsFile, FailsReport, World, Obeys, DoesOther, FailsWriting, IsRefusal}
-use Rattle.age_cli.specs.Acts.{Acts}
-use Rattle.age_cli.specs.{encrypt_engine, GivesText, GivesFile, GivesRest, IsBeforeText, IsForText, LeavesText, LeavesOf, kept_for}
+use Rattle.age_outputs.specs.Acts.{Acts}
+use Rattle.age_outputs.specs.Acts.{CameFirst, decrypt_engine, encrypt_engine, HasEngineStopped, HasNotBegun, kept_for, LeavesText, OfEngine, stop_ending}
+use Rattle.age_outputs.specs.Acts.{Returned, SparesOut, IsUsage}
+use Rattle.age_cli.specs.{IsEndingOf, FailsFile, FailsReport, World, Obeys, DoesOther, FailsWriting, IsRefusal}
+use Rattle.age_cli.specs.{GivesText, GivesFile, GivesRest, IsBeforeText, IsForText, LeavesOf}
 use Rattle.age_cli_args.specs.{IsForHelp, option_text}
 use Rattle.age_cli_args.specs.Requests.{Requests}
 use Rattle.age_fileset.proofs.{all_as}
 use Rattle.age_cli_args.specs.declared.request.Paths.{Paths}
 use Rattle.age_cli_args.specs.declared.request.Request.{Request}
-use Rattle.age_drill.specs.{RefusesDrill}
 use Rattle.age_drill.proofs.DrillLemmas.{ends_refused}
 use Rattle.age_cli_args.specs.declared.request.Request.TheVariants.{Encrypt, Decrypt, Resume, Inspect, Drill}
 

@@ -31,10 +31,12 @@ use Rattle.age_fault.specs.declared.fault.FileFault.TheVariants.{Stream, BadPosi
 use Rattle.age_fault.specs.declared.fault.FileFault.TheVariants.{Write, Memory, ReadNeverEnds}
 use Rattle.age_fault.specs.declared.fault.FileFault.TheVariants.{OldTextDiffers}
 use Rattle.age_fileset.specs.{Files, FilesView, Outcome, CameSince, HasGiven, HasGivenAll, Shelf, seen_in}
-use Rattle.age_fileset.specs.{entry_of, or_empty}
-use Rattle.age_cli.specs.Commands.{WasRead, old_found, FailsReport, MakesSecret}
+use Rattle.age_fileset.specs.{entry_of, held_by}
+use Rattle.age_fileset.specs.declared.files.Missing.TheVariants.{Empty}
 use Rattle.age_calls.specs.{EndedFile}
-use Rattle.age_cli.specs.Acts.{Acts, OpensOf, paths_of, LeavesText, ShowsProgress, SparesOut, IsUsage}
+use Rattle.age_outputs.specs.Acts.{Acts, OpensOf, paths_of, LeavesText, ShowsProgress, SparesOut, IsUsage}
+use Rattle.age_outputs.specs.Commands.{WasRead, missing_at, MakesSecret}
+use Rattle.age_cli.specs.Printing.{FailsReport}
 use Rattle.age_cli.specs.Runs.{World, Runs, Declines, Obeys, IsRefusal}
 
 -- ---- What the options and the files make, in memory.
@@ -140,7 +142,7 @@ DecryptLeavesOut words old new status = (d : Decrypting) → Requests words (Dec
 -- missing one counts as empty
 abbrev pub IsEarlierOf : Position → Option (List ℕ) → List ℕ → Type 0
 IsEarlierOf p earlier text = CarriesText text p
-    × IsSomeAnd (or_empty earlier) (λ all. IsPrefixOf (take (p.index * chunk_length) text) all)
+    × IsSomeAnd (held_by Empty earlier) (λ all. IsPrefixOf (take (p.index * chunk_length) text) all)
 
 -- this is the header and the nonce of the position's file, which an identity opens, the blocks before the
 -- position's chunk, and then the payload of a text from that chunk on
@@ -231,7 +233,7 @@ abbrev pub GivesRest : (Ports → Type 0) → (Outcome → Type 0) → Text → 
     → Ports → Ports → List ℕ → Type 0
 GivesRest IsPorts Came old_name identity from before after text =
     (first : SourceView) × (last : SourceView) × IsPorts (ports first before.sink)
-    × WasRead Came (old_found from old_name) old_name first last × GaveOld from first.supply last.supply text
+    × WasRead Came (missing_at from) old_name first last × GaveOld from first.supply last.supply text
     × GaveRest (allows_by identity) from before.source.supply after.source.supply text
 
 -- IN gave a text, to its end, and these bytes are its age file for a secret

@@ -1,10 +1,9 @@
 -- What a run does with its words, its files and its streams, and what its status says.
 use Rattle.std.specs.Prelude.{◌≡◌, ◌⊎◌, ◌∷◌, ℕ, true, List, [], Some, None, is_some, Result, OnOk}
-use Rattle.std.specs.Prelude.{IfErr, IsErrAnd}
+use Rattle.std.specs.Prelude.{Ok, Err, IfErr, IsErrAnd, if◌then◌else◌}
 use Rattle.age_io.specs.Taken.{Appends}
 use Rattle.clap.specs.Words.{Text}
-use Rattle.age_io.specs.{SourceView, SinkView}
-use Rattle.age_fault.specs.{HasRisen}
+use Rattle.age_io.specs.{SourceView, SinkView, HasRisen}
 use Rattle.age_fault.specs.declared.fault.FileFault.{FileFault}
 use Rattle.age_fault.specs.declared.fault.FileFault.TheVariants.{Write, Memory}
 use Rattle.age_intake.specs.{HeadFails, NoHeadFault, Ports}
@@ -15,14 +14,13 @@ use Rattle.age_cli_args.specs.{IsForHelp, option_text}
 use Rattle.age_cli_args.specs.declared.request.Request.{Request}
 use Rattle.age_cli_args.specs.declared.request.Request.TheVariants.{Inspect, Drill}
 use Rattle.age_cli_args.specs.Requests.{Requests}
-use Rattle.age_command.specs.{ReportsEnding}
 use Rattle.age_command.specs.declared.ending.Ending.{Ending}
 use Rattle.age_command.specs.declared.ending.Ending.TheVariants.{Words, Fault, Usage}
 use Rattle.age_command.specs.declared.ending.Usage.TheVariants as why
-use Rattle.age_command.specs.{IsUnreadable}
-use Rattle.age_drill.specs.{DrillEnds, RefusesDrill}
-use Rattle.age_cli.specs.Acts.{Acts, IsUsage, status_by}
-use Rattle.age_cli.specs.Commands.{ReportsFile, FailsReport, FailsFile, report_text}
+use Rattle.age_command.specs.{IsUnreadable, ReportsEnding, RefusesDrill, is_usage}
+use Rattle.age_drill.specs.{DrillEnds}
+use Rattle.age_outputs.specs.Acts.{Acts, IsUsage}
+use Rattle.age_cli.specs.Printing.{ReportsFile, FailsReport, FailsFile, report_text}
 
 -- ---- What a run does of what its words ask for.
 
@@ -108,6 +106,11 @@ module _ (words : List Text) (IsPorts : Ports → Type 0) (before after : World)
   Obeys = DoesRequest ⊎ Declines
 
 -- ---- What a run did.
+
+-- the status of the program: 0 if all was done, 1 on a fault, 2 for a bad command line
+abbrev pub status_by : {A : Type 0} → Result A Ending → ℕ
+status_by (Ok done) = 0
+status_by (Err e) = if is_usage e then 2 else 1
 
 -- What holds before and after a run with this status, of its words, and what was put to `faults`.
 -- `Quiet`, `Unread`, `Unprinted` and `Unshown` say that `faults`, the input, the output and the

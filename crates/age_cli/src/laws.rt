@@ -1,8 +1,8 @@
 //! Laws over the definitions: each call does nothing.
 
-ghost use Rattle.age_cli.specs.{PortsOf, RunsKeepOut, RefusesInSilence, ReportsAccept};
-ghost use Rattle.age_cli.specs.{EarlyFaultsSpareOut};
 ghost use Rattle.age_fileset.specs.{shown_in, shown_out};
+ghost use Rattle.age_outputs.specs.Acts.{PortsOf};
+ghost use Rattle.age_cli.specs.{RunsKeepOut, RefusesInSilence, ReportsAccept, EarlyFaultsSpareOut};
 
 use age_fileset::{FileSet, MemFiles};
 use age_io::{Meter, Sink, Source};

@@ -1,10 +1,12 @@
 //! The text of a report.
 
-ghost use Rattle.std.specs.Prelude.{◌≡◌, ◌++◌, IfOk, OnOk};
+ghost use Rattle.std.specs.Prelude.{◌≡◌, ◌++◌, IfOk, IfErr, OnOk};
 ghost use Rattle.std.specs.String.{string_bytes};
 ghost use Rattle.std.specs.List.{flat_map};
+ghost use Rattle.age_fault.specs.declared.fault.FileFault.TheVariants.{Memory};
 ghost use Rattle.age_cli.specs.{stanza_line, plain_line, report_text};
 
+use age_fault::FileFault;
 use age_inspection::{Report, StanzaReport};
 use std::alloc::{AllocError, Global};
 
@@ -38,8 +40,9 @@ fn plain_text(alloc: Global, plain: Option<u128>) -> Result<String, AllocError>
 }
 
 /// The lines of a report.
-pub(crate) fn text_of(alloc: Global, report: &Report) -> Result<Vec<u8>, AllocError>
-    ensures { IfOk result (λ v. v.items ≡ report_text report.now) }
+pub(crate) fn text_of(alloc: Global, report: &Report) -> Result<Vec<u8>, FileFault>
+    ensures text { IfOk result (λ v. v.items ≡ report_text report.now) }
+    ensures memory { IfErr result (λ f. f ≡ Memory) }
 {
     let header = report.header;
     let rest = report.rest;

@@ -7,24 +7,21 @@ ghost use Rattle.age_command.specs.{is_usage};
 ghost use Rattle.age_command.specs.declared.ending.Ending.TheVariants.{Fault};
 ghost use Rattle.clap.specs.Words.{kind_of};
 ghost use Rattle.clap.specs.Walk.{texts};
-ghost use Rattle.age_cli.specs.{Finally, PortsOf, ShowsProgress, IsRefusal, Obeys, Prints};
-ghost use Rattle.age_cli.specs.{FailsWriting};
+ghost use Rattle.age_outputs.specs.Acts.{Finally, PortsOf, ShowsProgress};
+ghost use Rattle.age_cli.specs.{IsRefusal, FailsWriting, Obeys, Prints};
 ghost use Rattle.age_cli.specs.Runs.{Runs};
 ghost use Rattle.age_cli.specs.Headline.{ZeroLeaves};
 ghost use Rattle.age_fileset.specs.{CameSince};
 ghost use Rattle.age_cli.specs.inner.{IsForOutput, ended_so};
 
-use crate::decrypt_command::decrypt_file;
-use crate::encrypt_command::encrypt_file;
 use crate::inspect_command::{report, report_file};
-use crate::interruption::{Unfinished, conclude};
-use crate::resume_command::resume_file;
 use age_cli_args::{Request, Wording, read_request};
 use age_command::{Ending, Usage, put_bytes};
 use age_drill::drill_file;
-use age_fault::{FileFault, flush_all};
+use age_fault::FileFault;
 use age_fileset::FileSet;
-use age_io::{Meter, Sink, Source};
+use age_io::{Meter, Sink, Source, flush_all};
+use age_outputs::{Unfinished, conclude, decrypt_file, encrypt_file, resume_file};
 use clap::Error;
 use clap::error::ErrorKind;
 use std::alloc::Global;
@@ -85,7 +82,7 @@ fn obey<'w, F: FileSet<'w>, I: Source, O: Sink, P: Meter, W: Wording>(
         (P.shown progress.new))) (F.view files.new) result }
 {
     if words.is_empty() {
-        return ended(report(alloc, input, output));
+        return ended(report(alloc, None, input, output));
     }
     let request = match read_request(alloc, words) {
         Ok(Some(request)) => request,
@@ -94,7 +91,7 @@ fn obey<'w, F: FileSet<'w>, I: Source, O: Sink, P: Meter, W: Wording>(
     };
     match &request {
         Request::Inspect(Some(name)) => ended(report_file(alloc, files, name, output)),
-        Request::Inspect(None) => ended(report(alloc, input, output)),
+        Request::Inspect(None) => ended(report(alloc, None, input, output)),
         Request::Encrypt(asked) => encrypt_file(alloc, files, asked, progress),
         Request::Decrypt(asked) => decrypt_file(alloc, files, asked, progress),
         Request::Resume(asked) => resume_file(alloc, files, asked, progress),

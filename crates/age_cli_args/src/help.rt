@@ -143,10 +143,10 @@ quotas) go unnoticed";
 pub(crate) const NO_CLOBBER: &str = "Refuse an existing OUT (27); it stays unchanged";
 
 pub(crate) const NO_CLOBBER_OR_SAVE: &str = "Refuse an existing OUT (27); it stays unchanged. The
-file of --save has to be new or empty";
+file of --save must be new or empty";
 
 pub(crate) const NO_CLOBBER_AGAIN: &str = "Refuse an existing OUT (27); it stays unchanged. The
-file of --save has to be new, empty or that of
+file of --save must be new, empty or that of
 --position";
 
 pub(crate) const PROGRESS: &str = "Show on standard error how much of IN has been read; at

@@ -10,7 +10,6 @@ mod wording;
 
 pub use reading::read_request;
 pub use request::{
-    ClobberOption, Decrypting, Drilling, Encrypting, IdentityOptions, Paths, ProgressOption,
-    Request, Resuming,
+    Decrypting, Drilling, Encrypting, IdentityOptions, Paths, ProgressOption, Request, Resuming,
 };
 pub use wording::Wording;

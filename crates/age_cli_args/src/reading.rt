@@ -14,16 +14,16 @@ ghost use Rattle.age_cli_args.specs.declared.request.Paths.{Paths};
 ghost use Rattle.age_cli_args.specs.declared.request.Resuming.{Resuming};
 ghost use Rattle.age_cli_args.specs.declared.request.Drilling.{Drilling};
 ghost use Rattle.age_cli_args.specs.declared.request.Request.{Request};
-ghost use Rattle.age_cli_args.specs.declared.request.ClobberOption.TheVariants.{Allowed, Refused};
+ghost use Rattle.age_options.specs.declared.ClobberOption.TheVariants.{Allowed, Refused};
 ghost use Rattle.age_cli_args.specs.declared.request.ProgressOption.TheVariants.{Shown, Silent};
-ghost use Rattle.age_io.specs.declared.durability.Durability.TheVariants.{Buffered, Synced};
+ghost use Rattle.age_options.specs.declared.Durability.TheVariants.{Buffered, Synced};
 
 use crate::commands::matches_of;
 use crate::request::{
-    ClobberOption, Decrypting, Drilling, Encrypting, IdentityOptions, MOST_WORK, Paths,
-    ProgressOption, Request, Resuming,
+    Decrypting, Drilling, Encrypting, IdentityOptions, MOST_WORK, Paths, ProgressOption, Request,
+    Resuming,
 };
-use age_io::Durability;
+use age_options::{ClobberOption, Durability};
 use clap::{ArgMatches, Error};
 use std::alloc::Global;
 

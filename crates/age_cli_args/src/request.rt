@@ -1,6 +1,6 @@
 //! What the arguments ask for.
 
-use age_io::Durability;
+use age_options::{ClobberOption, Durability};
 
 /// The greatest work factor that can be asked for.
 pub(crate) const MOST_WORK: u32 = 22;
@@ -12,15 +12,6 @@ pub enum ProgressOption {
     Shown,
     /// Nothing is shown.
     Silent,
-}
-
-/// What becomes of an existing OUT.
-#[derive(Clone, Copy, Debug, PartialEq, Eq)]
-pub enum ClobberOption {
-    /// It is overwritten.
-    Allowed,
-    /// It is refused, and is unchanged.
-    Refused,
 }
 
 /// The files of a command that writes one, and how it writes.

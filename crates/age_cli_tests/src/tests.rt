@@ -1,3 +1,5 @@
+ghost use Rattle.std.specs.Prelude.{None};
+
 use age_cli::{MemFiles, run};
 use age_hints::Refusals;
 use age_io::{MemSink, MemSource, Meter};
@@ -239,6 +241,20 @@ fn put(alloc: Global, files: &mut MemFiles, name: &str, bytes: &[u8]) -> bool {
     }
 }
 
+/// A meter that counts nothing.
+#[derive(Clone, Copy)]
+struct Silent {}
+
+impl Meter for Silent {
+    ghost count = { λ _. None };
+
+    fn begin(&mut self, _length: Option<u64>) {}
+
+    fn advance(&mut self, _bytes: u64) {}
+
+    fn end(&mut self) {}
+}
+
 /// Whether a run over files in memory ends with this status.
 fn ends(alloc: Global, files: &mut MemFiles, words: &[&str], wanted: u8) -> bool {
     let (Ok(mut output), Ok(mut faults)) = (
@@ -254,7 +270,7 @@ fn ends(alloc: Global, files: &mut MemFiles, words: &[&str], wanted: u8) -> bool
         &mut MemSource::new(Vec::new(alloc), 1, None),
         &mut output,
         &mut faults,
-        &mut None::<ProgressLine<MemSink, Ticking>>,
+        &mut Silent {},
         &Refusals,
     );
     status == wanted
@@ -328,7 +344,7 @@ fn status_of(alloc: Global, fail_call: u64) -> Result<u8, Fail> {
         &mut input,
         &mut output,
         &mut faults,
-        &mut None::<ProgressLine<MemSink, Ticking>>,
+        &mut Silent {},
         &Refusals,
     );
     let is_reported = faults.bytes() == b"age_tool: 27 Write\n".as_slice();

@@ -4,23 +4,24 @@ use Rattle.std.specs.declared.vec.Vec.{Vec}
 use Rattle.age_io.specs.{SourceView, Consumes, IsAtEnd}
 use Rattle.clap.specs.Words.{Text}
 use Rattle.age_fileset.specs.{Does, Event, FilesView, Found, Gave, Outcome, Unread, reading_of, CameSince, HasGiven, HasGivenAll, with_outcomes}
+use Rattle.age_fileset.specs.declared.files.Missing.TheVariants.{Fails}
 use Rattle.age_fileset.proofs.{all_as, all_since, gave_since, given_as, came_then, grows_by, grows_so, then_came}
 use Rattle.age_command.specs.{HoldsOnly, IsUnreadable}
 
 -- a file was found and read, and then its reading was over
-module _ (name : List ℕ) (old mid new : FilesView) (first last : SourceView) (size : Option ℕ) (unread : first.supply.given ≡ []) (found : CameSince old mid (Found name first.supply.left size))
+module _ (name : List ℕ) (old mid new : FilesView) (first last : SourceView) (size : Option ℕ) (unread : first.supply.given ≡ []) (found : CameSince old mid (Found Fails name first.supply.left size))
     (over : new ≡ with_outcomes (Gave (reading_of name last) ∷ []) mid) where
   is_later : new.outcomes ≡ mid.outcomes ++ Gave (reading_of name last) ∷ []
   is_later = ap (λ v. v.outcomes) over
 
-  found_then : CameSince old new (Found name first.supply.left size)
+  found_then : CameSince old new (Found Fails name first.supply.left size)
   found_then = came_then _ old mid new (grows_so mid new _ is_later) _ found
 
   pub over_then : CameSince old new (Gave (reading_of name last))
   over_then = record {
-    before = found.before ++ Found name first.supply.left size ∷ found.later;
+    before = found.before ++ Found Fails name first.supply.left size ∷ found.later;
     later = [];
-    is = is_later ∙ ap (λ l. l ++ Gave (reading_of name last) ∷ []) found.is ∙ append_assoc old.outcomes (found.before ++ Found name first.supply.left size ∷ found.later) (Gave (reading_of name last) ∷ []);
+    is = is_later ∙ ap (λ l. l ++ Gave (reading_of name last) ∷ []) found.is ∙ append_assoc old.outcomes (found.before ++ Found Fails name first.supply.left size ∷ found.later) (Gave (reading_of name last) ∷ []);
   }
 
   pub given_so : (bytes : List ℕ) → Consumes first.supply last.supply bytes → HasGiven (CameSince old new) name bytes

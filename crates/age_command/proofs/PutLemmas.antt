@@ -1,8 +1,7 @@
 -- What several calls put into a sink.
 use Rattle.std.proofs.Common.{◌≡◌, ◌∙◌, ◌++◌, ℕ, List, Result, Ok, Err, subst}
-use Rattle.age_fault.specs.{HasRisen}
 use Rattle.age_fault.specs.declared.fault.FileFault.{FileFault}
-use Rattle.age_io.specs.{SinkView}
+use Rattle.age_io.specs.{SinkView, HasRisen}
 use Rattle.age_io.specs.Taken.{Appends}
 use Rattle.age_io.proofs.{Appends-trans}
 use Rattle.age_command.specs.{PutsAll}

@@ -1,12 +1,19 @@
 -- How a run ends if it isn't done, and which lines report it.
 use Rattle.std.specs.Prelude.{◌≡◌, ◌⊎◌, ℕ, Bool, true, false, List, [], ◌++◌, codes, decimal, nat_le, Option}
-use Rattle.std.specs.Prelude.{Some, None, Result, IsErrAnd, OnOk, OnErr, if◌then◌else◌}
+use Rattle.std.specs.Prelude.{Some, None, Result, IsErrAnd, OnOk, OnErr, if◌then◌else◌, IsSomeAnd, is_some}
 use Rattle.std.specs.String.{string_bytes}
+use Rattle.clap.specs.Words.{Text}
 use Rattle.age_io.specs.Taken.{Appends}
-use Rattle.age_io.specs.{SinkView}
-use Rattle.age_fault.specs.{fault_number, name_of, fault_place, HasRisen}
+use Rattle.age_io.specs.{SinkView, HasRisen}
+use Rattle.age_fault.specs.{fault_number, name_of, fault_place}
 use Rattle.age_fault.specs.declared.fault.FileFault.{FileFault}
-use Rattle.age_fileset.specs.{Event}
+use Rattle.age_fileset.specs.{Event, Outcome, InUse, OneStream}
+use Rattle.age_cli_args.specs.{option_text}
+use Rattle.age_cli_args.specs.declared.request.Drilling.{Drilling}
+use Rattle.age_cli_args.specs.declared.request.Request.TheVariants.{Drill}
+use Rattle.age_command.specs.Files.{HoldsOnly}
+use Rattle.age_command.specs.Identities.{HoldsNoPassphrase}
+use Rattle.age_command.specs.Orders.{order_asked}
 use Rattle.age_command.specs.declared.ending.Ending.{Ending}
 use Rattle.age_command.specs.declared.ending.Ending.TheVariants.{Words, Usage as BadLine, Fault, Unsaved}
 use Rattle.age_command.specs.declared.ending.Usage.{Usage}
@@ -27,6 +34,19 @@ is_usage other = true
 -- the arguments are refused, and no file was opened or created
 abbrev pub RefusesAtOnce : {A : Type 0} → List Event → List Event → Result A Ending → Type 0
 RefusesAtOnce before after result = (after ≡ before) × IsErrAnd result (λ e. is_usage e ≡ true)
+
+-- what a drill is refused for: names of one stream or file, its options, the file of the passphrase, the
+-- script, or the payload (`age_drill` says it of a drill, and `age_outputs` of what is asked)
+abbrev pub RefusesDrill : (Came : Outcome → Type 0) → Drilling → Ending → Type 0
+RefusesDrill Came d (BadLine SameFile) = Came (OneStream (order_asked (Drill d)).read)
+    ⊎ ((name : Text) × Came (InUse name))
+RefusesDrill Came d (BadLine GiveClearOrPass) = d.clear ≡ is_some (option_text d.pass)
+RefusesDrill Came d (BadLine BadPassphraseFile) =
+    IsSomeAnd (option_text d.pass) (λ name. HoldsOnly Came name (HoldsNoPassphrase 22))
+RefusesDrill Came d (BadLine ScriptTooLong) = Unit {0}
+RefusesDrill Came d (BadLine (BadScriptLine line)) = Unit {0}
+RefusesDrill Came d (BadLine PayloadTooLong) = Unit {0}
+RefusesDrill Came d other = ⊥
 
 -- ---- The lines in which it is reported.
 

@@ -1,13 +1,11 @@
--- In which order a command opens, makes and closes files, and which names have to differ.
+-- In which order a command opens, creates and closes files, and which names have to differ.
 use Rattle.std.specs.Prelude.{◌≡◌, List, [], ◌∷◌, ◌++◌, Option, Some, None, ◌⊎◌, codes}
 use Rattle.clap.specs.Words.{Text}
-use Rattle.age_io.specs.declared.durability.Durability.{Durability}
-use Rattle.age_fileset.specs.{Event, Open, Prepare, Create, Make, Replace, Close}
-use Rattle.age_fileset.specs.{given_names}
+use Rattle.age_options.specs.declared.Durability.{Durability}
+use Rattle.age_fileset.specs.{Event, Open, Prepare, Create, Replace, Close, given_names}
 use Rattle.age_cli_args.specs.{option_text}
-use Rattle.age_cli_args.specs.declared.request.ClobberOption.{ClobberOption}
+use Rattle.age_options.specs.declared.ClobberOption.{ClobberOption}
 use Rattle.age_cli_args.specs.declared.request.Paths.{Paths}
-use Rattle.age_cli_args.specs.declared.request.ClobberOption.TheVariants.{Allowed, Refused}
 use Rattle.age_cli_args.specs.declared.request.Request.{Request}
 use Rattle.age_cli_args.specs.declared.request.Request.TheVariants.{Inspect, Decrypt, Resume, Encrypt, Drill}
 
@@ -21,8 +19,8 @@ pub record Follows (order old new : List Event) : Type 0 where
   pub front : order ≡ done ++ rest
 
 -- a file is opened, if one is named; one is prepared to be replaced, though it may be in use under
--- another name; one is created, or made if none may be there, and ended; one is replaced; and what was
--- written reaches the disk then or later
+-- another name; one is created and ended; one is replaced; and what was written reaches the disk then
+-- or later
 abbrev pub opening_event : Option Text → List Event
 opening_event (Some name) = Open name ∷ []
 opening_event None = []
@@ -31,12 +29,8 @@ abbrev pub preparing : Option Text → (spared : Option Text) → List Event
 preparing (Some name) spared = Prepare name spared ∷ []
 preparing None spared = []
 
-abbrev pub creating : ClobberOption → Text → Event
-creating Allowed name = Create name
-creating Refused name = Make name
-
 abbrev pub making : ClobberOption → Text → Durability → List Event
-making clobber name durability = creating clobber name ∷ Close durability ∷ []
+making clobber name durability = Create clobber name ∷ Close durability ∷ []
 
 abbrev pub replacing : Option Text → Durability → List Event
 replacing (Some name) durability = Replace name durability ∷ []
@@ -63,7 +57,7 @@ AreApart (a ∷ rest) one other = ((a.0 ≡ Some one) × IsOneOf other a.1) ⊎ 
 abbrev pub NamesTwice : List (Option Text × List (Option Text)) → Type 0
 NamesTwice apart = (name : Text) × AreApart apart name name
 
--- ---- The order in which a command opens and makes the files that the arguments name, and which of
+-- ---- The order in which a command opens and creates the files that the arguments name, and which of
 -- these names have to differ.
 
 -- which names of a command have to differ, and what it opens, creates and replaces

@@ -2,10 +2,12 @@
 
 ghost use Rattle.std.specs.Prelude.{◌≡◌};
 ghost use Rattle.age_command.specs.inner.{ending_of};
+ghost use Rattle.age_fault.specs.declared.fault.FileFault.TheVariants.{Write};
 ghost use Rattle.age_command.specs.declared.ending.Ending.TheVariants.{Fault, Usage as UsageEnding};
 
 use age_fault::FileFault;
 use age_fileset::OpenFault;
+use age_io::Unsent;
 
 /// What is wrong with a command line that the parser of command lines accepts.
 #[derive(Clone, Copy, Debug, PartialEq, Eq)]
@@ -54,6 +56,14 @@ impl From<FileFault> for Ending {
 
     fn from(fault: FileFault) -> Ending {
         Ending::Fault(fault)
+    }
+}
+
+impl From<Unsent> for Ending {
+    ghost from_gives = { λ _ e. e ≡ Fault Write };
+
+    fn from(_e: Unsent) -> Ending {
+        Ending::Fault(FileFault::Write)
     }
 }
 

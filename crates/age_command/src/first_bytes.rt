@@ -12,7 +12,7 @@ ghost use Rattle.age_command.specs.inner.{IsPiece};
 
 use crate::identity::PASSPHRASE_FILE_MAX;
 use age_fault::FileFault;
-use age_fileset::{FileSet, OpenFault};
+use age_fileset::{FileSet, Missing, OpenFault};
 use age_io::Source;
 use std::alloc::Global;
 
@@ -128,7 +128,7 @@ pub fn read_file<'w, F: FileSet<'w>>(
     ensures in_use { IfErr result (λ f. f ≡ SameFile
         → CameSince (F.view files.old) (F.view files.new) (InUse name.now)) }
 {
-    let mut source = files.open(alloc, name)?;
+    let mut source = files.open(alloc, name, Missing::Fails)?;
     let read = read_up_to(alloc, &mut source, most);
     files.finish(source);
     Ok(read?)

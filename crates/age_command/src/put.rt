@@ -1,12 +1,12 @@
 //! Writes all of some bytes.
 
 ghost use Rattle.std.specs.Prelude.{◌≡◌, IfErr, OnOk, OnErr};
-ghost use Rattle.age_fault.specs.{HasRisen};
+ghost use Rattle.age_io.specs.{HasRisen};
 ghost use Rattle.age_fault.specs.declared.fault.FileFault.TheVariants.{Write};
 ghost use Rattle.age_io.specs.Taken.{Appends};
 
-use age_fault::{FileFault, write_all};
-use age_io::Sink;
+use age_fault::FileFault;
+use age_io::{Sink, write_all};
 
 /// Writes all bytes. After a failure it isn't known how many were written.
 pub fn put_bytes<O: Sink>(sink: &mut O, bytes: &[u8]) -> Result<(), FileFault>
@@ -17,5 +17,5 @@ pub fn put_bytes<O: Sink>(sink: &mut O, bytes: &[u8]) -> Result<(), FileFault>
     ensures named { (O.view sink.new).taken.label ≡ (O.view sink.old).taken.label }
 {
     let mut written = 0;
-    write_all(sink, bytes, &mut written)
+    Ok(write_all(sink, bytes, &mut written)?)
 }

@@ -9,8 +9,8 @@ ghost use Rattle.age_command.specs.declared.ending.Usage.TheVariants.{BadScriptL
 
 use crate::ending::{Ending, Usage};
 use crate::put::put_bytes;
-use age_fault::{FileFault, flush_all};
-use age_io::{Failed, Failures, Sink};
+use age_fault::FileFault;
+use age_io::{Failed, Failures, Sink, flush_all};
 use arrayvec::ArrayVec;
 use itoa::Buffer;
 
@@ -165,7 +165,7 @@ fn send_ending<E: Sink>(faults: &mut E, ending: &Ending) -> Result<(), FileFault
     ensures { ReportsEnding ending.now (E.view faults.old) (E.view faults.new) }
 {
     put_ending(faults, ending)?;
-    flush_all(faults)
+    Ok(flush_all(faults)?)
 }
 
 /// Reports a fault by its line, sent on.
@@ -173,7 +173,7 @@ pub fn report_fault<E: Sink>(faults: &mut E, fault: FileFault) -> Result<(), Fil
     ensures { PutsAll (fault_line fault) (E.view faults.old) (E.view faults.new) result }
 {
     put_fault(faults, fault)?;
-    flush_all(faults)
+    Ok(flush_all(faults)?)
 }
 
 /// Reports why a run ended, if the sink takes it.

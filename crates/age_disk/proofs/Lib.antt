@@ -1,2 +1,2 @@
-pub mod FileLemmas
-unfoldable pub use FileLemmas.*
+pub mod SavedLemmas
+unfoldable pub use SavedLemmas.*

@@ -1,12 +1,13 @@
 -- What follows for the files that are read.
 use Rattle.std.specs.Prelude.{◌≡◌, ◌<◌, ◌^◌, ℕ, List, Some, Contains}
 use Rattle.age_calls.specs.{FileCall, after_calls, OutFile, AllOn}
-use Rattle.age_machine.specs.{number_of}
-use Rattle.age_machine.specs.declared.node.Node.{Node}
 use Rattle.age_calls.specs.Disk.{Disk}
-use Rattle.age_disk.specs.Outputs.{OutputView, IsApart}
-use Rattle.age_disk.specs.declared.names.FileId.{FileId}
-use Rattle.age_disk.specs.declared.names.FileId.TheVariants.{File}
+use Rattle.age_names.specs.{number_of}
+use Rattle.age_names.specs.declared.names.FileId.{FileId}
+use Rattle.age_names.specs.declared.node.Node.{Node}
+use Rattle.age_names.specs.declared.names.FileId.TheVariants.{File}
+use Rattle.age_host_out.specs.{OutputView}
+use Rattle.age_disk.specs.Files.{IsApart}
 
 -- The calls of a regular output that is none of the files that were opened leave on every disk what
 -- these files hold.

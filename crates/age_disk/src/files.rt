@@ -3,33 +3,33 @@
 ghost use Rattle.std.specs.Prelude.{◌≡◌, ◌≢◌, ◌≤◌, ◌⊎◌, ◌∷◌, ◌++◌, [], true, None, Some, Ok, Err, IfOk};
 ghost use Rattle.std.specs.Prelude.{length, IfErr, OnOk, IfSome, IsSomeAnd, Contains};
 ghost use Rattle.age_fault.specs.declared.fault.FileFault.TheVariants.{Read, Write, Memory};
-ghost use Rattle.age_fileset.specs.{IsMemoryOr, OpenFails, Open, Create, Make, Found, FoundOrEmpty};
-ghost use Rattle.age_fileset.specs.{Absent, Settled, Replace, opened_as, made_as, written_as};
+ghost use Rattle.age_fileset.specs.{IsMemoryOr, OpenFails, Open, Create, Settled, Replace};
+ghost use Rattle.age_fileset.specs.{opened_as, created_as, made_as, written_as};
 ghost use Rattle.age_fileset.specs.declared.files.OpenFault.TheVariants.{SameFile};
-ghost use Rattle.age_disk.specs.{IsFresh, as_source, as_sink, IsApart, HasAll};
-ghost use Rattle.age_disk.specs.declared.names.FileId.{FileId};
+ghost use Rattle.age_names.specs.declared.names.FileId.{FileId};
+ghost use Rattle.age_host_in.specs.{IsFresh, as_source};
+ghost use Rattle.age_host_out.specs.{as_sink};
+ghost use Rattle.age_disk.specs.{IsApart, HasAll, WritesDirectly};
 ghost use Rattle.age_io.specs.{IsNamed, Named};
-ghost use Rattle.age_io.specs.declared.durability.Durability.TheVariants as wait;
-ghost use Rattle.age_disk.specs.Outputs.{WritesDirectly};
+ghost use Rattle.age_options.specs.declared.ClobberOption.TheVariants.{Refused};
+ghost use Rattle.age_options.specs.declared.Durability.TheVariants as wait;
 ghost use Rattle.age_disk.specs.inner.Saving.{SavesBytes};
 ghost use Rattle.age_calls.specs.Saved.{Saves};
 
-use crate::in_use::{
-    admit_out, check_unused, fault_of, find_same, is_for_faults, is_known, keep, keep_stream,
-};
-use crate::input::HostIn;
-use crate::names::{FileId, StreamId, tape_of};
-use crate::output::{HostEnded, HostOut};
-use crate::prepare::{Prepared, prepared_at};
+use crate::in_use::{admit_out, check_unused, fault_of, find_same, is_known, keep, keep_stream};
 use crate::saving::{Placed, Saved, replace};
 use age_fault::FileFault;
-use age_fileset::{Doing, FileSet, Log, OpenFault};
-use age_io::{Durability, Sink};
-use age_machine::found_at;
+use age_fileset::{Doing, FileSet, Log, Missing, OpenFault};
+use age_host_in::HostIn;
+use age_host_out::{HostEnded, HostOut};
+use age_io::Sink;
 use age_messages::{Action, RunFailures, announce_copying, announce_passphrase, announce_sync};
+use age_names::{FileId, StreamId, found_at, is_for_faults, tape_of};
+use age_options::{ClobberOption, Durability};
+use age_prepared::{Prepared, is_of_use};
 use std::alloc::Global;
+use std::io;
 use std::rt::HostRuntime;
-use std::{fs, io};
 
 /// The machine's files. Contracts see what was done with them and what came of that, and which
 /// bytes were read and put. A name is a path; `/dev/stdin`, `/dev/stdout`, `/dev/stderr` and their
@@ -87,12 +87,12 @@ impl<'r, 'w> HostFiles<'r, 'w> {
         }
     }
 
-    /// Opens a file for reading, and keeps it. A missing one may count as empty.
+    /// Opens a file for reading, and keeps it.
     fn admit_in(
         &mut self,
         alloc: Global,
         name: &'w str,
-        or_empty: bool,
+        missing: Missing,
     ) -> Result<HostIn<'r, 'w>, OpenFault>
         ensures begun { IfOk result (IsFresh name.now) }
         ensures known { IfOk result (λ s. IfSome s.id (Contains self.new.open.items)) }
@@ -102,15 +102,14 @@ impl<'r, 'w> HostFiles<'r, 'w> {
         ensures faults { IfErr result (OpenFails Read) }
     {
         self.admit_stream(alloc, name)?;
-        let opened = if or_empty {
-            HostIn::open_or_empty(alloc, self.rt, name, self.failures)
-        } else {
-            HostIn::open(alloc, self.rt, name, self.failures)
-        };
-        match opened {
+        match HostIn::open(alloc, self.rt, name, missing, self.failures) {
             Ok(file) => {
                 keep(&mut self.open, file.id())?;
                 announce_passphrase(self.rt, self.failures, name);
+                // (an earlier output that may be missing isn't copied)
+                if missing == Missing::Fails {
+                    announce_copying(self.rt, self.failures, name, file.length());
+                }
                 self.failures.begin_reading(name);
                 Ok(file)
             }
@@ -139,7 +138,7 @@ impl<'r, 'w> HostFiles<'r, 'w> {
         };
         self.failures.output.set(name);
         let prepared = self.prepared.as_slice();
-        let out = admit_out(self.rt, &mut self.open, prepared, name, out, self.failures)?;
+        admit_out(self.rt, &mut self.open, prepared, name, &out, self.failures)?;
         match out.claim(self.rt) {
             Ok(out) => Ok(out),
             Err(error) => {
@@ -229,17 +228,28 @@ impl<'r, 'w> HostFiles<'r, 'w> {
         ensures { SavesBytes bytes.now durability result saved.new }
     {
         match self.prepared.iter().find(|p| p.is_named(name)) {
-            Some(prepared) => {
-                self.check_apart(prepared)?;
-                replace(alloc, self.rt, prepared, bytes, durability, saved)
-            }
+            Some(prepared) => self.replace_apart(alloc, prepared, bytes, durability, saved),
             None => {
-                let prepared = Prepared::new(alloc, self.rt, name, None, durability)?;
-                prepared.claim()?;
-                self.check_apart(&prepared)?;
-                replace(alloc, self.rt, &prepared, bytes, durability, saved)
+                let prepared = prepared_now(alloc, self.rt, name, durability)?;
+                self.replace_apart(alloc, &prepared, bytes, durability, saved)
             }
         }
+    }
+
+    /// Replaces a file that was prepared and claimed, if it is apart from those in use.
+    fn replace_apart(
+        &self,
+        alloc: Global,
+        prepared: &Prepared<'_>,
+        bytes: &[u8],
+        durability: Durability,
+        saved: &mut Saved,
+    ) -> io::Result<()>
+        requires { saved.old.file.path ≡ None }
+        ensures { SavesBytes bytes.now durability result saved.new }
+    {
+        self.check_apart(prepared)?;
+        replace(alloc, self.rt, prepared, bytes, durability, saved)
     }
 
     /// Fails if a file that was prepared is open now, or was written, or is standard error, or is
@@ -257,7 +267,8 @@ impl<'r, 'w> HostFiles<'r, 'w> {
         check_unused(self.rt, self.open.as_slice(), id)
     }
 
-    /// Prepares a file to be replaced, which may be open if it is that of `spared`.
+    /// Prepares a file to be replaced, which may be open if it is that of `spared`: the position of
+    /// this command. With `--no-clobber` another one that holds something is refused.
     fn prepare_named(
         &self,
         alloc: Global,
@@ -269,21 +280,19 @@ impl<'r, 'w> HostFiles<'r, 'w> {
             Some(spared) => FileId::seen_at(self.rt, spared)?,
             None => None,
         };
-        prepared_at(alloc, self.rt, name, spared, durability, self.failures)
+        if self.failures.keeps_outputs() && is_of_use(self.rt, name, spared)? {
+            return Err(io::Error::other("it exists, and --no-clobber was given"));
+        }
+        Prepared::new(alloc, self.rt, name, spared, durability)
     }
 
-    /// Keeps a file that was prepared, unless it is one of those that are open, or standard error.
-    fn admit_prepared(
-        &mut self,
-        prepared: Prepared<'w>,
-        is_for_faults: bool,
-    ) -> Result<(), OpenFault>
-        ensures kept { (self.new.log ≡ self.old.log) × (self.new.ended ≡ self.old.ended)
-            × (self.new.saved ≡ self.old.saved) }
-        ensures apart { (one : FileId) → prepared.entry.seen ≡ Some one
-            → Contains self.old.open.items one → result ≡ Err SameFile }
+    /// Takes a file that was prepared for this run alone, unless it is one of those that are open,
+    /// or standard error.
+    fn claim_prepared(&self, prepared: &Prepared<'w>, is_for_faults: bool) -> Result<(), OpenFault>
+        ensures apart { (one : FileId) → prepared.now.seen ≡ Some one
+            → Contains self.now.open.items one → result ≡ Err SameFile }
         ensures only { result ≡ Err SameFile → (is_for_faults ≡ true)
-            ⊎ IsSomeAnd prepared.entry.seen (Contains self.old.open.items) }
+            ⊎ IsSomeAnd prepared.now.seen (Contains self.now.open.items) }
         ensures faults { IfErr result (OpenFails Write) }
     {
         if is_known(self.open.as_slice(), prepared.seen) || is_for_faults {
@@ -291,9 +300,19 @@ impl<'r, 'w> HostFiles<'r, 'w> {
             self.failures.note_twice(prepared.name(), other);
             return Err(OpenFault::SameFile);
         }
-        if let Err(error) = prepared.claim() {
-            return Err(self.refusal(prepared.name(), error));
+        match prepared.claim() {
+            Ok(()) => Ok(()),
+            Err(error) => Err(self.refusal(prepared.name(), error)),
         }
+    }
+
+    /// Keeps a file that was prepared.
+    fn admit_prepared(&mut self, prepared: Prepared<'w>) -> Result<(), OpenFault>
+        ensures kept { (self.new.log ≡ self.old.log) × (self.new.ended ≡ self.old.ended)
+            × (self.new.saved ≡ self.old.saved) }
+        ensures faults { IfErr result (OpenFails Write) }
+    {
+        self.claim_prepared(&prepared, is_for_faults(self.rt, prepared.seen))?;
         match self.prepared.push(prepared) {
             Ok(()) => Ok(()),
             Err(_) => Err(OpenFault::Fault(FileFault::Memory)),
@@ -307,6 +326,18 @@ fn opening(rt: &HostRuntime, name: &str) -> Action {
         Ok(None) => Action::Create,
         _ => Action::Write,
     }
+}
+
+/// Judges where a name leads now, and takes the file there for this run alone.
+fn prepared_now<'n>(
+    alloc: Global,
+    rt: &HostRuntime,
+    name: &'n str,
+    durability: Durability,
+) -> io::Result<Prepared<'n>> {
+    let prepared = Prepared::new(alloc, rt, name, None, durability)?;
+    prepared.claim()?;
+    Ok(prepared)
 }
 
 /// Whether an empty regular file has this name.
@@ -355,11 +386,15 @@ impl<'r, 'w> FileSet<'w> for HostFiles<'r, 'w> {
         checked
     }
 
-    fn open(&mut self, alloc: Global, name: &'w str) -> Result<HostIn<'r, 'w>, OpenFault>
+    fn open(
+        &mut self,
+        alloc: Global,
+        name: &'w str,
+        missing: Missing,
+    ) -> Result<HostIn<'r, 'w>, OpenFault>
         ensures noted { self.new.log.events ≡ self.old.log.events ++ Open name.now ∷ [] }
         ensures came { self.new.log.outcomes ≡ self.old.log.outcomes
-            ++ opened_as as_source (λ s. s.size) (Found name.now) name.now
-            result }
+            ++ opened_as as_source (λ s. s.size) missing name.now result }
         ensures unended { self.new.ended ≡ self.old.ended }
         ensures unsaved { self.new.saved ≡ self.old.saved }
         ensures begun { IfOk result (λ s. s.given ≡ []) }
@@ -369,37 +404,11 @@ impl<'r, 'w> FileSet<'w> for HostFiles<'r, 'w> {
         ensures before { HasAll self.old.open.items self.new.open.items }
     {
         self.log.note(Doing::Open(name));
-        let opened = self.admit_in(alloc, name, false);
-        match &opened {
-            Ok(source) => {
-                let length = source.length();
-                announce_copying(self.rt, self.failures, name, length);
-                self.log.note(Doing::Found(name, None, length));
-            }
-            Err(fault) => self.log.note(Doing::Refused(name, *fault)),
-        }
-        opened
-    }
-
-    fn open_or_empty(&mut self, alloc: Global, name: &'w str) -> Result<HostIn<'r, 'w>, OpenFault>
-        ensures noted { self.new.log.events ≡ self.old.log.events ++ Open name.now ∷ [] }
-        ensures came { self.new.log.outcomes ≡ self.old.log.outcomes
-            ++ opened_as as_source (λ s. s.size) (FoundOrEmpty name.now)
-            name.now result }
-        ensures unended { self.new.ended ≡ self.old.ended }
-        ensures unsaved { self.new.saved ≡ self.old.saved }
-        ensures begun { IfOk result (λ s. s.given ≡ []) }
-        ensures named { IfOk result (λ s. IsNamed s.name (Named name.now)) }
-        ensures faults { IfErr result (OpenFails Read) }
-        ensures known { IfOk result (λ s. IfSome s.id (Contains self.new.open.items)) }
-        ensures before { HasAll self.old.open.items self.new.open.items }
-    {
-        self.log.note(Doing::Open(name));
-        let opened = self.admit_in(alloc, name, true);
+        let opened = self.admit_in(alloc, name, missing);
         match &opened {
             Ok(source) => self
                 .log
-                .note(Doing::FoundOrEmpty(name, None, source.length())),
+                .note(Doing::Found(missing, name, None, source.length())),
             Err(fault) => self.log.note(Doing::Refused(name, *fault)),
         }
         opened
@@ -423,10 +432,7 @@ impl<'r, 'w> FileSet<'w> for HostFiles<'r, 'w> {
     ) -> Result<(), OpenFault> {
         self.log.note(Doing::Prepare(name, spared));
         let admitted = match self.prepare_named(alloc, name, spared, durability) {
-            Ok(prepared) => {
-                let is_for_faults = is_for_faults(self.rt, prepared.seen);
-                self.admit_prepared(prepared, is_for_faults)
-            }
+            Ok(prepared) => self.admit_prepared(prepared),
             Err(error) => Err(self.refusal(name, error)),
         };
         if let Err(fault) = admitted {
@@ -439,28 +445,35 @@ impl<'r, 'w> FileSet<'w> for HostFiles<'r, 'w> {
         &mut self,
         alloc: Global,
         name: &'w str,
+        clobber: ClobberOption,
         durability: Durability,
     ) -> Result<HostOut, OpenFault>
-        ensures noted { self.new.log.events ≡ self.old.log.events ++ Create name.now ∷ [] }
-        ensures came { self.new.log.outcomes ≡ self.old.log.outcomes ++ made_as [] name.now result }
+        ensures noted { self.new.log.events ≡ self.old.log.events ++ Create clobber name.now ∷ [] }
+        ensures came { self.new.log.outcomes
+            ≡ self.old.log.outcomes ++ made_as (created_as clobber name.now) name.now result }
         ensures unended { self.new.ended ≡ self.old.ended }
         ensures unsaved { self.new.saved ≡ self.old.saved }
         ensures begun { IfOk result (λ o. (o.took ≡ []) × (o.failed ≡ 0)) }
         ensures named { IfOk result (λ o. o.name ≡ name.now) }
         ensures apart { IfOk result (IsApart self.old.open.items) }
+        ensures unmade { IfOk result (λ o. clobber ≡ Refused → o.unmade ≡ Some name.now) }
         ensures faults { IfErr result (OpenFails Write) }
     {
-        self.log.note(Doing::Create(name));
-        let opened = HostOut::open(alloc, self.rt, name, durability);
+        self.log.note(Doing::Create(clobber, name));
+        let opened = match clobber {
+            ClobberOption::Allowed => HostOut::open(alloc, self.rt, name, durability),
+            ClobberOption::Refused => HostOut::to_make(alloc, self.rt, name, durability),
+        };
         let out = self.admit_created(name, opened);
-        if let Err(fault) = out {
-            self.log.note(Doing::Refused(name, fault));
+        match out {
+            Ok(_) => self.log.note(Doing::Created(clobber, name)),
+            Err(fault) => self.log.note(Doing::Refused(name, fault)),
         }
         out
     }
 
     fn check_absent(&mut self, name: &'w str) -> Result<(), OpenFault> {
-        if fs::symlink_metadata(self.rt, name).is_err() {
+        if !matches!(found_at(self.rt, name), Ok(Some(_))) {
             return Ok(());
         }
         let fault = self.refusal(name, io::Error::from(io::ErrorKind::AlreadyExists));
@@ -477,33 +490,6 @@ impl<'r, 'w> FileSet<'w> for HostFiles<'r, 'w> {
             Doing::Present(name)
         });
         is_absent
-    }
-
-    fn create_new(
-        &mut self,
-        alloc: Global,
-        name: &'w str,
-        durability: Durability,
-    ) -> Result<HostOut, OpenFault>
-        ensures noted { self.new.log.events ≡ self.old.log.events ++ Make name.now ∷ [] }
-        ensures came { self.new.log.outcomes
-            ≡ self.old.log.outcomes ++ made_as (Absent name.now ∷ []) name.now result }
-        ensures unended { self.new.ended ≡ self.old.ended }
-        ensures unsaved { self.new.saved ≡ self.old.saved }
-        ensures begun { IfOk result (λ o. (o.took ≡ []) × (o.failed ≡ 0)) }
-        ensures named { IfOk result (λ o. o.name ≡ name.now) }
-        ensures apart { IfOk result (IsApart self.old.open.items) }
-        ensures unmade { IfOk result (λ o. o.unmade ≡ Some name.now) }
-        ensures faults { IfErr result (OpenFails Write) }
-    {
-        self.log.note(Doing::Make(name));
-        let opened = HostOut::to_make(alloc, self.rt, name, durability);
-        let out = self.admit_created(name, opened);
-        match out {
-            Ok(_) => self.log.note(Doing::Absent(name)),
-            Err(fault) => self.log.note(Doing::Refused(name, fault)),
-        }
-        out
     }
 
     fn is_for_faults(&mut self, out: &HostOut) -> bool {

@@ -1,27 +1,22 @@
 //! Which files and streams are in use, so that none is used twice.
 
-ghost use Rattle.std.specs.Prelude.{◌≡◌, ◌≢◌, [], true, Some, Err, IfOk, IfErr, IsErr, OnOk, IfSome};
+ghost use Rattle.std.specs.Prelude.{◌≡◌, ◌≢◌, [], true, Some, Err, IfErr, IsErr, OnOk, IfSome};
 ghost use Rattle.std.specs.Prelude.{IsSomeAnd, Contains};
 ghost use Rattle.age_fault.specs.declared.fault.FileFault.TheVariants.{Read, Write, Memory};
 ghost use Rattle.age_fileset.specs.{IsMemoryOr, OpenFails};
 ghost use Rattle.age_fileset.specs.declared.files.OpenFault.TheVariants.{SameFile};
 ghost use Rattle.age_disk.specs.{IsApart, HasAll};
-ghost use Rattle.age_disk.specs.declared.names.FileId.{FileId};
+ghost use Rattle.age_names.specs.declared.names.FileId.{FileId};
 
-use crate::names::{FileId, StandardStream, StreamId};
-use crate::output::HostOut;
-use crate::prepare::Prepared;
 use age_fault::FileFault;
 use age_fileset::OpenFault;
+use age_host_out::HostOut;
 use age_messages::{Action, RunFailures};
+use age_names::{FileId, StreamId, is_for_faults};
+use age_prepared::Prepared;
 use std::alloc::Global;
 use std::io;
 use std::rt::HostRuntime;
-
-/// Whether this is the file to which standard error leads.
-pub(crate) fn is_for_faults(rt: &HostRuntime, id: Option<FileId>) -> bool {
-    id.is_some() && id == FileId::of_stream(rt, StandardStream::Faults)
-}
 
 /// Keeps a stream. Refuses one that was kept before.
 pub(crate) fn keep_stream(kept: &mut Vec<StreamId>, stream: StreamId) -> Result<(), OpenFault>
@@ -138,35 +133,34 @@ pub(crate) fn fault_of(error: io::Error, other: FileFault) -> FileFault
     }
 }
 
-/// Keeps a file that is to be written. One that was opened or prepared before is refused, and its
+/// Keeps which file is to be written. One that was opened or prepared before is refused, and its
 /// name is kept, with the other one if that is known.
 pub(crate) fn admit_out<'w>(
     rt: &HostRuntime,
     opened: &mut Vec<FileId>,
     prepared: &[Prepared<'w>],
     name: &'w str,
-    out: HostOut,
+    out: &HostOut,
     failures: &RunFailures<'w>,
-) -> Result<HostOut, OpenFault>
-    ensures same { IfOk result (λ o. o ≡ out) }
-    ensures apart { IfOk result (IsApart opened.old.items) }
+) -> Result<(), OpenFault>
+    ensures apart { OnOk result (IsApart opened.old.items out.now) }
     ensures faults { IfErr result (OpenFails Write) }
 {
-    let other = find_prepared(rt, prepared, &out);
-    let admitted = match other {
-        Ok(None) => admit(opened, out.id()),
-        Ok(Some(_)) => Err(OpenFault::SameFile),
-        Err(error) => Err(OpenFault::Fault(fault_of(error, FileFault::Write))),
-    };
-    match admitted {
-        Ok(()) => Ok(out),
-        Err(fault) => {
-            match other {
-                Ok(Some(other)) => failures.note_twice(other, Some(name)),
-                Ok(None) => failures.note_twice(name, None),
-                Err(error) => failures.note(Action::Write, name, error),
+    match find_prepared(rt, prepared, out) {
+        Ok(None) => match admit(opened, out.id()) {
+            Ok(()) => Ok(()),
+            Err(fault) => {
+                failures.note_twice(name, None);
+                Err(fault)
             }
-            Err(fault)
+        },
+        Ok(Some(other)) => {
+            failures.note_twice(other, Some(name));
+            Err(OpenFault::SameFile)
+        }
+        Err(error) => {
+            failures.note(Action::Write, name, error);
+            Err(OpenFault::Fault(fault_of(error, FileFault::Write)))
         }
     }
 }

@@ -3,7 +3,7 @@
 ghost use Rattle.age_disk.specs.{NoInputIsChanged, NoOtherIsChanged};
 
 use age_calls::others_are_kept;
-use age_machine::numbers_are_apart;
+use age_names::numbers_are_apart;
 
 /// An output that is none of the opened files changes none of them, and neither does a new one.
 pub fn no_input_is_changed()

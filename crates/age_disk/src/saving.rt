@@ -2,21 +2,21 @@
 
 ghost use Rattle.std.specs.Prelude.{◌≡◌, None, Some, IsSomeAnd, IfOk, OnOk, is_some, true};
 ghost use Rattle.age_calls.specs.Saved.{Saves};
-ghost use Rattle.age_disk.specs.Outputs.{IsNew, WritesDirectly};
+ghost use Rattle.age_host_out.specs.{IsNew};
+ghost use Rattle.age_disk.specs.Files.{WritesDirectly};
 ghost use Rattle.age_disk.specs.inner.Saving.{SavesBytes};
 
-use crate::names::{Resolved, is_on_disk, tape_of};
-use crate::output::{HostEnded, HostOut};
-use crate::paths::{if_found, make_file, open_at_once, remove_new, remove_own};
-use crate::prepare::Prepared;
-use age_fault::write_all;
-use age_io::{Durability, Tape};
+use age_host_out::{HostEnded, HostOut};
+use age_io::{Tape, write_all};
 use age_machine::{
-    HostMachine, Node, POSITION_MODE, Spot, Unplaced, found_at, lock, made_meanwhile,
-    open_to_write, replace_by_kept, replace_by_new, sync_folder,
+    HostMachine, POSITION_MODE, Spot, Unplaced, lock, made_meanwhile, open_to_write,
+    replace_by_kept, replace_by_new, sync_folder,
 };
+use age_names::{Node, StandardStream, found_at, is_on_disk, led_to, tape_of};
+use age_options::Durability;
+use age_prepared::{Prepared, Site, if_found, make_file, open_at_once, remove_new, remove_own};
 use std::alloc::Global;
-use std::fs::{self, File, Metadata};
+use std::fs::{File, Metadata};
 use std::io;
 use std::marker::Model;
 use std::os::unix::fs::FileTypeExt;
@@ -80,7 +80,7 @@ impl Saved {
 /// The device that was found at a name, open for writing. A pipe that has come there is refused,
 /// since opening it might wait for a reader.
 fn open_device(rt: &HostRuntime, name: &str, found: Node) -> io::Result<File> {
-    if fs::metadata(rt, name)?.file_type().is_fifo() {
+    if matches!(led_to(rt, name)?, Some(found) if found.file_type().is_fifo()) {
         return Err(io::Error::from(io::ErrorKind::NotFound));
     }
     if_found(open_to_write(rt, name, POSITION_MODE)?, found)
@@ -145,6 +145,24 @@ impl<'a> Order<'a> {
         saved.direct = Some(ended);
         end?;
         put.or(Err(error))
+    }
+
+    /// Writes the bytes to an open file to which a name or a path led.
+    fn fill_file(&self, file: File, path: &str, saved: &mut Saved) -> io::Result<()>
+        ensures same { saved.new.file ≡ saved.old.file }
+        ensures direct { OnOk result (IsSomeAnd saved.new.direct (WritesDirectly self.now.bytes.now)) }
+    {
+        let out = HostOut::over(self.alloc, self.rt, file, path)?;
+        self.fill_directly(out, saved)
+    }
+
+    /// Writes the bytes to a stream that the program was started with.
+    fn fill_stream(&self, stream: StandardStream, saved: &mut Saved) -> io::Result<()>
+        ensures same { saved.new.file ≡ saved.old.file }
+        ensures direct { OnOk result (IsSomeAnd saved.new.direct (WritesDirectly self.now.bytes.now)) }
+    {
+        let name = String::from_str(self.alloc, self.prepared.name())?;
+        self.fill_directly(HostOut::of_stream(self.rt, name, stream)?, saved)
     }
 
     /// Takes a file that was made at a path for this run alone, to be written.
@@ -222,8 +240,7 @@ impl<'a> Order<'a> {
                 Err(Unplaced::Memory) => return Err(io::Error::from(io::ErrorKind::OutOfMemory)),
             }
         }
-        let out = HostOut::over(self.alloc, self.rt, file, path.as_str())?;
-        self.fill_directly(out, saved)
+        self.fill_file(file, path.as_str(), saved)
     }
 
     /// Puts a file where a path led, without following a link that has come there. What isn't a
@@ -252,21 +269,12 @@ impl<'a> Order<'a> {
         requires { saved.old.file.path ≡ None }
         ensures { SavesBytes self.now.bytes.now self.now.durability result saved.new }
     {
-        if let Some((name, pipe)) = self.prepared.pipe() {
-            let out = HostOut::over(self.alloc, self.rt, pipe.try_clone()?, name)?;
-            return self.fill_directly(out, saved);
-        }
-        if let Some((name, device)) = self.prepared.device() {
-            let file = open_device(self.rt, name, device)?;
-            let out = HostOut::over(self.alloc, self.rt, file, name)?;
-            return self.fill_directly(out, saved);
-        }
-        match self.prepared.resolved() {
-            Resolved::Stream(stream) => {
-                let name = String::from_str(self.alloc, self.prepared.name())?;
-                self.fill_directly(HostOut::of_stream(self.rt, name, *stream)?, saved)
-            }
-            Resolved::Path(path) => self.replace_at(path, saved),
+        let name = self.prepared.name();
+        match self.prepared.site() {
+            Site::Pipe(pipe) => self.fill_file(pipe.try_clone()?, name, saved),
+            Site::Device(node) => self.fill_file(open_device(self.rt, name, node)?, name, saved),
+            Site::Stream(stream) => self.fill_stream(stream, saved),
+            Site::Path(path) => self.replace_at(path, saved),
         }
     }
 }

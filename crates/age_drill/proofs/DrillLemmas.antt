@@ -4,11 +4,10 @@ use Rattle.std.proofs.Common.{append_assoc, arith, IfErr, Result, Ok, Err}
 use Rattle.std.proofs.lemmas.Grind.{common_steps}
 use Rattle.std.specs.Prelude.{IsErr, IsErrAnd, IsSomeAnd, OnOk, OnErr}
 use Rattle.clap.specs.Words.{Text}
-use Rattle.age_io.specs.{SinkView}
+use Rattle.age_io.specs.{SinkView, HasRisen}
 use Rattle.age_io.specs.Taken.{Appends}
 use Rattle.age_io.proofs.{Appends-nil}
 use Rattle.age_stream.specs.declared.step.Status.{Status}
-use Rattle.age_fault.specs.{HasRisen}
 use Rattle.age_fault.specs.inner.{fault_by_kind, fault_of, fault_of_key}
 use Rattle.age_fault.specs.declared.fault.FileFault.{FileFault}
 use Rattle.age_fault.specs.declared.fault.FileFault.TheVariants.{Read, Write, Memory}
@@ -23,13 +22,13 @@ use Rattle.age_fileset.specs.declared.files.OpenFault.TheVariants as why
 use Rattle.age_cli_args.specs.{option_text}
 use Rattle.age_cli_args.specs.declared.request.Drilling.{Drilling}
 use Rattle.age_cli_args.specs.declared.request.Request.TheVariants.{Drill}
-use Rattle.age_command.specs.{HoldsNoPassphrase, HoldsOnly, IsUnreadable, is_usage, order_asked}
+use Rattle.age_command.specs.{HoldsNoPassphrase, HoldsOnly, IsUnreadable, RefusesDrill, is_usage, order_asked}
 use Rattle.age_command.specs.inner.{ending_of}
 use Rattle.age_command.specs.declared.ending.Ending.{Ending}
 use Rattle.age_command.specs.declared.ending.Ending.TheVariants.{Fault, Usage}
 use Rattle.age_command.specs.declared.ending.Usage.TheVariants.{SameFile, BadPassphraseFile, BadScriptLine, PayloadTooLong}
 use Rattle.age_command.proofs.{holds_as, unread_as}
-use Rattle.age_drill.specs.Drills.{drill_text, DrillEnds, PrintsLines, RefusesDrill}
+use Rattle.age_drill.specs.Drills.{drill_text, DrillEnds, PrintsLines}
 use Rattle.age_drill.specs.inner.{EndsUnopened, EndsUnread, FailsBy, PrintsAnswer, RefusesDelivery}
 
 -- ---- What is printed.

@@ -1,23 +1,14 @@
--- What a drill prints, and what it is refused for.
-use Rattle.std.specs.Prelude.{◌≡◌, ◌⊎◌, ◌++◌, ◌+◌, ℕ, true, is_some, List, [], ◌∷◌, Option, Some, None}
-use Rattle.std.specs.Prelude.{Result, Ok, Err, IsSomeAnd, codes, decimal}
-use Rattle.clap.specs.Words.{Text}
+-- What a drill prints, and how it ends.
+use Rattle.std.specs.Prelude.{◌≡◌, ◌++◌, ◌+◌, ℕ, true, List, [], ◌∷◌, Option, Some, None}
+use Rattle.std.specs.Prelude.{Result, Ok, Err, codes, decimal}
 use Rattle.age_io.specs.Taken.{Appends}
-use Rattle.age_io.specs.{SinkView}
+use Rattle.age_io.specs.{SinkView, HasRisen}
 use Rattle.age_chunk.specs.{stream_fault_number}
 use Rattle.age_stream.specs.declared.step.Status.{Status}
 use Rattle.age_stream.specs.declared.step.Status.TheVariants.{Open, LastSeen, Done, Failed}
-use Rattle.age_fault.specs.{HasRisen}
 use Rattle.age_fault.specs.declared.fault.FileFault.TheVariants.{Read, Write}
-use Rattle.age_fileset.specs.{Outcome, InUse, OneStream}
-use Rattle.age_cli_args.specs.{option_text}
-use Rattle.age_cli_args.specs.declared.request.Drilling.{Drilling}
-use Rattle.age_cli_args.specs.declared.request.Request.TheVariants.{Drill}
-use Rattle.age_command.specs.{HoldsNoPassphrase, HoldsOnly, order_asked}
 use Rattle.age_command.specs.declared.ending.Ending.{Ending}
-use Rattle.age_command.specs.declared.ending.Ending.TheVariants.{Fault, Usage}
-use Rattle.age_command.specs.declared.ending.Usage.TheVariants.{BadPassphraseFile, GiveClearOrPass, SameFile}
-use Rattle.age_command.specs.declared.ending.Usage.TheVariants.{ScriptTooLong, BadScriptLine, PayloadTooLong}
+use Rattle.age_command.specs.declared.ending.Ending.TheVariants.{Fault}
 
 -- ---- What a drill prints.
 
@@ -49,16 +40,3 @@ DrillEnds Unreadable Refuses Unprinted old new (Err (Fault Write)) = HasRisen ol
 DrillEnds Unreadable Refuses Unprinted old new (Err (Fault Read)) = Unreadable × Unprinted
 DrillEnds Unreadable Refuses Unprinted old new (Err (Fault fault)) = PrintsLines old new
 DrillEnds Unreadable Refuses Unprinted old new (Err ending) = Refuses ending × Unprinted
-
--- what a drill is refused for: names of one stream or file, its options, the file of the passphrase, the
--- script, or the payload
-abbrev pub RefusesDrill : (Came : Outcome → Type 0) → Drilling → Ending → Type 0
-RefusesDrill Came d (Usage SameFile) = Came (OneStream (order_asked (Drill d)).read)
-    ⊎ ((name : Text) × Came (InUse name))
-RefusesDrill Came d (Usage GiveClearOrPass) = d.clear ≡ is_some (option_text d.pass)
-RefusesDrill Came d (Usage BadPassphraseFile) =
-    IsSomeAnd (option_text d.pass) (λ name. HoldsOnly Came name (HoldsNoPassphrase 22))
-RefusesDrill Came d (Usage ScriptTooLong) = Unit {0}
-RefusesDrill Came d (Usage (BadScriptLine line)) = Unit {0}
-RefusesDrill Came d (Usage PayloadTooLong) = Unit {0}
-RefusesDrill Came d other = ⊥

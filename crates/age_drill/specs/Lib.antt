@@ -1,3 +1,3 @@
 pub mod Drills
 pub mod inner
-pub use Drills.{DrillEnds, RefusesDrill}
+pub use Drills.{DrillEnds}

@@ -1,18 +1,17 @@
 -- How parts of a drill end. Private: no public contract cites this module.
 use Rattle.std.specs.Prelude.{◌≡◌, ℕ, [], ◌∷◌, Option, Result, Ok, Err, IsErrAnd}
 use Rattle.age_io.specs.Taken.{Appends}
-use Rattle.age_io.specs.{SinkView}
+use Rattle.age_io.specs.{SinkView, HasRisen}
 use Rattle.age_stream.specs.declared.step.Status.{Status}
-use Rattle.age_fault.specs.{HasRisen}
 use Rattle.age_fault.specs.declared.fault.FileFault.{FileFault}
 use Rattle.age_fault.specs.declared.fault.FileFault.TheVariants.{Read, Write, Memory}
 use Rattle.age_fileset.specs.{Outcome}
 use Rattle.age_cli_args.specs.declared.request.Drilling.{Drilling}
-use Rattle.age_command.specs.{IsUnreadable}
+use Rattle.age_command.specs.{IsUnreadable, RefusesDrill}
 use Rattle.age_command.specs.declared.ending.Ending.{Ending}
 use Rattle.age_command.specs.declared.ending.Ending.TheVariants.{Fault, Usage}
 use Rattle.age_command.specs.declared.ending.Usage.TheVariants.{BadScriptLine, PayloadTooLong}
-use Rattle.age_drill.specs.Drills.{drill_text, RefusesDrill}
+use Rattle.age_drill.specs.Drills.{drill_text}
 
 -- the line of this number was printed, unless writing failed or memory ran out
 abbrev pub PrintsAnswer : (number : ℕ) → (old new : SinkView) → (Unprinted : Type 0)

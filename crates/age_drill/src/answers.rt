@@ -7,8 +7,8 @@ ghost use Rattle.age_drill.specs.inner.{PrintsAnswer};
 
 use crate::script::ScriptLine;
 use age_command::{Ending, put_bytes};
-use age_fault::{FileFault, flush_all};
-use age_io::Sink;
+use age_fault::FileFault;
+use age_io::{Sink, flush_all};
 use age_stream::{ChunkBox, Delivery, Memory, Replay, Status};
 use std::alloc::{AllocError, Global};
 

@@ -4,11 +4,12 @@ ghost use Rattle.std.specs.Prelude.{◌≡◌, ◌<◌, ◌≤◌, ◌∷◌, []
 ghost use Rattle.age_io.specs.{Origin};
 ghost use Rattle.age_chunk.specs.{block_length, tag_length};
 ghost use Rattle.age_fileset.specs.{CameSince, Does, Event, Gave, Open, Reading};
-ghost use Rattle.age_command.specs.{Follows, IsUnreadable, RefusesAtOnce, opening_event, order_asked};
+ghost use Rattle.age_command.specs.{Follows, IsUnreadable, RefusesAtOnce, RefusesDrill, opening_event};
+ghost use Rattle.age_command.specs.{order_asked};
 ghost use Rattle.age_cli_args.specs.{option_text};
 ghost use Rattle.age_cli_args.specs.declared.request.Drilling.{Drilling as DrillingView};
 ghost use Rattle.age_cli_args.specs.declared.request.Request.TheVariants.{Drill};
-ghost use Rattle.age_drill.specs.{DrillEnds, RefusesDrill};
+ghost use Rattle.age_drill.specs.{DrillEnds};
 ghost use Rattle.age_drill.specs.inner.{EndsUnopened, FailsBy, RefusesDelivery};
 ghost use Rattle.age_stanza.specs.{HasText, reading};
 
@@ -19,7 +20,7 @@ use age_command::{
     Choice, Ending, OwnPassphrase, Usage, fill_first, passphrase_in, read_file, read_up_to,
 };
 use age_fault::FileFault;
-use age_fileset::FileSet;
+use age_fileset::{FileSet, Missing};
 use age_io::{Sink, Source};
 use age_keys::{
     FileKey, KeyFault, PAYLOAD_NONCE_LEN, PayloadKey, Steps, WORK_FACTOR_LIMIT, open_header,
@@ -261,7 +262,7 @@ pub fn drill_file<'w, F: FileSet<'w>, O: Sink>(
     files.check_streams(alloc, &[asked.pass, Some(asked.script), Some(asked.from)])?;
     let pass = read_passphrase(alloc, files, asked.pass)?;
     let script = read_script(alloc, files, asked.script)?;
-    let mut source = files.open(alloc, asked.from)?;
+    let mut source = files.open(alloc, asked.from, Missing::Fails)?;
     let drilled = deliver_source(alloc, pass, &mut source, script.as_slice(), output);
     files.finish(source);
     drilled

@@ -5,7 +5,7 @@ ghost use Rattle.age_io.specs.Taken.{Appends};
 ghost use Rattle.age_stream.specs.{chunk_bytes};
 ghost use Rattle.age_chunk.specs.{payload, chunk_length};
 
-use age_file::{FileFault, Sink, write_all};
+use age_file::{FileFault, Sink, Unsent, write_all};
 use age_stream::{BLOCK_LEN, ChunkBox, Sealer};
 
 /// The bytes that are lent, if any are.
@@ -19,7 +19,7 @@ fn bytes_of(chunk: Option<&[u8]>) -> &[u8]
 }
 
 /// Writes all of some bytes.
-fn put<O: Sink>(sink: &mut O, bytes: &[u8]) -> Result<(), FileFault>
+fn put<O: Sink>(sink: &mut O, bytes: &[u8]) -> Result<(), Unsent>
     ensures { OnOk result (Appends (O.view sink.old).taken (O.view sink.new).taken bytes.now) }
 {
     let mut written = 0;

@@ -1,18 +1,13 @@
--- How a fault is numbered, named and placed, and what a write that fails leaves.
-use Rattle.std.specs.Prelude.{◌≡◌, ◌⊎◌, ℕ, ◌^◌, ◌-◌, ◌<◌, List, [], ◌∷◌, Option, Some, None, codes}
-use Rattle.std.specs.Prelude.{Bool, true, get_or, ◌+◌, ◌++◌, length, Result, MatchResult, OnErr}
+-- How a fault is numbered, named and placed.
+use Rattle.std.specs.Prelude.{ℕ, ◌-◌, List, [], ◌∷◌, Option, Some, None, codes, get_or}
 use Rattle.age_chunk.specs.Payload as stream
 use Rattle.age_fault.specs.HeadFaults as head
 use Rattle.age_fault.specs.KeyFaults as key
-use Rattle.age_io.specs.{one_more, SinkView}
-use Rattle.age_io.specs.Taken.{Appends}
 use Rattle.age_fault.specs.declared.fault.FileFault.{FileFault}
 use Rattle.age_fault.specs.declared.fault.FileFault.TheVariants.{Head, Key, NonceCut, Stream, BadPosition}
 use Rattle.age_fault.specs.declared.fault.FileFault.TheVariants.{OtherFile, ShortText, Read, Write, Memory}
 use Rattle.age_fault.specs.declared.fault.FileFault.TheVariants.{ReadNeverEnds, PositionForged}
 use Rattle.age_fault.specs.declared.fault.FileFault.TheVariants.{OldTextDiffers}
-
--- ---- The number, the name and the place of a fault.
 
 abbrev pub fault_number : FileFault → ℕ
 fault_number (Head fault) = head.head_fault_number fault.kind
@@ -51,29 +46,3 @@ abbrev pub fault_place : FileFault → Option ℕ
 fault_place (Head fault) = head.head_fault_place fault
 fault_place (Stream fault) = Some fault.chunk
 fault_place other = None
-
--- ---- Counts of failures.
-
--- a count of failures rose by one, or stayed at its greatest value, and the last call is the one
--- that failed: no call came after it
-abbrev pub HasFailed : ℕ → ℕ → Bool → Type 0
-HasFailed old new failing = (new ≡ one_more old) × (failing ≡ true)
-
--- a count of failures rose, or is at its greatest value
-abbrev pub HasRisen : ℕ → ℕ → Type 0
-HasRisen old new = (old < new) ⊎ (new ≡ 2 ^ 64 - 1)
-
--- ---- What a write of some bytes did.
-
--- the front of the bytes was taken and counted: all of them; or fewer, once a put failed, which is
--- the only one that did, and the last
-pub record Writes {E : Type 0} (old new : SinkView) (written_old written_new : ℕ)
-    (bytes : List ℕ) (result : Result (Unit {0}) E) : Type 0 where
-  pub out : List ℕ
-  pub unwritten : List ℕ
-  pub parts : bytes ≡ out ++ unwritten
-  pub wrote : Appends old.taken new.taken out
-  pub count : written_new ≡ written_old + length out
-  pub answered : MatchResult result (λ _. (unwritten ≡ []) × (new.failed ≡ old.failed))
-      (λ _. HasFailed old.failed new.failed new.failing)
-  pub stopped : OnErr result (0 < length unwritten)

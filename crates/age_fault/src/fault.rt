@@ -1,7 +1,7 @@
 //! Why a file could not be read or written.
 
 ghost use Rattle.std.specs.Prelude.{◌≡◌};
-ghost use Rattle.age_fault.specs.declared.fault.FileFault.TheVariants.{Stream, Memory as MemoryFault};
+ghost use Rattle.age_fault.specs.declared.fault.FileFault.TheVariants.{Stream, Write, Memory as MemoryFault};
 ghost use Rattle.age_fault.specs.Faults.{fault_number, fault_place, name_of, name_by};
 ghost use Rattle.age_fault.specs.HeadFaults.{head_fault_number};
 ghost use Rattle.age_fault.specs.KeyFaults.{key_fault_number};
@@ -11,7 +11,7 @@ ghost use Rattle.age_fault.specs.inner.{fault_of, fault_of_key};
 use crate::head::{HeadFault, HeadKind};
 use crate::key::KeyFault;
 use age_chunk::{StreamFault, StreamKind};
-use age_io::Memory;
+use age_io::{Memory, Unsent};
 use std::alloc::{AllocError, AllocFailed};
 use std::error::Error;
 use std::fmt;
@@ -82,6 +82,14 @@ impl From<Memory> for FileFault {
 
     fn from(_e: Memory) -> FileFault {
         FileFault::Memory
+    }
+}
+
+impl From<Unsent> for FileFault {
+    ghost from_gives = { λ _ e. e ≡ Write };
+
+    fn from(_e: Unsent) -> FileFault {
+        FileFault::Write
     }
 }
 

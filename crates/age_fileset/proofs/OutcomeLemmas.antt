@@ -4,12 +4,16 @@ use Rattle.std.specs.Prelude.{if◌then◌else◌}
 use Rattle.std.specs.Io.KnownBytes.{prepend_known}
 use Rattle.std.specs.Io.KnownBytes as known
 use Rattle.age_io.specs.{SourceView, Consumes, IsAtEnd}
-use Rattle.age_io.specs.declared.durability.Durability.{Durability}
+use Rattle.age_options.specs.declared.Durability.{Durability}
+use Rattle.age_options.specs.declared.ClobberOption.{ClobberOption}
+use Rattle.age_options.specs.declared.ClobberOption.TheVariants.{Allowed, Refused}
 use Rattle.age_fault.specs.declared.fault.FileFault.{FileFault}
 use Rattle.age_fault.specs.declared.fault.FileFault.TheVariants.{Read, Write}
-use Rattle.age_fileset.specs.{OpenFault, SameFile, Fault, Event, Open, Outcome, Found, FoundOrEmpty, Unread, Absent, Present, Gave, Settled, Put, Alike}
+use Rattle.age_fileset.specs.declared.files.Missing.{Missing}
+use Rattle.age_fileset.specs.declared.files.Missing.TheVariants.{Fails}
+use Rattle.age_fileset.specs.{OpenFault, SameFile, Fault, Event, Create, Open, Outcome, Found, Unread, Absent, Present, Gave, Settled, Put, Alike}
 use Rattle.age_fileset.specs.{OneStream, InUse, Terminal, Reading, reading_of, Entry, entry, FilesView, Does, PutsOnly, CameSince, HasGiven, HasGivenAll}
-use Rattle.age_fileset.specs.{puts_in, with_event, with_outcomes, refused_as, OpenFails, IsMemoryOr, opened_as, made_as, checked_as, looked_as, noted_if, ChecksStreams}
+use Rattle.age_fileset.specs.{puts_in, with_event, with_outcomes, refused_as, OpenFails, IsMemoryOr, opened_as, created_as, made_as, checked_as, looked_as, noted_if, ChecksStreams}
 
 pub puts_then : (a b : List Outcome) → puts_in (a ++ b) ≡ puts_in a ++ puts_in b
 unfolding puts_in
@@ -110,33 +114,26 @@ came_of : (old new : FilesView) (name : List ℕ) (e : Event) (fault : OpenFault
 came_of old new name e fault o other one is same = came_one old new o (ap (λ v. v.outcomes) is ∙ ap (λ f. old.outcomes ++ refused_as name f) same ∙ ap (λ l. old.outcomes ++ l) one)
 
 -- a file was to be opened
-module _ {In : Type 0} (read : In → SourceView) (size : In → Option ℕ) (name : List ℕ) (found : Option (List ℕ) → Option ℕ → Outcome)
-    (plain : (left : Option (List ℕ)) (n : Option ℕ) → puts_in (found left n ∷ []) ≡ []) (old new : FilesView) where
-  pub opened_does : (r : Result In OpenFault) → new ≡ with_event (Open name) (opened_as read size found name r) old → IfErr r (OpenFails Read) → Does (Open name ∷ []) old new
-  opened_does (Ok s) is fails = does_so old new (Open name) _ is (plain (read s).supply.left (size s))
+module _ {In : Type 0} (read : In → SourceView) (size : In → Option ℕ) (missing : Missing) (name : List ℕ) (old new : FilesView) where
+  pub opened_does : (r : Result In OpenFault) → new ≡ with_event (Open name) (opened_as read size missing name r) old → IfErr r (OpenFails Read) → Does (Open name ∷ []) old new
+  unfolding puts_in
+  opened_does (Ok s) is fails = does_so old new (Open name) _ is refl
   opened_does (Err fault) is fails = does_so old new (Open name) _ is (unread_puts name fault fails)
 
-  pub opened_came : (r : Result In OpenFault) → new ≡ with_event (Open name) (opened_as read size found name r) old → IfOk r (λ s. CameSince old new (found (read s).supply.left (size s)))
-  opened_came (Ok s) is = came_one old new (found (read s).supply.left (size s)) (ap (λ v. v.outcomes) is)
+  pub opened_came : (r : Result In OpenFault) → new ≡ with_event (Open name) (opened_as read size missing name r) old
+      → IfOk r (λ s. CameSince old new (Found missing name (read s).supply.left (size s)))
+  opened_came (Ok s) is = came_one old new (Found missing name (read s).supply.left (size s)) (ap (λ v. v.outcomes) is)
   opened_came (Err fault) is = tt
 
-  pub opened_unread : (r : Result In OpenFault) → new ≡ with_event (Open name) (opened_as read size found name r) old → IfErr r (λ f. f ≡ Fault Read → CameSince old new (Unread name))
+  pub opened_unread : (r : Result In OpenFault) → new ≡ with_event (Open name) (opened_as read size missing name r) old → IfErr r (λ f. f ≡ Fault Read → CameSince old new (Unread name))
   opened_unread (Ok s) is = tt
   opened_unread (Err fault) is = λ same. came_of old new name (Open name) fault (Unread name) (Fault Read) refl is same
 
-  pub opened_in_use : (r : Result In OpenFault) → new ≡ with_event (Open name) (opened_as read size found name r) old → IfErr r (λ f. f ≡ SameFile → CameSince old new (InUse name))
+  pub opened_in_use : (r : Result In OpenFault) → new ≡ with_event (Open name) (opened_as read size missing name r) old → IfErr r (λ f. f ≡ SameFile → CameSince old new (InUse name))
   opened_in_use (Ok s) is = tt
   opened_in_use (Err fault) is = λ same. came_of old new name (Open name) fault (InUse name) SameFile refl is same
 
-pub found_plain : (name : List ℕ) (left : Option (List ℕ)) (size : Option ℕ) → puts_in (Found name left size ∷ []) ≡ []
-unfolding puts_in
-found_plain name left size = refl
-
-pub found_any_plain : (name : List ℕ) (left : Option (List ℕ)) (size : Option ℕ) → puts_in (FoundOrEmpty name left size ∷ []) ≡ []
-unfolding puts_in
-found_any_plain name left size = refl
-
--- one was to be prepared, created or made
+-- one was to be prepared or created
 module _ {A : Type 0} (name : List ℕ) (e : Event) (made : List Outcome) (plain : puts_in made ≡ []) (old new : FilesView) where
   pub made_does : (r : Result A OpenFault) → new ≡ with_event e (made_as made name r) old → IfErr r (OpenFails Write) → Does (e ∷ []) old new
   made_does (Ok out) is fails = does_so old new e _ is plain
@@ -146,9 +143,15 @@ pub none_plain : puts_in [] ≡ []
 unfolding puts_in
 none_plain = refl
 
-pub absent_plain : (name : List ℕ) → puts_in (Absent name ∷ []) ≡ []
+pub created_plain : (clobber : ClobberOption) (name : List ℕ) → puts_in (created_as clobber name) ≡ []
 unfolding puts_in
-absent_plain name = refl
+created_plain Allowed name = refl
+created_plain Refused name = refl
+
+-- no file had the name of one that was created, if an existing one was refused
+pub created_absent : (clobber : ClobberOption) (name : List ℕ) (old new : FilesView) → new ≡ with_event (Create clobber name) (created_as clobber name) old
+    → clobber ≡ Refused → CameSince old new (Absent name)
+created_absent clobber name old new is refused = came_one old new (Absent name) (ap (λ v. v.outcomes) is ∙ ap (λ c. old.outcomes ++ created_as c name) refused)
 
 -- streams were to be checked
 module _ {names : List (List ℕ)} {old new : FilesView} where
@@ -222,7 +225,7 @@ none_left None new same end = tt
 none_left (Some rest) new same end = rw (same rest refl) at end
 
 -- a file was opened and read, and then its reading was over
-pub gave_since : (name bytes : List ℕ) (old new : FilesView) (first last : SourceView) (size : Option ℕ) → first.supply.given ≡ [] → CameSince old new (Found name first.supply.left size)
+pub gave_since : (name bytes : List ℕ) (old new : FilesView) (first last : SourceView) (size : Option ℕ) → first.supply.given ≡ [] → CameSince old new (Found Fails name first.supply.left size)
     → Consumes first.supply last.supply bytes → CameSince old new (Gave (reading_of name last)) → HasGiven (CameSince old new) name bytes
 gave_since name bytes old new first last size unread found read over =
     let left = left_after first.supply.left last.supply.left bytes read.left in
@@ -233,10 +236,10 @@ gave_since name bytes old new first last size unread found read over =
       given = read.given ∙ ap (λ x. x ++ bytes) unread;
       left = left.0;
       size = size;
-      found = subst (λ l. CameSince old new (Found name l size)) left.1 found;
+      found = subst (λ l. CameSince old new (Found Fails name l size)) left.1 found;
     }
 
-pub all_since : (name bytes : List ℕ) (old new : FilesView) (first last : SourceView) (size : Option ℕ) → first.supply.given ≡ [] → CameSince old new (Found name first.supply.left size)
+pub all_since : (name bytes : List ℕ) (old new : FilesView) (first last : SourceView) (size : Option ℕ) → first.supply.given ≡ [] → CameSince old new (Found Fails name first.supply.left size)
     → Consumes first.supply last.supply bytes → IsAtEnd last.supply → CameSince old new (Gave (reading_of name last)) → HasGivenAll (CameSince old new) name bytes
 unfolding gave_since
 all_since name bytes old new first last size unread found read end over = record {
@@ -254,7 +257,7 @@ module _ (Came Later : Outcome → Type 0) (so : (o : Outcome) → Came o → La
     given = g.given;
     left = g.left;
     size = g.size;
-    found = so (Found name (prepend_known bytes g.left) g.size) g.found;
+    found = so (Found Fails name (prepend_known bytes g.left) g.size) g.found;
   }
 
   abbrev pub all_as : HasGivenAll Came name bytes → HasGivenAll Later name bytes

@@ -4,9 +4,13 @@ use Rattle.std.proofs.Common.{append_assoc, true≢false}
 use Rattle.std.specs.Str.{bytes_eq}
 use Rattle.std.proofs.lemmas.Slice.Eq.{bytes_eq-Decides}
 use Rattle.std.specs.Prelude.{if◌then◌else◌, is_some}
-use Rattle.age_fileset.specs.{MemEntry, Outcome, Found, FoundOrEmpty, Unread, Unwritten, Absent, Present, Put}
-use Rattle.age_fileset.specs.{Files, no_files, once, stands, or_empty, Fits, AllFit, AreTrue, PutsEntry, entry_of, refused_as, MemFails, IsMemoryOr}
+use Rattle.age_fileset.specs.declared.files.Missing.{Missing}
+use Rattle.age_fileset.specs.declared.files.Missing.TheVariants.{Fails}
+use Rattle.age_fileset.specs.{MemEntry, Outcome, Found, Unread, Unwritten, Absent, Present, Put}
+use Rattle.age_fileset.specs.{Files, no_files, once, stands, created_as, held_by, Fits, AllFit, AreTrue, PutsEntry, entry_of, refused_as, MemFails, IsMemoryOr}
 use Rattle.age_fileset.specs.{OpenFault, SameFile, Fault, Entry, entry, puts_in, FilesView, PutsOnly, CameSince, HasGivenAll}
+use Rattle.age_options.specs.declared.ClobberOption.{ClobberOption}
+use Rattle.age_options.specs.declared.ClobberOption.TheVariants.{Allowed, Refused}
 use Rattle.age_fault.specs.declared.fault.FileFault.{FileFault}
 use Rattle.age_fault.specs.declared.fault.FileFault.TheVariants.{Write}
 use Rattle.std.specs.Io.KnownBytes.{prepend_known, IsAtEnd}
@@ -27,8 +31,7 @@ fit_then files [] b fit more = more
 fit_then files (x ∷ a) b fit more = (fit.0, fit_then (once files x) a b fit.1 more)
 
 pub fits_by : (f g : Files) (o : Outcome) → ((q : List ℕ) → f q ≡ g q) → Fits f o → Fits g o
-fits_by f g (Found name left size) same fit = (fit.0, fit.1 ∙ same name, fit.2)
-fits_by f g (FoundOrEmpty name left size) same fit = (fit.0 ∙ ap or_empty (same name), fit.1)
+fits_by f g (Found missing name left size) same fit = (fit.0, fit.1 ∙ ap (held_by missing) (same name), fit.2)
 fits_by f g (Unread name) same fit = sym (same name) ∙ fit
 fits_by f g (Absent name) same fit = sym (same name) ∙ fit
 fits_by f g (Present name) same fit = ap is_some (sym (same name)) ∙ fit
@@ -75,6 +78,15 @@ refused es os name fault (inr memory) kept = rw (memory, append-nil os) kept
 pub kept_refused : (es : List MemEntry) (os new : List Outcome) (name : List ℕ) (fault : OpenFault) → new ≡ os ++ refused_as name fault → MemFails Write fault → AreTrue es os → AreTrue es new
 kept_refused es os new name SameFile is fails kept = absurd fails
 kept_refused es os new name (Fault fault) is fails kept = rw is (refused es os name fault fails kept)
+
+no_value : (o : Option (List ℕ)) → (is_some o ≡ true → ⊥) → o ≡ None
+no_value None none = refl
+no_value (Some bytes) none = absurd (none refl)
+
+pub kept_created : (es : List MemEntry) (os new : List Outcome) (clobber : ClobberOption) (name : List ℕ) → new ≡ os ++ created_as clobber name
+    → (clobber ≡ Refused → is_some (entry_of es name) ≡ true → ⊥) → AreTrue es os → AreTrue es new
+kept_created es os new Allowed name is none kept = rw (is, append-nil os) kept
+kept_created es os new Refused name is none kept = rw is (kept_note es os (Absent name) (λ files q. refl) (no_value (entry_of es name) (none refl)) kept)
 
 pub kept_at_first : AreTrue [] []
 unfolding stands AllFit
@@ -173,23 +185,18 @@ module _ (old new : FilesView) (was is : List MemEntry) (kept_was : AreTrue was 
     same_at q other =
         stands_then no_files old.outcomes c.before q ∙ stands_other (stands no_files old.outcomes) c.before q other ∙ sym (kept_was.stand q)
 
-  -- a file was found: it is there, and what it has to give is what stood there at first
-  pub found_was : (name : List ℕ) (left : Option (List ℕ)) (size : Option ℕ) (c : CameSince old new (Found name left size)) → AreOthers name (puts_in c.before)
-      → (is_some left ≡ true) × (left ≡ entry_of was name)
-  found_was name left size c other =
-      let fit = fit_at (Found name left size) c in
-      (fit.0, fit.1 ∙ same_at (Found name left size) c name other)
-
-  -- or it counts as empty if there is none
-  pub found_any_was : (name : List ℕ) (left : Option (List ℕ)) (size : Option ℕ) (c : CameSince old new (FoundOrEmpty name left size)) → AreOthers name (puts_in c.before)
-      → left ≡ or_empty (entry_of was name)
-  found_any_was name left size c other = (fit_at (FoundOrEmpty name left size) c).0 ∙ ap or_empty (same_at (FoundOrEmpty name left size) c name other)
+  -- a file was found: what it has to give is what stood there at first
+  pub found_was : (missing : Missing) (name : List ℕ) (left : Option (List ℕ)) (size : Option ℕ) (c : CameSince old new (Found missing name left size))
+      → AreOthers name (puts_in c.before) → (is_some left ≡ true) × (left ≡ held_by missing (entry_of was name))
+  found_was missing name left size c other =
+      let fit = fit_at (Found missing name left size) c in
+      (fit.0, fit.1 ∙ ap (held_by missing) (same_at (Found missing name left size) c name other))
 
   -- all that a file gave stood there at first
   pub gave_all_was : (name bytes : List ℕ) (g : HasGivenAll (CameSince old new) name bytes) → AreOthers name (puts_in g.gave.found.before)
       → entry_of was name ≡ Some bytes
   gave_all_was name bytes g other =
-      let found = found_was name (prepend_known bytes g.gave.left) g.gave.size g.gave.found other in
+      let found = found_was Fails name (prepend_known bytes g.gave.left) g.gave.size g.gave.found other in
       sym found.1 ∙ all_of g.gave.left found.0 g.none where
         all_of : (left : Option (List ℕ)) → is_some (prepend_known bytes left) ≡ true → IsAtEnd left → prepend_known bytes left ≡ Some bytes
         all_of None there end = absurd (true≢false (sym there))

@@ -6,25 +6,28 @@ use Rattle.std.specs.Borrow.{Bor}
 use Rattle.std.specs.Str.{bytes_eq}
 use Rattle.std.specs.Io.KnownBytes.{IsAtEnd, prepend_known}
 use Rattle.age_io.specs.{Feeding, Holding, SourceView, SinkView, holds, memory_supply}
-use Rattle.age_io.specs.declared.durability.Durability.{Durability}
+use Rattle.age_options.specs.declared.Durability.{Durability}
+use Rattle.age_options.specs.declared.ClobberOption.{ClobberOption}
+use Rattle.age_options.specs.declared.ClobberOption.TheVariants.{Allowed, Refused}
 use Rattle.age_calls.specs.{EndedFile, SavedFile}
 use Rattle.age_fault.specs.declared.fault.FileFault.{FileFault}
 use Rattle.age_fault.specs.declared.fault.FileFault.TheVariants.{Read, Write, Memory}
 use Rattle.age_fileset.specs.declared.files.OpenFault.{OpenFault}
 use Rattle.age_fileset.specs.declared.files.OpenFault.TheVariants.{SameFile, Fault}
+use Rattle.age_fileset.specs.declared.files.Missing.{Missing}
+use Rattle.age_fileset.specs.declared.files.Missing.TheVariants.{Fails, Empty}
 use Rattle.age_fileset.specs.declared.mem_entry.MemEntry.{MemEntry}
 
 -- ---- What was to be done with a set of files.
 
--- a file was to be opened, prepared to be replaced later, created, made where none is, or replaced
--- under this name, whether that succeeded or not; one that is prepared may be in use under the second
--- name, if there is one; the file that was created or made last was ended; what was written or
--- replaced was to reach the disk now or later
+-- a file was to be opened, prepared to be replaced later, created or replaced under this name, whether
+-- that succeeded or not; one that is prepared may be in use under the second name, if there is one; one
+-- that is created may take the place of an existing one, or not; the file that was created last was
+-- ended; what was written or replaced was to reach the disk now or later
 pub data Event : Type 0 where
   Open : List ℕ → Event
   Prepare : List ℕ → (spared : Option (List ℕ)) → Event
-  Create : List ℕ → Event
-  Make : List ℕ → Event
+  Create : ClobberOption → List ℕ → Event
   Replace : List ℕ → Durability → Event
   Close : Durability → Event
 
@@ -47,13 +50,11 @@ reading_of name source = record {
 }
 
 pub data Outcome : Type 0 where
-  -- a file was opened under this name: it has this to give, if contracts see that, and is so long, if
-  -- the set can say
-  Found : List ℕ → Option (List ℕ) → Option ℕ → Outcome
-  -- the same, but a missing file counts as empty
-  FoundOrEmpty : List ℕ → Option (List ℕ) → Option ℕ → Outcome
-  -- none could be opened; none could be prepared, created, made, ended or replaced; none existed;
-  -- one did, or may have
+  -- a file was opened under this name, which may stand for an empty one: it has this to give, if
+  -- contracts see that, and is so long, if the set can say
+  Found : Missing → List ℕ → Option (List ℕ) → Option ℕ → Outcome
+  -- none could be opened; none could be prepared, created, ended or replaced; none existed; one did,
+  -- or may have
   Unread : List ℕ → Outcome
   Unwritten : List ℕ → Outcome
   Absent : List ℕ → Outcome
@@ -110,12 +111,18 @@ refused_as name (Fault Write) = Unwritten name ∷ []
 refused_as name (Fault other) = []
 
 -- of one that was to be opened, and whose source this is then
-abbrev pub opened_as : {In : Type 0} → (In → SourceView) → (In → Option ℕ)
-    → (Option (List ℕ) → Option ℕ → Outcome) → List ℕ → Result In OpenFault → List Outcome
-opened_as read size found name (Ok source) = found (read source).supply.left (size source) ∷ []
-opened_as read size found name (Err fault) = refused_as name fault
+abbrev pub opened_as : {In : Type 0} → (In → SourceView) → (In → Option ℕ) → Missing → List ℕ
+    → Result In OpenFault → List Outcome
+opened_as read size missing name (Ok source) =
+    Found missing name (read source).supply.left (size source) ∷ []
+opened_as read size missing name (Err fault) = refused_as name fault
 
--- of one that was to be prepared, created or made: this, or that it can't be
+-- of one that was created: none had its name, unless an existing one may be overwritten
+abbrev pub created_as : ClobberOption → List ℕ → List Outcome
+created_as Allowed name = []
+created_as Refused name = Absent name ∷ []
+
+-- of one that was to be prepared or created: this, or that it can't be
 abbrev pub made_as : {A : Type 0} → List Outcome → List ℕ → Result A OpenFault → List Outcome
 made_as made name (Ok out) = made
 made_as made name (Err fault) = refused_as name fault
@@ -213,7 +220,7 @@ pub record HasGiven (Came : Outcome → Type 0) (name bytes : List ℕ) : Type 0
   pub given : reading.given ≡ bytes
   pub left : Option (List ℕ)
   pub size : Option ℕ
-  pub found : Came (Found name (prepend_known bytes left) size)
+  pub found : Came (Found Fails name (prepend_known bytes left) size)
 
 -- and found its end: they are all that the file had to give
 pub record HasGivenAll (Came : Outcome → Type 0) (name bytes : List ℕ) : Type 0 where
@@ -237,10 +244,11 @@ abbrev pub MemFails : FileFault → OpenFault → Type 0
 MemFails other SameFile = ⊥
 MemFails other (Fault fault) = IsMemoryOr other fault
 
--- what a file holds; nothing if there is none
-abbrev pub or_empty : Option (List ℕ) → Option (List ℕ)
-or_empty None = Some []
-or_empty (Some bytes) = Some bytes
+-- what there is to read under a name that has this file, or none
+abbrev pub held_by : Missing → Option (List ℕ) → Option (List ℕ)
+held_by Fails held = held
+held_by Empty None = Some []
+held_by Empty (Some bytes) = Some bytes
 
 -- ---- What is stored under each name, by what came.
 
@@ -264,9 +272,8 @@ stands files (outcome ∷ more) = stands (once files outcome) more
 -- this is true of such files, in a set that shows them: in memory none is a stream, a terminal or on
 -- a disk
 abbrev pub Fits : Files → Outcome → Type 0
-Fits files (Found name left size) =
-    (is_some left ≡ true) × (left ≡ files name) × (size ≡ option_map length left)
-Fits files (FoundOrEmpty name left size) = (left ≡ or_empty (files name)) × (size ≡ option_map length left)
+Fits files (Found missing name left size) =
+    (is_some left ≡ true) × (left ≡ held_by missing (files name)) × (size ≡ option_map length left)
 Fits files (Unread name) = files name ≡ None
 Fits files (Absent name) = files name ≡ None
 Fits files (Present name) = is_some (files name) ≡ true

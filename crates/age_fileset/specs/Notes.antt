@@ -1,7 +1,7 @@
 -- What a set of files notes of what is done with it.
 use Rattle.std.specs.Prelude.{List, [], ◌∷◌, ◌++◌, option_map}
-use Rattle.age_fileset.specs.FileSet.{Event, Open, Prepare, Create, Make, Replace, Close, Reading}
-use Rattle.age_fileset.specs.FileSet.{Doings, Outcome, Found, FoundOrEmpty, Unwritten, Absent, Present}
+use Rattle.age_fileset.specs.FileSet.{Event, Open, Prepare, Create, Replace, Close, Reading}
+use Rattle.age_fileset.specs.FileSet.{Doings, Outcome, Found, Unwritten, Absent, Present, created_as}
 use Rattle.age_fileset.specs.FileSet.{Gave, Settled, Put, Alike, OneStream, InUse, Terminal, passed_names}
 use Rattle.age_fileset.specs.FileSet.{refused_as}
 use Rattle.age_fileset.specs.declared.log.Doing.{Doing}
@@ -19,14 +19,12 @@ abbrev pub once_done : Doing → Doings → Doings
 once_done (doing.Open name) old = did (Open name.now) old
 once_done (doing.Prepare name spared) old =
     did (Prepare name.now (option_map (λ s. s.now) spared)) old
-once_done (doing.Create name) old = did (Create name.now) old
-once_done (doing.Make name) old = did (Make name.now) old
+once_done (doing.Create clobber name) old = did (Create clobber name.now) old
 once_done (doing.Replace name durability) old = did (Replace name.now durability) old
 once_done (doing.Close durability) old = did (Close durability) old
-once_done (doing.Found name left size) old =
-    came (Found name.now (option_map (λ t. t.now) left) size ∷ []) old
-once_done (doing.FoundOrEmpty name left size) old =
-    came (FoundOrEmpty name.now (option_map (λ t. t.now) left) size ∷ []) old
+once_done (doing.Found missing name left size) old =
+    came (Found missing name.now (option_map (λ t. t.now) left) size ∷ []) old
+once_done (doing.Created clobber name) old = came (created_as clobber name.now) old
 once_done (doing.Refused name fault) old = came (refused_as name.now fault) old
 once_done (doing.Unwritten name) old = came (Unwritten name.now ∷ []) old
 once_done (doing.Absent name) old = came (Absent name.now ∷ []) old

@@ -3,8 +3,8 @@
 ghost use Rattle.std.specs.Prelude.{◌≡◌, ◌↔◌, ℕ, true, List, [], ◌∷◌, Option, Some, None, option_map};
 ghost use Rattle.std.specs.Prelude.{IfOk, IfErr, IsOkUnless, IfSome, ◌≤◌, length, IsSomeAnd};
 ghost use Rattle.age_fileset.specs.FileSet.{FilesView, IsMemoryOr, OpenFails, Open, Prepare, Create};
-ghost use Rattle.age_fileset.specs.FileSet.{Make, Replace, EndsOne, Found, FoundOrEmpty, Absent, Gave};
-ghost use Rattle.age_fileset.specs.FileSet.{Settled, reading_of, opened_as, made_as, written_as};
+ghost use Rattle.age_fileset.specs.FileSet.{Replace, EndsOne, Gave, Settled, reading_of, opened_as};
+ghost use Rattle.age_fileset.specs.FileSet.{created_as, made_as, written_as};
 ghost use Rattle.age_fileset.specs.FileSet.{alike_as, looked_as, noted_if, passed_names, ChecksStreams};
 ghost use Rattle.age_fileset.specs.FileSet.{InUse, Terminal};
 ghost use Rattle.age_fileset.specs.FileSet.{with_event, with_outcomes};
@@ -14,7 +14,8 @@ ghost use Rattle.age_calls.specs.Saved.{Saves};
 ghost use Rattle.age_fileset.specs.declared.files.OpenFault.TheVariants.{Fault};
 
 use age_fault::FileFault;
-use age_io::{Durability, Sink, Source};
+use age_io::{Sink, Source};
+use age_options::{ClobberOption, Durability};
 use std::alloc::Global;
 
 /// Why a file could not be opened, prepared or created.
@@ -33,6 +34,15 @@ impl From<FileFault> for OpenFault {
     fn from(fault: FileFault) -> OpenFault {
         OpenFault::Fault(fault)
     }
+}
+
+/// What a name stands for that has no file.
+#[derive(Clone, Copy, Debug, PartialEq, Eq)]
+pub enum Missing {
+    /// Nothing: it is refused with `Read` (26).
+    Fails,
+    /// An empty file.
+    Empty,
 }
 
 /// Files by their names.
@@ -55,7 +65,7 @@ pub trait FileSet<'w> {
     /// A file that is read. Its `began` says under which name it was opened.
     type In: Source + Drop;
 
-    /// A file that is written. Its label is the name under which it was created or made.
+    /// A file that is written. Its label is the name under which it was created.
     type Out: Sink;
 
     // What contracts see of a set: what was done, and what came of it.
@@ -80,20 +90,17 @@ pub trait FileSet<'w> {
         ensures checks { ChecksStreams (passed_names names.now) result (view self.old) (view self.new) }
         ensures faults { IfErr result (OpenFails FileFault.Memory) };
 
-    /// Opens a file for reading. Refuses with `Read` (26) if it can't be opened, with `Memory`
-    /// (28), and with [`SameFile`](OpenFault::SameFile) if it is a stream that was opened before.
-    fn open(&mut self, alloc: Global, name: &'w str) -> Result<Self::In, OpenFault>
+    /// Opens a file for reading. Refuses with `Read` (26) if it can't be opened, or if it doesn't
+    /// exist and `missing` says so; with `Memory` (28); and with [`SameFile`](OpenFault::SameFile)
+    /// if it is a stream that was opened before.
+    fn open(
+        &mut self,
+        alloc: Global,
+        name: &'w str,
+        missing: Missing,
+    ) -> Result<Self::In, OpenFault>
         ensures noted { view self.new ≡ with_event (Open name.now)
-            (opened_as (Self.In.view) size (Found name.now) name.now result) (view self.old) }
-        ensures begun { IfOk result (λ s. (Self.In.view s).supply.given ≡ []) }
-        ensures named { IfOk result (λ s. Self.In.began s (Named name.now)) }
-        ensures faults { IfErr result (OpenFails FileFault.Read) };
-
-    /// Opens a file for reading. A missing file counts as empty. Refuses as `open` does, but with
-    /// `Read` (26) only if the file exists and can't be opened.
-    fn open_or_empty(&mut self, alloc: Global, name: &'w str) -> Result<Self::In, OpenFault>
-        ensures noted { view self.new ≡ with_event (Open name.now)
-            (opened_as (Self.In.view) size (FoundOrEmpty name.now) name.now result) (view self.old) }
+            (opened_as (Self.In.view) size missing name.now result) (view self.old) }
         ensures begun { IfOk result (λ s. (Self.In.view s).supply.given ≡ []) }
         ensures named { IfOk result (λ s. Self.In.began s (Named name.now)) }
         ensures faults { IfErr result (OpenFails FileFault.Read) };
@@ -133,22 +140,26 @@ pub trait FileSet<'w> {
     /// opened, or if it can be seen that no file can be made there; with `Memory` (28); and with
     /// [`SameFile`](OpenFault::SameFile) if it was opened, prepared or created before. The disk is
     /// waited for while it is written, if it is to be, so that the end needn't wait long.
+    ///
+    /// If `clobber` refuses an existing file, so does this call, with `Write` (27), also one that
+    /// exists by the time the file is made. It is left unchanged, and no link is followed.
     fn create(
         &mut self,
         alloc: Global,
         name: &'w str,
+        clobber: ClobberOption,
         durability: Durability,
     ) -> Result<Self::Out, OpenFault>
-        ensures noted { view self.new ≡ with_event (Create name.now) (made_as [] name.now result)
-            (view self.old) }
+        ensures noted { view self.new ≡ with_event (Create clobber name.now)
+            (made_as (created_as clobber name.now) name.now result) (view self.old) }
         ensures begun { IfOk result (λ o. ((Self.Out.view o).taken.bytes ≡ [])
             × ((Self.Out.view o).failed ≡ 0)) }
         ensures named { IfOk result (λ o. (Self.Out.view o).taken.label ≡ name.now) }
         ensures faults { IfErr result (OpenFails FileFault.Write) };
 
-    /// Refuses anything that has the name, even a link, with `Write` (27), as `create_new` would.
-    /// It changes nothing, and is called before work that takes long; by the end of that, something
-    /// may have the name.
+    /// Refuses anything that has the name, even a link, with `Write` (27), as `create` would if
+    /// existing files are refused. It changes nothing, and is called before work that takes long; by
+    /// the end of that, something may have the name.
     fn check_absent(&mut self, name: &'w str) -> Result<(), OpenFault>
         ensures noted { view self.new ≡ with_outcomes (made_as [] name.now result) (view self.old) }
         ensures faults { IfErr result (OpenFails FileFault.Write) };
@@ -157,21 +168,6 @@ pub trait FileSet<'w> {
     /// it.
     fn is_absent(&mut self, name: &'w str) -> bool
         ensures { view self.new ≡ with_outcomes (looked_as name.now result) (view self.old) };
-
-    /// The same for a new file: an existing one is refused too, with `Write` (27), as is one that
-    /// exists by the time the file is made. It is left unchanged, and no link is followed.
-    fn create_new(
-        &mut self,
-        alloc: Global,
-        name: &'w str,
-        durability: Durability,
-    ) -> Result<Self::Out, OpenFault>
-        ensures noted { view self.new ≡ with_event (Make name.now)
-            (made_as (Absent name.now ∷ []) name.now result) (view self.old) }
-        ensures begun { IfOk result (λ o. ((Self.Out.view o).taken.bytes ≡ [])
-            × ((Self.Out.view o).failed ≡ 0)) }
-        ensures named { IfOk result (λ o. (Self.Out.view o).taken.label ≡ name.now) }
-        ensures faults { IfErr result (OpenFails FileFault.Write) };
 
     /// Whether a file that was created is standard error's, which the lines of progress and of
     /// faults go to.

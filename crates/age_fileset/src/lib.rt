@@ -10,6 +10,6 @@ mod log;
 mod mem_entry;
 mod mem_files;
 
-pub use files::{FileSet, OpenFault};
+pub use files::{FileSet, Missing, OpenFault};
 pub use log::{Doing, Log};
 pub use mem_files::{MemFiles, MemIn, MemOut};

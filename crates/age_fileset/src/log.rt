@@ -1,12 +1,12 @@
 //! What was done with a set of files, for contracts alone.
 
 ghost use Rattle.std.specs.Prelude.{◌≡◌, []};
-ghost use Rattle.std.specs.Borrow.{ftrue};
 ghost use Rattle.age_fileset.specs.FileSet.{Doings};
 ghost use Rattle.age_fileset.specs.inner.Coding.{coded_doings};
 
-use crate::files::OpenFault;
-use age_io::{Durability, Tape};
+use crate::files::{Missing, OpenFault};
+use age_io::{Seen, Shows, Tape};
+use age_options::{ClobberOption, Durability};
 use std::marker::Model;
 
 /// What is done with a set of files, or comes of that.
@@ -16,19 +16,17 @@ pub enum Doing<'a> {
     Open(&'a str),
     /// A file was to be prepared, which may be in use under the second name.
     Prepare(&'a str, Option<&'a str>),
-    /// A file was to be created.
-    Create(&'a str),
-    /// A file was to be made where none exists.
-    Make(&'a str),
+    /// A file was to be created, and might replace an existing one or not.
+    Create(ClobberOption, &'a str),
     /// A file was to be replaced, and to reach the disk now or later.
     Replace(&'a str, Durability),
-    /// A file that was created or made was ended, to reach the disk now or later.
+    /// A file that was created was ended, to reach the disk now or later.
     Close(Durability),
-    /// A file was opened under this name. It has this to give, if contracts see that, and so many
-    /// bytes, if the set can say.
-    Found(&'a str, Option<&'a Tape>, Option<u64>),
-    /// The same, but a missing file counts as empty.
-    FoundOrEmpty(&'a str, Option<&'a Tape>, Option<u64>),
+    /// A file was opened under this name, or an empty one if a missing one counts so. It has this
+    /// to give, if contracts see that, and so many bytes, if the set can say.
+    Found(Missing, &'a str, Option<&'a Tape>, Option<u64>),
+    /// A file was created under this name: no file had it, if an existing one was to be refused.
+    Created(ClobberOption, &'a str),
     /// A file of this name couldn't be opened, prepared, created or replaced.
     Refused(&'a str, OpenFault),
     /// A file of this name couldn't be ended.
@@ -55,38 +53,36 @@ pub enum Doing<'a> {
     Terminal(&'a Tape),
 }
 
-/// Nothing so far, or one more than what a cell has.
+/// Nothing so far, or one more.
 #[derive(Clone, Copy)]
 enum Note<'a, 'b> {
     Nothing,
-    More(&'a Cell, Doing<'b>),
+    More(&'a Seen<AllDone>, Doing<'b>),
 }
 
-// Doings that no code holds: the proof of `of` sets them.
-#[derive(Debug, Drop)]
-struct Cell {
-    pub ghost done: { Doings } by { coded_doings },
+/// All that was done, as contracts see it. No code makes one.
+#[derive(Drop)]
+struct AllDone {}
+
+impl Model for AllDone {
+    ghost Value = { Doings };
+
+    ghost coded = { coded_doings };
+
+    ghost view = { λ _. record { events = []; outcomes = [] } };
 }
 
-impl Model for Cell {
-    ghost also_owns = { λ _. ftrue };
-}
-
-impl Cell {
+impl Shows<AllDone> for Note<'_, '_> {
     ghost use Rattle.age_fileset.specs.inner.Notes.{doings_of};
 
-    fn of(_note: &Note<'_, '_>) -> Cell
-        ensures { result.done ≡ doings_of _note.now }
-    {
-        Cell {}
-    }
+    ghost shows = { doings_of };
 }
 
 /// What was done with a set of files, and what came of it, in order, for contracts alone. It has no
 /// bytes at run time.
 #[derive(Debug, Drop)]
 pub struct Log {
-    cell: Cell,
+    seen: Seen<AllDone>,
 }
 
 impl Model for Log {
@@ -94,7 +90,7 @@ impl Model for Log {
 
     ghost coded = { coded_doings };
 
-    ghost view = { λ log. log.cell.done };
+    ghost view = { λ log. log.seen.value };
 }
 
 impl Log {
@@ -105,7 +101,7 @@ impl Log {
         ensures { result ≡ record { events = []; outcomes = [] } }
     {
         Log {
-            cell: Cell::of(&Note::Nothing),
+            seen: Seen::of(&Note::Nothing),
         }
     }
 
@@ -113,6 +109,6 @@ impl Log {
     pub fn note(&mut self, doing: Doing<'_>)
         ensures { self.new ≡ once_done doing.entry self.old }
     {
-        self.cell = Cell::of(&Note::More(&self.cell, doing));
+        self.seen = Seen::of(&Note::More(&self.seen, doing));
     }
 }

@@ -5,17 +5,19 @@ ghost use Rattle.std.specs.Prelude.{OnErr, IfOk, IsErrOf, IsOk, IfErr, IsOkUnles
 ghost use Rattle.std.specs.Prelude.{option_map, length, false};
 ghost use Rattle.age_io.specs.Taken.{WriteAppends, Keeps};
 ghost use Rattle.age_io.specs.{Puts, Pulls, Flushes, holds, memory_supply, IsNamed, ReadConsumes};
-ghost use Rattle.age_fileset.specs.{entry_of, empty_with, PutsEntry, IsMemoryOr, or_empty, Open, Prepare};
-ghost use Rattle.age_fileset.specs.{Create, Make, Replace, Close, Found, FoundOrEmpty, Absent, Gave};
-ghost use Rattle.age_fileset.specs.{Settled, ended_with, opened_as, looked_as, made_as, put_as, written_as};
+ghost use Rattle.age_fileset.specs.{entry_of, empty_with, PutsEntry, IsMemoryOr, held_by, Open, Prepare};
+ghost use Rattle.age_fileset.specs.{Create, Replace, Close, Found, Gave, Settled, ended_with, opened_as};
+ghost use Rattle.age_fileset.specs.{created_as, looked_as, made_as, put_as, written_as};
 ghost use Rattle.age_fileset.specs.{size_in, shown_in, shown_out, seen_in, reading_of, MemFails, AreTrue};
 ghost use Rattle.age_fileset.specs.declared.files.OpenFault.TheVariants.{Fault};
+ghost use Rattle.age_options.specs.declared.ClobberOption.TheVariants.{Refused};
 
-use crate::files::{FileSet, OpenFault};
+use crate::files::{FileSet, Missing, OpenFault};
 use crate::log::{Doing, Log};
 use crate::mem_entry::{MemEntry, Name, bytes_of, put_entry};
 use age_fault::FileFault;
-use age_io::{Bytes, Durability, Failed, MemSink, MemSource, Memory, Sink, Source, Tape};
+use age_io::{Bytes, Failed, MemSink, MemSource, Memory, Sink, Source, Tape};
+use age_options::{ClobberOption, Durability};
 use std::alloc::{AllocError, Global};
 use std::marker::Model;
 
@@ -256,22 +258,13 @@ impl MemEnded {
 }
 
 /// Notes that a file was found, which has this to give.
-fn note_found(log: &mut Log, name: &str, left: Option<&Tape>, size: Option<u64>)
-    ensures { log.new ≡ record log.old {
-      outcomes = log.old.outcomes ++ Found name.now (option_map (λ t. t.now) left.entry) size ∷ [];
-    } }
-{
-    log.note(Doing::Found(name, left, size));
-}
-
-/// The same, if a missing one counts as empty.
-fn note_found_or_empty(log: &mut Log, name: &str, left: Option<&Tape>, size: Option<u64>)
+fn note_found(log: &mut Log, missing: Missing, name: &str, left: Option<&Tape>, size: Option<u64>)
     ensures { log.new ≡ record log.old {
       outcomes = log.old.outcomes
-          ++ FoundOrEmpty name.now (option_map (λ t. t.now) left.entry) size ∷ [];
+          ++ Found missing name.now (option_map (λ t. t.now) left.entry) size ∷ [];
     } }
 {
-    log.note(Doing::FoundOrEmpty(name, left, size));
+    log.note(Doing::Found(missing, name, left, size));
 }
 
 fn is_refused(refused: &[Name], name: &str) -> bool
@@ -280,13 +273,27 @@ fn is_refused(refused: &[Name], name: &str) -> bool
     refused.iter().any(|r| r.as_str() == name)
 }
 
-/// The bytes of a file, or none if it doesn't exist.
-fn bytes_or_none<'a>(entries: &'a [MemEntry], name: &str) -> &'a [u8]
-    ensures { Some result.now ≡ or_empty (entry_of entries.now name.now) }
+/// What there is to read under a name.
+fn bytes_held<'a>(entries: &'a [MemEntry], name: &str, missing: Missing) -> Option<&'a [u8]>
+    ensures { option_map (λ s. s.now) result ≡ held_by missing (entry_of entries.now name.now) }
 {
-    match bytes_of(entries, name) {
-        Some(bytes) => bytes,
-        None => &[],
+    match missing {
+        Missing::Fails => bytes_of(entries, name),
+        Missing::Empty => match bytes_of(entries, name) {
+            Some(bytes) => Some(bytes),
+            None => Some(&[]),
+        },
+    }
+}
+
+/// Whether a file has the name, and may not be replaced.
+fn is_kept(entries: &[MemEntry], name: &str, clobber: ClobberOption) -> bool
+    ensures { IsTrue result
+        ↔ ((clobber ≡ Refused) × (is_some (entry_of entries.now name.now) ≡ true)) }
+{
+    match clobber {
+        ClobberOption::Allowed => false,
+        ClobberOption::Refused => bytes_of(entries, name).is_some(),
     }
 }
 
@@ -320,13 +327,20 @@ fn new_out(alloc: Global, name: &str, room: usize) -> Result<MemOut, FileFault>
     Ok(MemOut { name, sink })
 }
 
-/// The same, unless the name is one that can't be written.
-fn open_out(alloc: Global, refused: &[Name], name: &str, room: usize) -> Result<MemOut, OpenFault>
+/// The same, unless the name is one that can't be written, or of a file that is kept.
+fn open_out(
+    alloc: Global,
+    refused: &[Name],
+    name: &str,
+    room: usize,
+    is_kept: bool,
+) -> Result<MemOut, OpenFault>
     ensures made { IfOk result (λ o. o ≡ (name.now, empty_with room)) }
-    ensures refused { IsErrOf result (Fault FileFault.Write) ↔ Contains refused.now name.now }
+    ensures refused { IsErrOf result (Fault FileFault.Write)
+        ↔ (Contains refused.now name.now ⊎ IsTrue is_kept) }
     ensures faults { IfErr result (MemFails FileFault.Write) }
 {
-    if is_refused(refused, name) {
+    if is_kept || is_refused(refused, name) {
         return Err(OpenFault::Fault(FileFault::Write));
     }
     Ok(new_out(alloc, name, room)?)
@@ -359,20 +373,22 @@ impl<'w> FileSet<'w> for MemFiles {
         Ok(())
     }
 
-    /// Opens a copy of a file's bytes. Refuses with `Read` (26) exactly if no file has the name.
-    fn open(&mut self, alloc: Global, name: &'w str) -> Result<MemIn, OpenFault>
+    /// Opens a copy of a file's bytes. If no file has the name, refuses with `Read` (26), or opens a
+    /// copy of no bytes, as `missing` says.
+    fn open(&mut self, alloc: Global, name: &'w str, missing: Missing) -> Result<MemIn, OpenFault>
         ensures kept { self.new ≡ record self.old {
           events = self.old.events ++ Open name.now ∷ [];
-          outcomes = self.old.outcomes ++ opened_as shown_in size_in (Found name.now) name.now result;
+          outcomes = self.old.outcomes ++ opened_as shown_in size_in missing name.now result;
         } }
-        ensures found { IfOk result (λ s. entry_of self.old.entries name.now ≡ Some s.1.left) }
+        ensures found { IfOk result
+            (λ s. held_by missing (entry_of self.old.entries name.now) ≡ Some s.1.left) }
         ensures begun { IfOk result (λ s. (s.0 ≡ name.now) × (s.1.given ≡ [])) }
         ensures missing { IsErrOf result (Fault FileFault.Read)
-            ↔ (entry_of self.old.entries name.now ≡ None) }
+            ↔ (held_by missing (entry_of self.old.entries name.now) ≡ None) }
         ensures faults { IfErr result (MemFails FileFault.Read) }
     {
         self.log.note(Doing::Open(name));
-        let Some(bytes) = bytes_of(self.entries.as_slice(), name) else {
+        let Some(bytes) = bytes_held(self.entries.as_slice(), name, missing) else {
             self.log
                 .note(Doing::Refused(name, OpenFault::Fault(FileFault::Read)));
             return Err(OpenFault::Fault(FileFault::Read));
@@ -381,29 +397,7 @@ impl<'w> FileSet<'w> for MemFiles {
         left.note(bytes);
         let size = Some(bytes.len() as u64);
         let source = new_in(alloc, name, bytes)?;
-        note_found(&mut self.log, name, Some(&left), size);
-        Ok(source)
-    }
-
-    /// Opens a copy of a file's bytes, or of none if no file has the name.
-    fn open_or_empty(&mut self, alloc: Global, name: &'w str) -> Result<MemIn, OpenFault>
-        ensures kept { self.new ≡ record self.old {
-          events = self.old.events ++ Open name.now ∷ [];
-          outcomes = self.old.outcomes
-              ++ opened_as shown_in size_in (FoundOrEmpty name.now) name.now result;
-        } }
-        ensures found { IfOk result
-            (λ s. Some s.1.left ≡ or_empty (entry_of self.old.entries name.now)) }
-        ensures begun { IfOk result (λ s. (s.0 ≡ name.now) × (s.1.given ≡ [])) }
-        ensures faults { OnErr result (result ≡ Err (Fault FileFault.Memory)) }
-    {
-        self.log.note(Doing::Open(name));
-        let bytes = bytes_or_none(self.entries.as_slice(), name);
-        let mut left = Tape::new();
-        left.note(bytes);
-        let size = Some(bytes.len() as u64);
-        let source = new_in(alloc, name, bytes)?;
-        note_found_or_empty(&mut self.log, name, Some(&left), size);
+        note_found(&mut self.log, missing, name, Some(&left), size);
         Ok(source)
     }
 
@@ -441,26 +435,31 @@ impl<'w> FileSet<'w> for MemFiles {
     }
 
     /// Gives a sink with the room that was given for it; the entry is made when it is closed.
-    /// Refuses with `Write` (27) exactly if the name is one that can't be written.
+    /// Refuses with `Write` (27) exactly if the name is one that can't be written, or of an existing
+    /// file that is refused.
     fn create(
         &mut self,
         alloc: Global,
         name: &'w str,
+        clobber: ClobberOption,
         _durability: Durability,
     ) -> Result<MemOut, OpenFault>
         ensures made { IfOk result (λ o. o ≡ (name.now, empty_with self.old.room)) }
         ensures refused { IsErrOf result (Fault FileFault.Write)
-            ↔ Contains self.old.refused name.now }
+            ↔ (Contains self.old.refused name.now ⊎ ((clobber ≡ Refused)
+            × (is_some (entry_of self.old.entries name.now) ≡ true))) }
         ensures kept { self.new ≡ record self.old {
-          events = self.old.events ++ Create name.now ∷ [];
-          outcomes = self.old.outcomes ++ made_as [] name.now result;
+          events = self.old.events ++ Create clobber name.now ∷ [];
+          outcomes = self.old.outcomes ++ made_as (created_as clobber name.now) name.now result;
         } }
         ensures faults { IfErr result (MemFails FileFault.Write) }
     {
-        self.log.note(Doing::Create(name));
-        let out = open_out(alloc, self.refused.as_slice(), name, self.room);
-        if let Err(fault) = out {
-            self.log.note(Doing::Refused(name, fault));
+        self.log.note(Doing::Create(clobber, name));
+        let is_kept = is_kept(self.entries.as_slice(), name, clobber);
+        let out = open_out(alloc, self.refused.as_slice(), name, self.room, is_kept);
+        match out {
+            Ok(_) => self.log.note(Doing::Created(clobber, name)),
+            Err(fault) => self.log.note(Doing::Refused(name, fault)),
         }
         out
     }
@@ -495,38 +494,6 @@ impl<'w> FileSet<'w> for MemFiles {
         }
         self.log.note(Doing::Absent(name));
         true
-    }
-
-    /// As `create`, but refuses with `Write` (27) exactly if the name is one that can't be written, or
-    /// if a file has it.
-    fn create_new(
-        &mut self,
-        alloc: Global,
-        name: &'w str,
-        _durability: Durability,
-    ) -> Result<MemOut, OpenFault>
-        ensures made { IfOk result (λ o. o ≡ (name.now, empty_with self.old.room)) }
-        ensures refused { IsErrOf result (Fault FileFault.Write)
-            ↔ (Contains self.old.refused name.now
-            ⊎ (is_some (entry_of self.old.entries name.now) ≡ true)) }
-        ensures kept { self.new ≡ record self.old {
-          events = self.old.events ++ Make name.now ∷ [];
-          outcomes = self.old.outcomes ++ made_as (Absent name.now ∷ []) name.now result;
-        } }
-        ensures faults { IfErr result (MemFails FileFault.Write) }
-    {
-        self.log.note(Doing::Make(name));
-        if self.get(name).is_some() {
-            self.log
-                .note(Doing::Refused(name, OpenFault::Fault(FileFault::Write)));
-            return Err(OpenFault::Fault(FileFault::Write));
-        }
-        let out = open_out(alloc, self.refused.as_slice(), name, self.room);
-        match out {
-            Ok(_) => self.log.note(Doing::Absent(name)),
-            Err(fault) => self.log.note(Doing::Refused(name, fault)),
-        }
-        out
     }
 
     /// None is the stream of faults.

@@ -1,12 +1,11 @@
 -- When each fault of a header comes.
 use Rattle.std.specs.Prelude.{◌≡◌, ◌⊎◌, ◌*◌, ◌^◌, ◌<◌, ◌≤◌, ℕ, List, ◌++◌, length}
 use Rattle.age_io.specs.Supply.{Supply}
-use Rattle.age_io.specs.{Consumes, IsAtEnd, SourceView}
+use Rattle.age_io.specs.{Consumes, IsAtEnd, SourceView, HasFailed}
 use Rattle.age_stanza.specs.{header_limit, HasHeader, NoFault, IsFault, line_after}
 use Rattle.age_fault.specs.declared.head.HeadFault.{HeadFault}
 use Rattle.age_fault.specs.declared.head.HeadKind.TheVariants.{HeadCut}
 use Rattle.age_chunk.specs.{chunk_length}
-use Rattle.age_fault.specs.{HasFailed}
 use Rattle.age_fault.specs.declared.fault.FileFault.{FileFault}
 use Rattle.age_fault.specs.declared.fault.FileFault.TheVariants.{Head, Read, Memory, ReadNeverEnds}
 

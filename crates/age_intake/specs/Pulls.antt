@@ -2,10 +2,9 @@
 use Rattle.std.specs.Prelude.{◌≡◌, ℕ, ◌+◌, ◌*◌, ◌^◌, ◌<◌, ◌≤◌, List, [], ◌++◌, length, Result, Ok}
 use Rattle.std.specs.Prelude.{Err, Bool, true, false}
 use Rattle.age_io.specs.Supply.{Supply}
-use Rattle.age_io.specs.{Consumes, IsAtEnd, Origin, SourceView}
+use Rattle.age_io.specs.{Consumes, IsAtEnd, Origin, SourceView, HasFailed}
 use Rattle.sha2.specs.Hashers.{Holds256}
 use Rattle.age_stanza.specs.{HeadText}
-use Rattle.age_fault.specs.{HasFailed}
 use Rattle.age_fault.specs.declared.fault.FileFault.{FileFault}
 use Rattle.age_fault.specs.declared.fault.FileFault.TheVariants.{Read, ReadNeverEnds}
 use Rattle.age_intake.specs.Headers.{pull_room, StopsAtHeader}

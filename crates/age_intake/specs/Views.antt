@@ -1,7 +1,6 @@
 -- What an engine's contract sees of its source and sink.
 use Rattle.std.specs.Prelude.{◌≡◌}
-use Rattle.age_io.specs.{SourceView, SinkView}
-use Rattle.age_fault.specs.{HasFailed}
+use Rattle.age_io.specs.{SourceView, SinkView, HasFailed}
 
 pub record Ports : Type 0 where
   pub source : SourceView

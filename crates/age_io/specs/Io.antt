@@ -2,10 +2,10 @@
 use base.Fml.{GName}
 use Rattle.std.specs.Prelude.{ℕ, List, Option, Bool, ◌+◌, ◌-◌, ◌^◌, min, option_map, Result, Ok, Err, ◌≡◌, []}
 use Rattle.std.specs.Prelude.{◌∷◌, ◌++◌, Some, None, ◌≢◌, ◌⊎◌, length, take, drop, true, false, map, IfSome}
-use Rattle.std.specs.Prelude.{nat_eq}
+use Rattle.std.specs.Prelude.{nat_eq, ◌<◌, MatchResult, OnErr}
 use Rattle.std.specs.List.{sum}
 use Rattle.age_io.specs.Supply.{Supply, Consumes}
-use Rattle.age_io.specs.Taken.{Taken}
+use Rattle.age_io.specs.Taken.{Taken, Appends}
 use Rattle.age_io.specs.declared.failed.Failed.{Failed}
 
 -- ---- What a contract sees of a source, and of a sink.
@@ -24,6 +24,36 @@ pub record SinkView : Type 0 where
   pub failed : ℕ
   pub failing : Bool
   pub flushed : Bool
+
+-- ---- Counts of failures.
+
+-- a count after one more; it stays at the greatest value of its type
+abbrev pub one_more : ℕ → ℕ
+one_more n = min (n + 1) (2 ^ 64 - 1)
+
+-- a count of failures rose by one, or stayed at its greatest value, and the last call is the one
+-- that failed: no call came after it
+abbrev pub HasFailed : ℕ → ℕ → Bool → Type 0
+HasFailed old new failing = (new ≡ one_more old) × (failing ≡ true)
+
+-- a count of failures rose, or is at its greatest value
+abbrev pub HasRisen : ℕ → ℕ → Type 0
+HasRisen old new = (old < new) ⊎ (new ≡ 2 ^ 64 - 1)
+
+-- ---- What a write of some bytes did.
+
+-- the front of the bytes was taken and counted: all of them; or fewer, once a put failed, which is
+-- the only one that did, and the last
+pub record Writes {E : Type 0} (old new : SinkView) (written_old written_new : ℕ)
+    (bytes : List ℕ) (result : Result (Unit {0}) E) : Type 0 where
+  pub out : List ℕ
+  pub unwritten : List ℕ
+  pub parts : bytes ≡ out ++ unwritten
+  pub wrote : Appends old.taken new.taken out
+  pub count : written_new ≡ written_old + length out
+  pub answered : MatchResult result (λ _. (unwritten ≡ []) × (new.failed ≡ old.failed))
+      (λ _. HasFailed old.failed new.failed new.failing)
+  pub stopped : OnErr result (0 < length unwritten)
 
 -- ---- What a meter counts.
 
@@ -104,10 +134,6 @@ ShowsReading size coming left old new = IfSome old (λ before.
     × (new ≡ Some (before ++ Begins size ∷ (map Advances counts ++ Ends ∷ []))))
 
 -- ---- Sources and sinks over memory: what each call returns and leaves, by their plan of failures.
-
--- a count after one more; it stays at the greatest value of its type
-abbrev pub one_more : ℕ → ℕ
-one_more n = min (n + 1) (2 ^ 64 - 1)
 
 -- the bytes of a source over memory
 abbrev pub memory_supply : List ℕ → List ℕ → Supply

@@ -9,6 +9,11 @@ use thiserror::Error;
 #[error("a source or a sink failed")]
 pub struct Failed;
 
+/// A sink failed, so it took not all of some bytes, or didn't send on what it had taken.
+#[derive(Clone, Copy, Debug, PartialEq, Eq, Error)]
+#[error("a sink failed")]
+pub struct Unsent;
+
 /// Out of memory.
 #[derive(Clone, Copy, Debug, PartialEq, Eq, Error)]
 #[error("out of memory")]

@@ -4,10 +4,9 @@
 //! `Writing` are those over std's readers and writers, `MemSource` and `MemSink` those over memory,
 //! which also show contracts their bytes, and fail at a call that is planned. A `Metered` source
 //! reports to a `Meter` how many bytes each pull gave. A `List` is what other crates keep elements
-//! in.
+//! in, a `Tape` shows contracts bytes that went by, and a `Seen` any other value.
 #![tactic(auto)]
 
-mod durability;
 mod failed;
 mod failures;
 mod list;
@@ -15,18 +14,21 @@ mod mem_sink;
 mod mem_source;
 mod meter;
 mod metered;
+mod put;
+mod seen;
 mod sink;
 mod source;
 mod tape;
 
-pub use durability::Durability;
-pub use failed::{Failed, Memory};
+pub use failed::{Failed, Memory, Unsent};
 pub use failures::Failures;
 pub use list::{Bytes, List};
 pub use mem_sink::MemSink;
 pub use mem_source::MemSource;
 pub use meter::Meter;
 pub use metered::Metered;
+pub use put::{flush_all, write_all};
+pub use seen::{Seen, Shows};
 pub use sink::{Sink, Writing};
 pub use source::{Reading, Source};
 pub use tape::Tape;

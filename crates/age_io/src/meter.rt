@@ -1,6 +1,6 @@
 //! What counts how far a run has come.
 
-ghost use Rattle.std.specs.Prelude.{◌≡◌, ℕ, List, Option, None, option_and_then};
+ghost use Rattle.std.specs.Prelude.{◌≡◌, ℕ, List, Option, None};
 ghost use Rattle.age_io.specs.{begun, counted, Adds, Advances, Begins, Ends, Shown};
 
 /// Counts how far a run has come, in bytes. No method returns anything, so code that is generic
@@ -26,29 +26,4 @@ pub trait Meter {
     fn end(&mut self)
         ensures count { count self.new ≡ count self.old }
         ensures shown { Adds (shown self.old) (shown self.new) Ends };
-}
-
-/// A meter, if one is wanted; `None` counts nothing.
-impl<M: Meter> Meter for Option<M> {
-    ghost count = { option_and_then M.count };
-
-    ghost shown = { option_and_then M.shown };
-
-    fn begin(&mut self, length: Option<u64>) {
-        if let Some(meter) = self {
-            meter.begin(length);
-        }
-    }
-
-    fn advance(&mut self, bytes: u64) {
-        if let Some(meter) = self {
-            meter.advance(bytes);
-        }
-    }
-
-    fn end(&mut self) {
-        if let Some(meter) = self {
-            meter.end();
-        }
-    }
 }

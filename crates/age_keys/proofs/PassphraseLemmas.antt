@@ -1,6 +1,6 @@
 -- What the passphrase that a header was made for finds in it.
 use Rattle.std.proofs.lemmas.Grind.{common_steps}
-use Rattle.std.proofs.Common.{◌≡◌, ℕ, ◌+◌, ◌≤◌, Option, Some, None, Result, List, ◌≢◌, true, [], ◌∷◌, length, get_or, replicate, refl, sym, ap, ap₂, ◌∙◌, arith}
+use Rattle.std.proofs.Common.{◌≡◌, ℕ, ◌+◌, ◌≤◌, Option, Some, None, Result, List, ◌≢◌, true, [], ◌∷◌, length, replicate, refl, sym, ap, ap₂, ◌∙◌, arith}
 use Rattle.std.specs.Fmt.{decimal}
 use Rattle.std.specs.Option.{ok_or}
 use Rattle.std.specs.Prelude.{IfSome, IfNone, MatchResult}
@@ -107,9 +107,9 @@ own w log salt key some few size fits key_size =
       refl,
     )
 
-own_mac : (w : PassphraseIdentity) (log : ℕ) (salt key : List ℕ) → IsMacOf (scrypt_head w.pass log salt key) key
+pub mac_holds : (pass : List ℕ) (log : ℕ) (salt key : List ℕ) → IsMacOf (scrypt_head pass log salt key) key
 unfolding scrypt_head header_mac
-own_mac w log salt key = refl
+mac_holds pass log salt key = refl
 
 own_type : (w : PassphraseIdentity) (log : ℕ) (salt key : List ℕ) → has_scrypt (scrypt_head w.pass log salt key) ≡ true
 unfolding scrypt_head scrypt_stanza
@@ -147,5 +147,5 @@ opens_alone w log salt key some few within size fits key_size =
       allowed = record { only = has.0; within = within'; opens = has.2 };
       no_other = λ other found. other_key w h key other has.0 has.2 found;
       never = only_memory w h key has.0 has.2 within' (own_type w log salt key);
-      mac = own_mac w log salt key;
+      mac = mac_holds w.pass log salt key;
     }

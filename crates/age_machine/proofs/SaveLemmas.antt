@@ -13,7 +13,7 @@ use Rattle.age_calls.proofs.DiskLemmas.{path_same, path_other, file_same, sized_
 use Rattle.age_machine.specs.inner.{Has, IsAbout, Gets, IsAtPath, StaysSound, WritesOver, CutsOff, IsNaming, Names, TakesOver}
 use Rattle.std.proofs.lemmas.List.{take_at, drop_at, take_all, drop-drop, length-take-le}
 use Rattle.std.proofs.lemmas.List.Elements.{Contains-append_left, Contains-append_right}
-use Rattle.age_io.specs.declared.durability.Durability.{Durability}
+use Rattle.age_options.specs.declared.Durability.{Durability}
 use Rattle.age_machine.specs.declared.replacing.Spot.{Spot}
 use Rattle.age_machine.specs.declared.replacing.Spot.TheVariants as spot
 

@@ -1,6 +1,6 @@
 -- What is known of a file that was made beside a path, to be put there later.
 use Rattle.std.specs.Prelude.{◌≡◌, ◌≢◌, ℕ, List, ◌∷◌, false, Some, Contains, Result}
-use Rattle.age_io.specs.declared.durability.Durability.{Durability}
+use Rattle.age_options.specs.declared.Durability.{Durability}
 use Rattle.age_calls.specs.Calls.{FileCall, Made, Missing, Renamed, Removed, Reclaimed}
 use Rattle.age_calls.specs.Disk.{Disk, after_calls}
 use Rattle.age_calls.specs.Saved.{PutsAtOnce}

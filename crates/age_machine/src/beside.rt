@@ -2,7 +2,7 @@
 
 ghost use Rattle.std.specs.Prelude.{◌≡◌, ◌≢◌, ◌⊎◌, ◌≤◌, ◌<◌, ◌∷◌, string_bytes, IfOk, IfErr, OnOk};
 ghost use Rattle.std.specs.Prelude.{OnErr, MatchOption, length};
-ghost use Rattle.age_io.specs.declared.durability.Durability.TheVariants as wait;
+ghost use Rattle.age_options.specs.declared.Durability.TheVariants as wait;
 ghost use Rattle.age_calls.specs.Calls.{Broke, Synced, Unwaited, Waited};
 ghost use Rattle.age_calls.specs.Saves.{IsNumbered};
 ghost use Rattle.age_machine.specs.Beside.{IsKept, Reclaims};
@@ -11,7 +11,7 @@ ghost use Rattle.age_machine.specs.inner.Steps.{IsAbout, StaysSound, WritesOver}
 
 use crate::machine::Machine;
 use crate::room::ROOM;
-use age_io::Durability;
+use age_options::Durability;
 use std::alloc::{AllocError, Global};
 use std::io;
 

@@ -4,18 +4,17 @@ ghost use Rattle.std.specs.Prelude.{◌≡◌, ◌+◌, ◌<◌, [], ◌∷◌, 
 ghost use Rattle.std.specs.Prelude.{IfErr, OnOk, OnErr};
 ghost use Rattle.std.specs.Io.{WritesAtMost};
 ghost use Rattle.age_calls.specs.{Made, Opened, Broke, Waited, CountsFailure};
-ghost use Rattle.age_machine.specs.{number_of};
+ghost use Rattle.age_names.specs.{number_of};
 ghost use Rattle.age_machine.specs.inner.Locks.{SaysNoLocks, HasNoLocks};
 
 use crate::calls;
-use crate::folder::{Folder, check_same, folder_of};
 use crate::machine::{Machine, Shape, Sight};
-use crate::node::{Node, found_at, is_at};
 use crate::notes::{Calls, FailedCalls, Word};
 use crate::retry::{TRIES, is_to_retry, too_many_tries};
 use crate::room::reclaim;
 use crate::waiting::{sync, wait_for};
 use age_calls::Kind;
+use age_names::{Folder, Node, check_same, folder_of, found_at, is_at, led_to};
 use std::fs::{self, File, Metadata, TryLockError};
 use std::io;
 use std::os::fd::AsRawFd;
@@ -66,10 +65,9 @@ pub fn sync_folder(rt: &HostRuntime, path: &str) -> io::Result<bool> {
 /// in a sticky folder, if it protects these. A file that is removed just before is made with this
 /// mode.
 pub fn open_to_write(rt: &HostRuntime, name: &str, mode: u32) -> io::Result<Option<File>> {
-    match fs::metadata(rt, name) {
-        Ok(_) => Ok(Some(calls::open_or_make(rt, name, false, mode)?)),
-        Err(error) if error.kind() == io::ErrorKind::NotFound => Ok(None),
-        Err(error) => Err(error),
+    match led_to(rt, name)? {
+        Some(_) => Ok(Some(calls::open_or_make(rt, name, false, mode)?)),
+        None => Ok(None),
     }
 }
 

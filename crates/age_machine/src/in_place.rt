@@ -4,7 +4,7 @@ ghost use Rattle.std.specs.Prelude.{◌≡◌, ◌≢◌, ◌⊎◌, ◌≤◌, 
 ghost use Rattle.std.specs.Prelude.{take, string_bytes, true, false, is_some, IfOk, OnOk};
 ghost use Rattle.std.specs.Prelude.{OnErr};
 ghost use Rattle.std.specs.Io.{WritesAtMost};
-ghost use Rattle.age_io.specs.declared.durability.Durability.TheVariants as wait;
+ghost use Rattle.age_options.specs.declared.Durability.TheVariants as wait;
 ghost use Rattle.age_calls.specs.Calls.{FileCall, Synced, Unwaited, Closed, ClosesLast, Locked, Unlockable};
 ghost use Rattle.age_calls.specs.Calls.{SyncedNames, UnwaitedNames, Waited};
 ghost use Rattle.age_calls.specs.Saves.{SavesWhole, IsSafe, IsThereAs};
@@ -17,7 +17,7 @@ use crate::beside::settle;
 use crate::machine::{Machine, Shape};
 use crate::replacing::settle_names;
 use age_calls::Opening;
-use age_io::Durability;
+use age_options::Durability;
 use std::io;
 use std::marker::Model;
 
@@ -249,11 +249,13 @@ impl<M: Machine + Drop> Out<M> {
         }
     }
 
-    /// Whether opening made it.
-    pub fn is_made(&self) -> bool
-        ensures { result ≡ self.now.file.is_made }
+    /// Its path, the file itself, and whether opening made it.
+    pub fn which(&self) -> (&str, &M::File, bool)
+        ensures path { result.0.now ≡ self.now.file.path }
+        ensures number { M.number result.1.now ≡ self.now.file.number }
+        ensures made { result.2 ≡ self.now.file.is_made }
     {
-        self.opening.is_made()
+        (self.path.as_str(), &self.file, self.opening.is_made())
     }
 
     /// Its path, at the end of all links.

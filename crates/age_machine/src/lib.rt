@@ -8,11 +8,9 @@
 
 mod beside;
 pub mod calls;
-mod folder;
 mod host;
 mod in_place;
 mod machine;
-mod node;
 mod notes;
 mod replacing;
 mod retry;
@@ -20,14 +18,12 @@ mod room;
 mod waiting;
 
 pub use beside::{Beside, Unplaced, prepare_beside};
-pub use folder::{Folder, check_same, folder_of};
 pub use host::{
     HostFile, HostMachine, POSITION_MODE, above_streams, kept_above, lock, open_to_write,
     sync_folder,
 };
 pub use in_place::{Ended, Out};
 pub use machine::{Machine, Shape, Sight};
-pub use node::{Node, found_at, is_at, numbers_are_apart};
 pub use replacing::{Spot, made_meanwhile, replace_by_kept, replace_by_new};
 pub use retry::{TRIES, is_to_retry, too_many_tries};
 pub use waiting::sync;

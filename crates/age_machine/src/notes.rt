@@ -1,16 +1,15 @@
 //! Which calls were made and how many have failed, for contracts alone.
 
 ghost use Rattle.std.specs.Prelude.{◌≡◌, ◌+◌, [], ◌∷◌, List, ℕ};
-ghost use Rattle.std.specs.Borrow.{ftrue};
 ghost use Rattle.std.specs.Coded.{coded_list};
 ghost use Rattle.age_calls.specs.Calls.{FileCall};
 ghost use Rattle.age_machine.specs.inner.Calls.{coded_call};
 
-use crate::node::Node;
 use crate::room::EmptyRoom;
 use crate::waiting::CantWait;
 use age_calls::Kind;
-use age_io::Tape;
+use age_io::{Seen, Shows, Tape};
+use age_names::Node;
 use std::marker::Model;
 
 /// A call, as the code notes it.
@@ -40,34 +39,32 @@ pub(crate) enum Word<'a> {
 #[derive(Clone, Copy)]
 enum Note<'a, 'b> {
     Nothing,
-    All(&'a Cell),
-    More(&'a Cell, Word<'b>),
+    All(&'a Seen<AllCalls>),
+    More(&'a Seen<AllCalls>, Word<'b>),
 }
 
-// Calls that no code holds, since the proof of `of` sets them.
+/// A list of calls, as contracts see it. No code makes one.
 #[derive(Drop)]
-struct Cell {
-    pub ghost calls: { List FileCall } by { coded_list coded_call },
+struct AllCalls {}
+
+impl Model for AllCalls {
+    ghost Value = { List FileCall };
+
+    ghost coded = { coded_list coded_call };
+
+    ghost view = { λ _. [] };
 }
 
-impl Model for Cell {
-    ghost also_owns = { λ _. ftrue };
-}
-
-impl Cell {
+impl Shows<AllCalls> for Note<'_, '_> {
     ghost use Rattle.age_machine.specs.inner.Notes.{calls_of};
 
-    fn of(_note: &Note<'_, '_>) -> Cell
-        ensures { result.calls ≡ calls_of _note.now }
-    {
-        Cell {}
-    }
+    ghost shows = { calls_of };
 }
 
 /// The calls that were made, the newest first, for contracts alone. It has no bytes at run time.
 #[derive(Drop)]
 pub(crate) struct Calls {
-    cell: Cell,
+    seen: Seen<AllCalls>,
 }
 
 impl Model for Calls {
@@ -75,7 +72,7 @@ impl Model for Calls {
 
     ghost coded = { coded_list coded_call };
 
-    ghost view = { λ calls. calls.cell.calls };
+    ghost view = { λ calls. calls.seen.value };
 }
 
 impl Calls {
@@ -86,7 +83,7 @@ impl Calls {
         ensures { result ≡ [] }
     {
         Calls {
-            cell: Cell::of(&Note::Nothing),
+            seen: Seen::of(&Note::Nothing),
         }
     }
 
@@ -95,7 +92,7 @@ impl Calls {
         ensures { result ≡ self.now }
     {
         Calls {
-            cell: Cell::of(&Note::All(&self.cell)),
+            seen: Seen::of(&Note::All(&self.seen)),
         }
     }
 
@@ -103,7 +100,7 @@ impl Calls {
     pub(crate) fn note(&mut self, word: &Word<'_>)
         ensures { self.new ≡ file_call_of word.now ∷ self.old }
     {
-        self.cell = Cell::of(&Note::More(&self.cell, *word));
+        self.seen = Seen::of(&Note::More(&self.seen, *word));
     }
 }
 

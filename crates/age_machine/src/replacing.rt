@@ -2,7 +2,7 @@
 
 ghost use Rattle.std.specs.Prelude.{◌≡◌, ◌≢◌, ◌⊎◌, ◌≤◌, ◌<◌, ◌∷◌, List, string_bytes, OnOk};
 ghost use Rattle.std.specs.Prelude.{OnErr, Err};
-ghost use Rattle.age_io.specs.declared.durability.Durability.TheVariants as wait;
+ghost use Rattle.age_options.specs.declared.Durability.TheVariants as wait;
 ghost use Rattle.age_calls.specs.Calls.{FileCall, Renamed, SyncedNames, UnwaitedNames, MayHave};
 ghost use Rattle.age_calls.specs.Calls.{Waited};
 ghost use Rattle.age_machine.specs.Beside.{Replaces};
@@ -14,7 +14,7 @@ ghost use Rattle.age_machine.specs.inner.Steps.{IsAbout, CutsOff, Gets, Names, T
 
 use crate::beside::{Beside, Unplaced, make_beside, settle, write_all};
 use crate::machine::Machine;
-use age_io::Durability;
+use age_options::Durability;
 use std::alloc::Global;
 use std::io;
 

@@ -3,7 +3,7 @@
 ghost use Rattle.std.specs.Prelude.{◌≡◌, IfOk, IfSome, replicate};
 
 use crate::calls;
-use crate::node::{found_at, is_at};
+use age_names::{found_at, is_at};
 use std::fs::{File, Metadata};
 use std::io;
 use std::os::unix::fs::{FileExt, MetadataExt};

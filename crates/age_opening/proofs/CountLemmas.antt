@@ -15,7 +15,7 @@ use Rattle.age_stream.specs.declared.step.Status.{Status}
 use Rattle.age_stream.specs.declared.step.Status.TheVariants.{Open}
 use Rattle.age_stream.proofs.LawLemmas.{closed_stays, end_closes}
 use Rattle.age_stream.proofs.GoingLemmas.{is_counted as chunks_are_counted, fresh_outcome as fresh_is_open, released_grows}
-use Rattle.age_stream.proofs.{piece_start, nothing}
+use Rattle.age_stream.proofs.{piece_nil, piece_start}
 use Rattle.age_chunk.proofs.{first_chunks-append, length-first_chunks}
 use Rattle.age_position.specs.declared.position.PositionPolicy.{PositionPolicy}
 use Rattle.age_position.specs.declared.position.PositionPolicy.TheVariants.{Kept, Dropped}
@@ -31,10 +31,6 @@ use Rattle.age_position.proofs.MarkLemmas.{wrote_none, wrote_then}
 -- a quotient that is met from below, or is the lesser of the two
 min_is : (x n i j : ℕ) → 0 < n → i * n ≤ x → i ≤ j → (x < (i + 1) * n) ⊎ (j ≡ i) → i ≡ min (x / n) j
 min_is x n i j h0 h1 h2 h3 = grind (arith, common_steps, cases_lt, le-div_iff_mul-le)
-
--- no bytes
-pub no_piece : (s : Segment) → with_piece s [] ≡ s
-no_piece s = nothing s.start s.bytes s.ended s.late
 
 -- the first chunks of the first ones
 pub take-first_chunks : (n i k : ℕ) (text : List ℕ) → i ≤ k → take i (first_chunks n k text) ≡ first_chunks n i text
@@ -114,7 +110,7 @@ module _ (sealing : List ℕ → List ℕ → List ℕ) (opening : List ℕ → 
       let text = base ++ released opening n s in
       let c = chunks_are_counted sealing opening valid n base s len in
       let x : length text - 0 ≡ length text = omega arith in
-      let e : p.index ≡ min (length text / n) (at s) = m.index [] ∙ (ap (λ (t : Segment). min ((length text - 0) / n) (at t)) (no_piece s)
+      let e : p.index ≡ min (length text / n) (at s) = m.index [] ∙ (ap (λ (t : Segment). min ((length text - 0) / n) (at t)) (piece_nil s)
       ∙ ap (λ (k : ℕ). min (k / n) (at s)) x) in
       let below : at s ≤ length text / n = (le-div_iff_mul-le positive).1 c.within in
       omega (arith, e, below)

@@ -29,12 +29,11 @@ use Rattle.age_position.specs.declared.position.PositionPolicy.{PositionPolicy}
 use Rattle.age_position.specs.declared.position.PositionPolicy.TheVariants.{Kept, Dropped}
 use Rattle.age_position.specs.{chain}
 use Rattle.age_opening.specs.inner.{segment}
-use Rattle.age_opening.proofs.StartLemmas.{prefix_trans}
 use Rattle.age_intake.proofs.ReadLemmas.{left_of, none_left, same_front}
 use Rattle.age_opening.proofs.RunLemmas.{authentic_start, position_carries, writes_of, writes_all, old_carries, Fits, given_fits}
 use Rattle.std.specs.List.{flat_map, enumerate_from}
 use Rattle.std.specs.Simd.{first_chunks}
-use Rattle.std.proofs.lemmas.Bool.{cases_lt, ltb-true, ltb-false}
+use Rattle.std.proofs.lemmas.Bool.{cases_lt, ltb-true, ltb-false, cond_both}
 use Rattle.std.proofs.Math.Bool.{or-false}
 use Rattle.std.proofs.lemmas.Nat.{div-mul-add, mul-le}
 use Rattle.std.proofs.Math.Nat.{div-mul-le_self, le-div_iff_mul-le}
@@ -42,7 +41,7 @@ use Rattle.age_chunk.proofs.{nonce_bytes-length, length-first_chunks, first_chun
 use Rattle.age_stream.specs.Segment.{Segment}
 use Rattle.age_stream.proofs.SegmentLemmas.{rest_payload as from_chunk, payload_is, length-bytes_of}
 use Rattle.age_stream.proofs.ChunkLemmas.{all_full}
-use Rattle.age_stream.proofs.{first_chunks-take, counted_are, stands_at, flat_first, by_test, opens_before, first_chunks-add, length-front_texts}
+use Rattle.age_stream.proofs.{first_chunks-take, counted_are, stands_at, flat_first, opens_before, first_chunks-add, length-front_texts, prefix_trans}
 use Rattle.age_stream.proofs.GoingLemmas.{is_counted as chunks_are_counted}
 use Rattle.age_stream.proofs.LawLemmas.{payload_is_longer}
 use Rattle.age_keys.specs.{box, unbox, payload_key, FileOf}
@@ -198,7 +197,7 @@ module _ (sealing : List ℕ → List ℕ → List ℕ) (opening : List ℕ → 
     alone : b.followed ≡ false
 
   ends : (b : Frontier) → (verdict opening b).status ≡ AllDone → Ends b (verdict opening b)
-  ends b = grind (arith, common_steps, by_test, some_of)
+  ends b = grind (arith, common_steps, cond_both, some_of)
 
   seals-append : (i : ℕ) (xs ys : List (List ℕ)) → seals i (xs ++ ys) ≡ seals i xs ++ seals (i + length xs) ys
   seals-append i [] ys = let e : i ≡ i + 0 = omega arith in ap (λ (k : ℕ). seals k ys) e

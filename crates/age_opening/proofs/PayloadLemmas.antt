@@ -1,14 +1,12 @@
 -- Decrypting a payload, call by call.
 use Rattle.std.proofs.lemmas.Grind.{common_steps}
-use Rattle.std.proofs.Common.{◌≡◌, ℕ, ◌+◌, ◌-◌, ◌*◌, ◌^◌, ◌<◌, ◌≤◌, sym, ap, subst, ◌∙◌, List, [], ◌++◌, length, take, drop, Option, None, Some, append-nil}
-use Rattle.std.proofs.Common.{append_assoc, take-append-drop, Bool, false, true, arith, refl}
+use Rattle.std.proofs.Common.{◌≡◌, ℕ, ◌+◌, ◌*◌, ◌^◌, ◌<◌, ◌≤◌, sym, ap, subst, ◌∙◌, List, [], ◌++◌, length, Option, append-nil}
+use Rattle.std.proofs.Common.{append_assoc, Bool, false, true, arith, refl}
 use Rattle.std.specs.Prelude.{Result, Ok, Err, ◌⊎◌, MatchResult, OnOk}
-use Rattle.std.specs.Borrow.{Bor}
-use Rattle.std.specs.Option.{unwrap_or}
-use Rattle.std.proofs.lemmas.List.{length-append, take_rest}
+use Rattle.std.proofs.lemmas.List.{length-append}
 use Rattle.age_chunk.specs.{IsChunkBox}
-use Rattle.age_stream.specs.{chunk_bytes, IsPrefixOf, with_piece, outcome, released, OpenerView, has_failed}
-use Rattle.age_stream.proofs.GoingLemmas.{released_grows}
+use Rattle.age_stream.specs.{IsPrefixOf, with_piece, outcome, released, OpenerView, has_failed}
+use Rattle.age_stream.proofs.GoingLemmas.{released_grows, piece_nil}
 use Rattle.age_fault.specs.declared.fault.FileFault.{FileFault}
 use Rattle.age_fault.specs.declared.fault.FileFault.TheVariants.{Stream, Write, Read, ReadNeverEnds}
 use Rattle.age_position.specs.inner.{WriterView}
@@ -21,17 +19,7 @@ use Rattle.age_io.specs.{SourceView, IsAtEnd}
 use Rattle.age_position.specs.declared.position.PositionPolicy.{PositionPolicy}
 use Rattle.age_stream.specs.declared.step.Status.TheVariants.{Failed, Done}
 use Rattle.age_stream.specs.Segment.{Segment}
-use Rattle.age_opening.proofs.CountLemmas.{no_piece, marked}
-
--- the block that a step lent, or none
-pub lent : (chunk : Option (Bor (List ℕ))) (none : Bor (List ℕ)) → none.now ≡ [] → chunk_bytes chunk ≡ (unwrap_or chunk none).now
-lent None none e = sym e
-lent (Some block) none e = refl
-
--- the front of a piece and its rest, after a text
-pub rejoined : (text piece : List ℕ) (at : ℕ) → (text ++ take at piece) ++ take (length piece - at) (drop at piece) ≡ text ++ piece
-rejoined text piece at = append_assoc text (take at piece) (take (length piece - at) (drop at piece))
-    ∙ ap (λ (t : List ℕ). text ++ t) (ap (λ (t : List ℕ). take at piece ++ t) (take_rest piece at) ∙ take-append-drop at piece)
+use Rattle.age_opening.proofs.CountLemmas.{marked}
 
 -- ---- What flows from a source through an opener to a sink, one turn after another. A chunk has n
 -- bytes.
@@ -258,7 +246,7 @@ module _ {B : Type 0} (sealing : B → List ℕ → List ℕ → List ℕ) (open
           pulled = f.pulled;
           at_end = λ x. t.at_end;
           wrote = all.wrote;
-          counts = counted [] (segment k f.fed true) (no_piece (segment k f.fed true)) all;
+          counts = counted [] (segment k f.fed true) (piece_nil (segment k f.fed true)) all;
           prefix = (end.unwritten, sym all.text);
           answered = done_or_fails c old mid now f.fed all.out end.unwritten result t.same all.text (status_of all) end.answered;
           flushed = flushed;

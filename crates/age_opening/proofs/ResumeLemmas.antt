@@ -3,10 +3,9 @@ use Rattle.std.proofs.lemmas.Grind.{common_steps}
 use Rattle.std.proofs.Common.{Some, None, refl, ◌≡◌, ℕ, List, [], ◌++◌, ap, arith, append_assoc, suc, ◌+◌, ◌*◌, ◌<◌, Err, ◌∷◌, length, take, drop, sym, subst}
 use Rattle.std.proofs.Common.{◌∙◌, append-nil, ◌≤◌, Option, inl, inr, ◌^◌, ◌/◌}
 use Rattle.std.specs.Prelude.{Result, ◌⊎◌, IfSome}
-use Rattle.age_io.specs.{SourceView, SinkView, Consumes}
+use Rattle.age_io.specs.{SourceView, SinkView, Consumes, HasFailed}
 use Rattle.age_stanza.specs.declared.header.Header.{Header}
 use Rattle.age_fault.specs.declared.key.KeyFault.{KeyFault}
-use Rattle.age_fault.specs.{HasFailed}
 use Rattle.age_fault.specs.declared.fault.FileFault.{FileFault}
 use Rattle.age_fault.specs.declared.fault.FileFault.TheVariants.{ShortText, Read, Write, ReadNeverEnds, OldTextDiffers, Stream, OtherFile, PositionForged}
 use Rattle.age_opening.specs.Decrypts.{StartFails, Beginning, DecryptsMarked, from_start}
@@ -31,9 +30,10 @@ use Rattle.std.proofs.Math.Seq.{drop-append_seam}
 use Rattle.std.specs.Simd.{first_chunks}
 use Rattle.age_chunk.proofs.{first_chunks-append, first_chunks_more}
 use Rattle.age_stream.specs.{IsPrefixOf}
+use Rattle.age_stream.proofs.{prefix_trans}
 use Rattle.sha2.specs.Hashers.{Holds256}
 use Rattle.sha2.specs.declared.Sha256.{Sha256}
-use Rattle.age_opening.proofs.StartLemmas.{within, prefix_trans, longer, counted_on, counted_back, no_more_since}
+use Rattle.age_opening.proofs.StartLemmas.{within, longer, counted_on, counted_back, no_more_since}
 use Rattle.age_intake.proofs.ReadLemmas.{left_of}
 use Rattle.age_position.proofs.MarkLemmas.{wrote_then}
 use Rattle.age_io.specs.Supply.{Supply}

@@ -13,7 +13,7 @@ use Rattle.age_stream.specs.{IsPrefixOf}
 use Rattle.age_stream.specs.declared.step.Status.TheVariants.{Done as AllDone}
 use Rattle.age_stream.proofs.SegmentLemmas.{segment_right as released_is_written}
 use Rattle.age_keys.specs.{payload_key, box, unbox, position_key}
-use Rattle.age_keys.specs.inner.{box_valid}
+use Rattle.age_keys.specs.inner.{box_valid, opens}
 use Rattle.age_position.specs.{chain, chain_if}
 use Rattle.age_opening.specs.Runs.{Run, IsFromStart, segment_of, run_outcome, run_text, held, IsTexts, CarriesText, IsAuthenticRun, IsPositionOf, OpenedFile}
 use Rattle.age_opening.specs.Runs.{IsRun, GivesPosition, PayloadFails, StopsInPayload, IsDone, IsMarked, IsPositionWithin, FindsMarks}
@@ -28,12 +28,12 @@ use Rattle.age_opening.specs.InARow.{IsSame, BegunRun, BeginsAfter, held_last, A
 use Rattle.age_opening.specs.Resumes.{IsOldText, BeginsWith, IsFrom, Resumption, WritesOld}
 use Rattle.age_opening.specs.Decrypts.{Beginning, DecryptsMarked}
 use Rattle.age_intake.proofs.ReadLemmas.{left_of, same_front}
-use Rattle.age_opening.proofs.StartLemmas.{prefix_trans}
+use Rattle.age_stream.proofs.{prefix_trans}
 use Rattle.age_io.specs.{Consumes, SourceView, SinkView}
 use Rattle.age_io.specs.Taken.{Appends}
 use Rattle.age_stanza.specs.declared.header.Header.{Header}
 use Rattle.age_fault.specs.declared.fault.FileFault.{FileFault}
-use Rattle.age_opening.specs.inner.{marks_over, StartsAt, opens, IsPositionAt, PositionAt, EndsAs, HasPlace, HasCounted, DecryptsPayload, SegmentDone}
+use Rattle.age_opening.specs.inner.{marks_over, StartsAt, IsPositionAt, PositionAt, EndsAs, HasPlace, HasCounted, DecryptsPayload, SegmentDone}
 use Rattle.age_opening.specs.inner.{SegmentFails, Stage, ports_at, start_after}
 
 -- ---- What a run wrote of a text, if what opens is the writer's; and its position.

@@ -2,19 +2,16 @@
 use Rattle.std.proofs.lemmas.Grind.{common_steps}
 use Rattle.std.proofs.Common.{◌≡◌, ℕ, ◌≤◌, List, [], ◌++◌, length, take, drop, refl, sym, ap, subst, ◌∙◌, append_assoc, append-nil, inl, inr, arith, ◌<◌, ◌*◌}
 use Rattle.std.proofs.Common.{◌/◌}
-use Rattle.std.specs.Prelude.{Result, Ok, Err, MatchResult, IfErr}
 use Rattle.age_io.specs.Supply.{Supply}
-use Rattle.age_io.specs.{SourceView}
+use Rattle.age_io.specs.{SourceView, HasFailed}
 use Rattle.std.proofs.lemmas.List.{take-append-drop, length-take-le, length-append}
 use Rattle.age_stanza.specs.declared.header.Header.{Header}
 use Rattle.age_io.proofs.{Consumes-nil}
-use Rattle.age_stream.specs.{IsPrefixOf}
 use Rattle.age_opening.specs.Decrypts.{StartFails, InNonce}
 use Rattle.age_position.specs.{file_id}
 use Rattle.age_opening.specs.declared.start.Unlocked.{Unlocked}
 use Rattle.age_intake.specs.declared.head.Head.{Head as TheHead}
 use Rattle.age_fault.specs.inner.{fault_of_key}
-use Rattle.age_fault.specs.{HasFailed}
 use Rattle.age_fault.specs.declared.fault.FileFault.{FileFault}
 use Rattle.age_fault.specs.declared.fault.FileFault.TheVariants.{Read, ReadNeverEnds, NonceCut, Stream}
 use Rattle.age_intake.specs.{start_at, Pulled, ReaderView, reader_view, ReadsHead, Unread, Passes}
@@ -28,10 +25,6 @@ use Rattle.age_intake.proofs.ReadLemmas.{same_front, cut_pulled, pull_fails_sinc
 
 -- ---- Bytes that are shown, one call after another.
 
--- a beginning of a beginning
-pub prefix_trans : (x y z : List ℕ) → IsPrefixOf x y → IsPrefixOf y z → IsPrefixOf x z
-prefix_trans x y z p q = (p.0 ++ q.0, sym (append_assoc x p.0 q.0) ∙ (ap (λ (t : List ℕ). t ++ q.0) p.1 ∙ q.1))
-
 -- the longer of two beginnings of the same bytes
 pub longer : (xs ys a b : List ℕ) → xs ++ a ≡ ys ++ b → length xs ≤ length ys → (more : List ℕ) × (ys ≡ xs ++ more) × (a ≡ more ++ b)
 longer xs ys a b e le =
@@ -43,10 +36,6 @@ longer xs ys a b e le =
       sym parts ∙ ap (λ (t : List ℕ). t ++ drop n ys) (sym same.0),
       same.1,
     )
-
--- what was read of a file, part by part
-pub regroup : (front nonce behind rest : List ℕ) → ((front ++ nonce) ++ behind) ++ rest ≡ front ++ (nonce ++ (behind ++ rest))
-regroup front nonce behind rest = append_assoc (front ++ nonce) behind rest ∙ append_assoc front nonce (behind ++ rest)
 
 -- ---- the pulls of a call, over its two sources
 
@@ -140,11 +129,3 @@ pub skip_fails : (n blocks : ℕ) {k : ℕ} {x z : ReaderView} {p : List ℕ} {f
     → Dries (Stream (record { kind = Truncated; chunk = k })) x z p fault → k ≡ length p / n → SkipFails n blocks x z fault
 skip_fails n blocks {k} {x} {z} {p} {fault} lt d e =
     (p, lt, subst (λ (i : ℕ). Dries (Stream (record { kind = Truncated; chunk = i })) x z p fault) e d)
-
--- ---- Results in other words.
-
--- an answer in other words, if it is known which fault comes
-pub answer_as : {T E : Type 0} {A B : T → Type 0} {C D Q : E → Type 0} (r : Result T E) → MatchResult r A C → IfErr r Q → ((x : T) → A x → B x)
-    → ((y : E) → Q y → C y → D y) → MatchResult r B D
-answer_as (Ok x) a q f g = f x a
-answer_as (Err y) a q f g = g y q a

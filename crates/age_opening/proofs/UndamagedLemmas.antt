@@ -36,7 +36,7 @@ use Rattle.age_position.specs.declared.position.PositionPolicy.{PositionPolicy}
 use Rattle.age_opening.specs.declared.decryption.Done.{Done}
 use Rattle.age_opening.specs.inner.{segment}
 use Rattle.age_intake.proofs.ReadLemmas.{fault_of_all, left_of, none_left, same_front}
-use Rattle.age_opening.proofs.StartLemmas.{regroup}
+use Rattle.age_stanza.proofs.PlaceLemmas.{three_parts}
 use Rattle.age_opening.proofs.RunLemmas.{writes_all, none_before, begins_fits}
 use Rattle.std.specs.Simd.{first_chunks}
 use Rattle.age_chunk.proofs.{first_chunks-append}
@@ -131,7 +131,7 @@ module _ (one : OneHeader) {Allows : Header → List ℕ → Type 0} {Refused : 
   opened_as {after} {f} {behind} r =
       let front = f.header_bytes in
       let t = left_of coming after u.bytes ((front ++ f.nonce) ++ behind) u.all r.read in
-      let same = fronts f.header front (f.nonce ++ (behind ++ t.0)) r.text (t.1 ∙ regroup front f.nonce behind t.0) in
+      let same = fronts f.header front (f.nonce ++ (behind ++ t.0)) r.text (t.1 ∙ three_parts front f.nonce behind t.0) in
       let both = same_front f.nonce u.nonce (behind ++ t.0) all (r.size ∙ sym u.file.size) same.rest_is in
       record {
         front_is = same.front_is;

@@ -3,13 +3,12 @@ use Rattle.std.specs.Prelude.{◌≡◌, ◌≢◌, ℕ, List, ◌++◌, length,
 use Rattle.std.specs.Prelude.{◌/◌, ◌+◌, ◌<◌, None}
 use Rattle.age_io.specs.Taken.{Appends}
 use Rattle.age_io.specs.Supply.{Supply}
-use Rattle.age_io.specs.{Consumes, IsAtEnd, SourceView}
+use Rattle.age_io.specs.{Consumes, IsAtEnd, SourceView, HasFailed}
 use Rattle.age_stanza.specs.declared.header.Header.{Header}
 use Rattle.age_chunk.specs.{chunk_length, block_length, chunk_count}
 use Rattle.age_chunk.specs.declared.fault.StreamKind.TheVariants.{Truncated}
 use Rattle.age_stream.specs.{IsPrefixOf}
 use Rattle.age_fault.specs.declared.key.KeyFault.{KeyFault}
-use Rattle.age_fault.specs.{HasFailed}
 use Rattle.age_fault.specs.declared.fault.FileFault.{FileFault}
 use Rattle.age_fault.specs.declared.fault.FileFault.TheVariants.{Stream, OtherFile, ShortText, Read}
 use Rattle.age_fault.specs.declared.fault.FileFault.TheVariants.{Write, ReadNeverEnds}

@@ -3,10 +3,9 @@ use Rattle.std.specs.Prelude.{◌≡◌, ℕ, ◌+◌, ◌*◌, ◌^◌, ◌<◌
 use Rattle.std.specs.Prelude.{Result, Ok, Err, Bool, true, false, ◌⊎◌, Some, None, ◌/◌, ◌≢◌, IsSome}
 use Rattle.std.specs.Prelude.{MatchResult, ◌-◌, min, OnOk, IsSomeAnd}
 use Rattle.age_io.specs.Supply.{Supply}
-use Rattle.age_io.specs.{IsAtEnd, SourceView, SinkView}
+use Rattle.age_io.specs.{IsAtEnd, SourceView, SinkView, HasFailed}
 use Rattle.age_stanza.specs.{HeadText}
 use Rattle.age_stanza.specs.declared.header.Header.{Header}
-use Rattle.age_fault.specs.{HasFailed}
 use Rattle.age_fault.specs.declared.fault.FileFault.{FileFault}
 use Rattle.age_fault.specs.declared.fault.FileFault.TheVariants.{Read, ReadNeverEnds, NonceCut}
 use Rattle.age_fault.specs.declared.fault.FileFault.TheVariants.{Stream, ShortText, Write}
@@ -33,7 +32,7 @@ use Rattle.age_position.specs.declared.position.PositionPolicy.{PositionPolicy}
 use Rattle.age_position.specs.declared.position.PositionPolicy.TheVariants.{Kept}
 use Rattle.age_opening.specs.declared.start.Unlocked.{Unlocked}
 use Rattle.age_stream.specs.Segment.{Segment}
-use Rattle.age_cipher.specs.{sealing, opening}
+use Rattle.age_keys.specs.inner.{opens}
 use Rattle.age_opening.specs.declared.decryption.Done.{Done}
 use Rattle.age_opening.specs.declared.decryption.Stopped.{Stopped}
 use Rattle.age_opening.specs.Decrypts.{StartFails}
@@ -350,14 +349,6 @@ module _ {B : Type 0} (opening : B → List ℕ → List ℕ → Option (List �
   EndsFeed old new was now result = (key : B) (k : ℕ) (first : WriterView) (fed : List ℕ)
       → HasReleased key first old was (segment k fed false) []
       → ClosesPayload key k first new was now fed result
-
--- ---- How a payload key seals and opens a chunk, without associated data (RFC 8439, 2.8).
-
-abbrev pub seals : List ℕ → List ℕ → List ℕ → List ℕ
-seals key nonce text = sealing key nonce [] text
-
-abbrev pub opens : List ℕ → List ℕ → List ℕ → Option (List ℕ)
-opens key nonce block = opening key nonce [] block
 
 -- ---- What a decryption did.
 

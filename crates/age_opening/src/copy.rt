@@ -9,9 +9,9 @@ ghost use Rattle.age_opening.specs.inner.{CanCopy, CopiesChunk, CopiesAll};
 ghost use Rattle.age_chunk.specs.{chunk_length, chunk_limit};
 
 use crate::start::need_bytes;
-use age_fault::{FileFault, write_all};
+use age_fault::FileFault;
 use age_intake::Reader;
-use age_io::{Sink, Source, Tape};
+use age_io::{Sink, Source, Tape, write_all};
 use age_position::Writer;
 use age_stream::CHUNK_LEN;
 use sha2::Digest;

@@ -2,15 +2,16 @@
 
 ghost use Rattle.std.specs.Prelude.{◌≡◌, ◌+◌, ◌^◌, ◌<◌, length, OnOk, true, false};
 ghost use Rattle.age_stream.specs.{has_failed};
-ghost use Rattle.age_opening.specs.inner.{opens, FeedsPiece, FeedGoes, EndsFeed, HasPlace};
+ghost use Rattle.age_keys.specs.inner.{opens};
+ghost use Rattle.age_opening.specs.inner.{FeedsPiece, FeedGoes, EndsFeed, HasPlace};
 ghost use Rattle.age_opening.specs.inner.{DecryptsPayload, stage_of};
 ghost use Rattle.age_position.specs.inner.{view_of_writer, SameWriter};
 ghost use Rattle.age_intake.specs.{SameReader};
 ghost use Rattle.age_chunk.specs.{chunk_length, chunk_limit};
 
-use age_fault::{FileFault, flush_all, write_all};
+use age_fault::FileFault;
 use age_intake::Reader;
-use age_io::{Sink, Source};
+use age_io::{Sink, Source, flush_all, write_all};
 use age_keys::PayloadKey;
 use age_position::Writer;
 use age_stream::{BLOCK_LEN, Opener};
@@ -59,7 +60,7 @@ fn finish<O: Sink>(
 {
     let text = opener.end()?;
     write_all(writer.sink, text, &mut writer.tally.written)?;
-    flush_all(writer.sink)
+    Ok(flush_all(writer.sink)?)
 }
 
 /// Opens what a source gives from a chunk on, up to its end, and writes each chunk once its tag has

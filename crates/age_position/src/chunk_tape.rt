@@ -1,43 +1,27 @@
 //! The chunks of a plaintext, for contracts alone.
 
 ghost use Rattle.std.specs.Prelude.{◌≡◌, [], ◌∷◌, ◌++◌, List, ℕ, option_map, unwrap_or};
-ghost use Rattle.std.specs.Borrow.{ftrue};
 ghost use Rattle.std.specs.Coded.{coded_list, coded_ℕ};
 
-use age_io::Tape;
+use age_io::{Bytes, List, Seen, Shows, Tape};
 use std::marker::Model;
 
 /// The chunks before, if any, and one more.
 #[derive(Clone, Copy)]
 struct Grown<'a, 'b> {
-    before: Option<&'a Cell>,
+    before: Option<&'a Seen<List<Bytes>>>,
     chunk: Option<&'b Tape>,
 }
 
-// Chunks that no code holds: the proof of `of` sets them.
-#[derive(Drop)]
-struct Cell {
-    pub ghost chunks: { List (List ℕ) } by { coded_list (coded_list coded_ℕ) },
-}
-
-impl Model for Cell {
-    ghost also_owns = { λ _. ftrue };
-}
-
-impl Cell {
-    fn of(_grown: &Grown<'_, '_>) -> Cell
-        ensures { result.chunks
-            ≡ unwrap_or (option_map (λ b. b.now.chunks) _grown.now.before) []
-            ++ unwrap_or (option_map (λ t. t.now ∷ []) _grown.now.chunk) [] }
-    {
-        Cell {}
-    }
+impl Shows<List<Bytes>> for Grown<'_, '_> {
+    ghost shows = { λ grown. unwrap_or (option_map (λ b. b.now.value) grown.before) []
+        ++ unwrap_or (option_map (λ t. t.now ∷ []) grown.chunk) [] };
 }
 
 /// The chunks that went by, in order, for contracts alone. It has no bytes at run time.
 #[derive(Drop)]
 pub(crate) struct ChunkTape {
-    cell: Cell,
+    chunks: Seen<List<Bytes>>,
 }
 
 impl Model for ChunkTape {
@@ -45,7 +29,7 @@ impl Model for ChunkTape {
 
     ghost coded = { coded_list (coded_list coded_ℕ) };
 
-    ghost view = { λ tape. tape.cell.chunks };
+    ghost view = { λ tape. tape.chunks.value };
 }
 
 impl ChunkTape {
@@ -58,7 +42,7 @@ impl ChunkTape {
             chunk: None,
         };
         ChunkTape {
-            cell: Cell::of(&grown),
+            chunks: Seen::of(&grown),
         }
     }
 
@@ -67,11 +51,11 @@ impl ChunkTape {
         ensures { result ≡ self.now }
     {
         let grown = Grown {
-            before: Some(&self.cell),
+            before: Some(&self.chunks),
             chunk: None,
         };
         ChunkTape {
-            cell: Cell::of(&grown),
+            chunks: Seen::of(&grown),
         }
     }
 
@@ -80,9 +64,9 @@ impl ChunkTape {
         ensures { self.new ≡ self.old ++ chunk.now ∷ [] }
     {
         let grown = Grown {
-            before: Some(&self.cell),
+            before: Some(&self.chunks),
             chunk: Some(chunk),
         };
-        self.cell = Cell::of(&grown);
+        self.chunks = Seen::of(&grown);
     }
 }

@@ -1,14 +1,13 @@
 -- Sealing a source, call by call, and what of an age file was written.
 use Rattle.std.proofs.lemmas.Grind.{common_steps, flat_map-append}
-use Rattle.std.proofs.Common.{◌≡◌, ℕ, ◌≤◌, List, [], ◌++◌, length, take, drop, Option, Some, None, refl, sym, ap, subst, ◌∙◌, append_assoc, append-nil, arith}
+use Rattle.std.proofs.Common.{◌≡◌, ℕ, ◌≤◌, List, [], ◌++◌, length, Option, Some, None, refl, sym, ap, subst, ◌∙◌, append_assoc, append-nil, arith}
 use Rattle.std.proofs.Common.{◌<◌, ◌*◌, ◌+◌, ◌-◌, ◌^◌, false, true, ◌∷◌, IfOk}
-use Rattle.std.specs.Prelude.{Result, Ok, Err, MatchResult, IfErr, IfSome}
-use Rattle.age_io.specs.{SourceView, SinkView}
-use Rattle.std.proofs.lemmas.List.{take-append-drop, length-append, length-drop, take_rest}
+use Rattle.std.specs.Prelude.{Result, Ok, Err, IfErr, IfSome}
+use Rattle.age_io.specs.{SourceView, SinkView, HasFailed}
+use Rattle.std.proofs.lemmas.List.{length-append, length-drop}
 use Rattle.age_io.proofs.{Consumes-nil, Appends-trans}
-use Rattle.age_stream.specs.{IsPrefixOf, SealerView, Holds, needs_too_many, too_many, chunk_bytes}
+use Rattle.age_stream.specs.{IsPrefixOf, SealerView, Holds, needs_too_many, too_many}
 use Rattle.age_intake.specs.{Ports, ports, start_at, Pulled, PullFails, ReaderView, NoneFailed}
-use Rattle.age_fault.specs.{HasFailed}
 use Rattle.age_fault.specs.declared.fault.FileFault.{FileFault}
 use Rattle.age_fault.specs.declared.fault.FileFault.TheVariants.{Stream, Write, Memory}
 use Rattle.age_position.specs.inner.{WriterView, Wrote}
@@ -22,27 +21,15 @@ use Rattle.age_chunk.specs.{IsChunkBox, chunk_limit, last_index, block_length, p
 use Rattle.age_chunk.specs.declared.fault.StreamFault.{StreamFault}
 use Rattle.age_stream.proofs.LawLemmas.{payload_is_longer}
 use Rattle.age_stream.proofs.ChunkLemmas.{sealed_grows}
+use Rattle.age_stream.proofs.{prefix_trans}
 use Rattle.age_sealing.specs.inner.{front_of, IsFeeding, HasSealedFront, CutsPayload, SealFails, HasRoom, SealingFails, SealsFront, SealsSource, CutFront}
 use Rattle.age_sealing.specs.inner.{WroteFront, SealsAll, ReadsWrites}
 use Rattle.age_sealing.specs.Encrypts.{AgeFile, BeginsFile, EncryptsFront, EncryptFails, WhyStopped, without_last, SecretView, Encrypts}
 use Rattle.age_sealing.specs.declared.encryption.Written.{Written}
-use Rattle.age_keys.specs.{header_mac, IsMacOf, box, scrypt_head}
-
--- a beginning of a beginning
-pub prefix_trans : (x y z : List ℕ) → IsPrefixOf x y → IsPrefixOf y z → IsPrefixOf x z
-prefix_trans x y z p q = (p.0 ++ q.0, sym (append_assoc x p.0 q.0) ∙ (ap (λ (t : List ℕ). t ++ q.0) p.1 ∙ q.1))
+use Rattle.age_keys.specs.{box}
+use Rattle.age_keys.proofs.PassphraseLemmas.{mac_holds}
 
 -- ---- One feed of a sealer, and what then was written.
-
--- the block that a step lent, or none
-pub lent : (chunk : Option (Bor (List ℕ))) (none : Bor (List ℕ)) → none.now ≡ [] → chunk_bytes chunk ≡ (unwrap_or chunk none).now
-lent None none e = sym e
-lent (Some block) none e = refl
-
--- the front of a piece and its rest, after a text
-pub rejoined : (text piece : List ℕ) (at : ℕ) → (text ++ take at piece) ++ take (length piece - at) (drop at piece) ≡ text ++ piece
-rejoined text piece at = append_assoc text (take at piece) (take (length piece - at) (drop at piece))
-    ∙ ap (λ (t : List ℕ). text ++ t) (ap (λ (t : List ℕ). take at piece ++ t) (take_rest piece at) ∙ take-append-drop at piece)
 
 pub lent_few : (chunk : Option (Bor (List ℕ))) (none : Bor (List ℕ)) (size : ℕ) → none.now ≡ [] → IfSome chunk (λ block. length block.now ≡ size)
     → length (unwrap_or chunk none).now ≤ size
@@ -149,21 +136,13 @@ module _ {B : Type 0} {sealing : B → List ℕ → List ℕ → List ℕ} {n : 
     whole = rw h.key_is at last ∙ sym (append_assoc (front_of (sealing key) n text) out unwritten)
 
     -- the last block was written
-    last_on : unwritten ≡ [] → Wrote first now (payload (sealing key) n text)
+    pub last_on : unwritten ≡ [] → Wrote first now (payload (sealing key) n text)
     last_on none = subst (Wrote first now) (sym (whole ∙ ap (λ (t : List ℕ). (front_of (sealing key) n text ++ out) ++ t) none ∙ append-nil _))
         (wrote_then h.wrote wrote)
 
     -- the sink failed in it, or in the flush
     pub last_cut : HasFailed was.sink.failed now.sink.failed now.sink.failing → CutsPayload sealing n key first now text Write
     last_cut failed = grind (arith, common_steps, whole, wrote_then)
-
-    -- then the sink was flushed
-    pub last_flushed : (result : Result (Unit {0}) FileFault) → unwritten ≡ [] → IfErr result (λ fault. fault ≡ Write)
-        → MatchResult result (λ _. now.sink.failed ≡ was.sink.failed) (λ _. HasFailed was.sink.failed now.sink.failed now.sink.failing)
-        → MatchResult result (λ _. Wrote first now (payload (sealing key) n text) × (now.sink.failed ≡ first.sink.failed))
-        (CutsPayload sealing n key first now text)
-    last_flushed (Ok u) none is same = (last_on none, same ∙ h.same)
-    last_flushed (Err fault) none is failed = subst (CutsPayload sealing n key first now text) (sym is) (last_cut failed)
 
 -- what was pulled and what was written
 pub moved : {old new : SourceView} {pulls : ℕ} {was now : WriterView} {text out : List ℕ} → Pulled (start_at old.supply) new.supply pulls text
@@ -195,10 +174,6 @@ cut_source {B} {sealing} {n} {key} {a} {source} {pulls} {first} {now} {text} {fa
       fails other why = absurd why
 
 -- ---- A file's front, and what of the file was written.
-
-mac_holds : (pass : List ℕ) (log : ℕ) (salt key : List ℕ) → IsMacOf (scrypt_head pass log salt key) key
-unfolding scrypt_head header_mac
-mac_holds pass log salt key = refl
 
 file_of : {s : SecretView} {front : List ℕ} → BeginsFile s front → (text : List ℕ) → AgeFile s text (front ++ payload (box s.key s.nonce) chunk_length text)
 file_of {s} {front} begins text = record {

@@ -1,9 +1,8 @@
 -- What private functions do, step by step. No public contract cites this module.
-use Rattle.std.specs.Prelude.{◌≡◌, ℕ, ◌+◌, ◌*◌, ◌^◌, ◌<◌, ◌≤◌, List, [], ◌++◌, length, Option}
+use Rattle.std.specs.Prelude.{◌≡◌, ℕ, ◌+◌, ◌*◌, ◌^◌, ◌<◌, ◌≤◌, List, ◌++◌, length}
 use Rattle.std.specs.Prelude.{Result, true, false, MatchResult, ◌-◌, OnOk, IfOk, IfErr}
-use Rattle.age_io.specs.{Consumes, IsAtEnd, SourceView, SinkView}
+use Rattle.age_io.specs.{Consumes, IsAtEnd, SourceView, SinkView, HasFailed}
 use Rattle.age_io.specs.Taken.{Appends}
-use Rattle.age_fault.specs.{HasFailed}
 use Rattle.age_fault.specs.declared.fault.FileFault.{FileFault}
 use Rattle.age_fault.specs.declared.fault.FileFault.TheVariants.{Read, ReadNeverEnds, Stream, Write}
 use Rattle.age_intake.specs.{Ports, ports, NoneFailed, ReadFailed, WriteFailed, IsByAllPulls}
@@ -11,7 +10,6 @@ use Rattle.age_intake.specs.declared.reader.Reader.{Reader}
 use Rattle.age_position.specs.declared.writer.Writer.{Writer}
 use Rattle.age_chunk.specs.{chunk_limit, sealed_before_last, block_bytes, payload, chunk_count}
 use Rattle.age_stream.specs.{IsPrefixOf, SealerView, Holds, too_many}
-use Rattle.age_cipher.specs.{sealing, opening}
 use Rattle.age_sealing.specs.declared.encryption.Written.{Written}
 use Rattle.age_position.specs.inner.{WriterView, Wrote}
 
@@ -20,14 +18,6 @@ use Rattle.age_position.specs.inner.{WriterView, Wrote}
 abbrev pub ports_of : {S O : Type 0} → (S → SourceView) → (O → SinkView) → Reader S → Writer O
     → Ports
 ports_of source sink r w = ports (source r.source.now) (sink w.sink.now)
-
--- ---- How a payload key seals and opens a chunk, without associated data (RFC 8439, 2.8).
-
-abbrev pub seals : List ℕ → List ℕ → List ℕ → List ℕ
-seals key nonce text = sealing key nonce [] text
-
-abbrev pub opens : List ℕ → List ℕ → List ℕ → Option (List ℕ)
-opens key nonce block = opening key nonce [] block
 
 -- ---- What stands before the payload.
 

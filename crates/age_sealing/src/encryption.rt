@@ -11,9 +11,9 @@ ghost use Rattle.age_fault.specs.declared.fault.FileFault.TheVariants.{Memory};
 
 use crate::sealing::seal_all;
 use crate::secret::Secret;
-use age_fault::{FileFault, write_all};
+use age_fault::FileFault;
 use age_intake::{Intake, Reader};
-use age_io::{Sink, Source};
+use age_io::{Sink, Source, write_all};
 use age_keys::{FileKey, PayloadKey, payload_key, scrypt_header};
 use age_position::{PositionPolicy, Tally, Writer};
 use age_stanza::encode_head;
@@ -84,7 +84,7 @@ fn write_front<O: Sink>(front: &[u8], writer: &mut Writer<'_, O>) -> Result<(), 
         (view_of_writer O.view writer.new) result }
     ensures same { SameWriter writer.old writer.new }
 {
-    write_all(writer.sink, front, &mut writer.tally.written)
+    Ok(write_all(writer.sink, front, &mut writer.tally.written)?)
 }
 
 /// Encrypts all that a source gives, after the beginning of the file, as [`encrypt`] does. It

@@ -1,16 +1,17 @@
 //! Seals what a source gives, and writes each block.
 
 ghost use Rattle.std.specs.Prelude.{◌≡◌, ◌^◌, ◌≤◌, [], length, OnOk, true};
-ghost use Rattle.age_sealing.specs.inner.{seals, ports_of, HasRoom, SealsPiece, SealsRest};
+ghost use Rattle.age_keys.specs.inner.{seals};
+ghost use Rattle.age_sealing.specs.inner.{ports_of, HasRoom, SealsPiece, SealsRest};
 ghost use Rattle.age_sealing.specs.inner.{SealsSource};
 ghost use Rattle.age_position.specs.inner.{view_of_writer, SameWriter};
 ghost use Rattle.age_intake.specs.{SameReader};
 ghost use Rattle.age_chunk.specs.{chunk_length};
 
 use crate::encryption::Written;
-use age_fault::{FileFault, flush_all, write_all};
+use age_fault::FileFault;
 use age_intake::Reader;
-use age_io::{Sink, Source};
+use age_io::{Sink, Source, flush_all, write_all};
 use age_keys::PayloadKey;
 use age_position::Writer;
 use age_stream::{BLOCK_LEN, Sealer};
@@ -55,7 +56,7 @@ fn finish<O: Sink>(
 {
     let block = sealer.finish()?;
     write_all(writer.sink, block, &mut writer.tally.written)?;
-    flush_all(writer.sink)
+    Ok(flush_all(writer.sink)?)
 }
 
 /// Writes the payload of what a source gives, up to its end, flushes, and returns how many bytes

@@ -1,11 +1,11 @@
 -- Where the lines of a header lead: each to a place that says of the bytes before it what they are, and those of a header's text to the header.
 use Rattle.std.proofs.lemmas.Grind.{common_steps}
-use Rattle.std.proofs.Common.{◌≡◌, ℕ, zero, suc, ◌<◌, ◌≤◌, ◌+◌, ◌*◌, ◌/◌, ◌%◌, Bool, true, false, cond, ltb, eqb, nat_eq, ◌||◌, List, [], ◌∷◌, ◌++◌, length}
+use Rattle.std.proofs.Common.{◌≡◌, ℕ, zero, suc, ◌<◌, ◌≤◌, ◌+◌, ◌*◌, ◌/◌, ◌%◌, Bool, true, false, cond, eqb, nat_eq, ◌||◌, List, [], ◌∷◌, ◌++◌, length}
 use Rattle.std.proofs.Common.{take, drop, Option, Some, None, Result, Ok, Err, refl, sym, ap, ◌∙◌, arith, inl, inr}
 use Rattle.std.specs.Prelude.{codes}
 use Rattle.std.specs.List.{flat_map, AllByRecursion, starts_with}
 use Rattle.std.specs.Str.{bytes_eq}
-use Rattle.std.proofs.lemmas.Bool.{eqb-true, eqb-false, ltb-false, eq-eqb, ne_eqb, le-ltb, cases_lt}
+use Rattle.std.proofs.lemmas.Bool.{cond_both, eqb-true, eqb-false, ltb-false, eq-eqb, ne_eqb, le-ltb, cases_lt}
 use Rattle.std.proofs.lemmas.List.{append-nil, append_assoc, length-append, length-take, length-drop, nil_from_length, take-append-drop}
 use Rattle.std.proofs.lemmas.List.Concat.{flat_map-append}
 use Rattle.std.proofs.lemmas.Option.{none-some, same_Some}
@@ -20,7 +20,7 @@ use Rattle.age_stanza.specs.inner.{base64_bytes, walk, after, step, end_line_res
 use Rattle.age_stanza.specs.inner.{bytes_before, IsPlace}
 use Rattle.age_stanza.proofs.TextLemmas.{text-append, text-none, length-text, text_of_decoded, decoded-text, no_bytes, IsBytes-append, IsBytes-take}
 use Rattle.age_stanza.proofs.TextLemmas.{IsBytes-drop, IsLine-append, text_line, line_from_test}
-use Rattle.age_stanza.proofs.LineLemmas.{visible_other, by_test, starts_from, All-append, whole_lines-full, in_lines-full, in_lines-short, full_line, last_line}
+use Rattle.age_stanza.proofs.LineLemmas.{visible_other, starts_from, All-append, whole_lines-full, in_lines-full, in_lines-short, full_line, last_line}
 use Rattle.age_stanza.proofs.LineLemmas.{argument_line_read, read_argument_line, end_line_read, read_end_line}
 
 regrouped : (a b c d : List ℕ) → a ++ (b ++ (c ++ d)) ≡ (a ++ (b ++ c)) ++ d
@@ -134,7 +134,7 @@ leads_body ss args body l false (Some more) known fits le long is =
 
 pub leads : (place : Place) (l : List ℕ) → IsPlace place → IsBytes l → Leads place l (step place l)
 unfolding step
-leads place l h0 h1 = grind (arith, common_steps, append-nil, by_test, bytes_eq-Decides, leads_begun, leads_body, leads_ended, ltb-false)
+leads place l h0 h1 = grind (arith, common_steps, append-nil, cond_both, bytes_eq-Decides, leads_begun, leads_body, leads_ended, ltb-false)
 
 -- ---- lines hold no end of line
 
@@ -214,7 +214,7 @@ body_walk (suc fuel) ss args body rest cs le fits = elim (cases_lt (length rest)
       (one ∙ on ∙ ap (λ (t : List ℕ). walk (Between (ss ++ (record { args = args; body = t }) ∷ [])) [] cs) joined)
 ]
 
-three_parts : (a b c r : List ℕ) → ((a ++ b) ++ c) ++ r ≡ a ++ (b ++ (c ++ r))
+pub three_parts : (a b c r : List ℕ) → ((a ++ b) ++ c) ++ r ≡ a ++ (b ++ (c ++ r))
 three_parts a b c r = simp append_assoc
 
 stanzas_reach : (more ss : List Stanza) (rest : List ℕ) → AllByRecursion IsStanza more

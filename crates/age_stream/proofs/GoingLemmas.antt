@@ -127,9 +127,13 @@ joined start bytes ended late p r = grind (arith, common_steps)
 pub pieces_join : PiecesJoin
 pieces_join s p r = joined s.start s.bytes s.ended s.late p r
 
-pub nothing : (start : ℕ) (bytes : List ℕ) (ended late : Bool) → with_piece (record { start = start; bytes = bytes; ended = ended; late = late }) []
+nothing : (start : ℕ) (bytes : List ℕ) (ended late : Bool) → with_piece (record { start = start; bytes = bytes; ended = ended; late = late }) []
     ≡ record { start = start; bytes = bytes; ended = ended; late = late }
 nothing start bytes ended late = grind (arith, common_steps)
+
+-- no bytes change nothing
+pub piece_nil : (s : Segment) → with_piece s [] ≡ s
+piece_nil s = nothing s.start s.bytes s.ended s.late
 
 whole_if : (whole ended : Bool) → (not whole && not ended) ≡ false → ended ≡ false → whole ≡ true
 whole_if whole ended h1 h2 = grind (arith, common_steps)

@@ -5,8 +5,9 @@ use Rattle.std.proofs.Common.{false, arith}
 use Rattle.std.specs.Prelude.{Result, Ok, Err, OnErr, Option, Some, None, IfSome, IfNone, nat_lt, nat_le, ◌&&◌, map}
 use Rattle.std.specs.List.{flat_map, AllByRecursion}
 use Rattle.std.specs.Borrow.{Bor}
+use Rattle.std.specs.Option.{unwrap_or}
 use Rattle.std.proofs.lemmas.List.{append-nil, append_assoc, length-append, take-append-drop, take_more, take-append-le}
-use Rattle.std.proofs.lemmas.Bool.{cond-true, ltb-true, leb-true, and_parts}
+use Rattle.std.proofs.lemmas.Bool.{cond-true, cond_both, ltb-true, leb-true, and_parts}
 use Rattle.std.proofs.Math.Nat.{add-mul-div_left, div-mul-le_self}
 use Rattle.std.proofs.lemmas.Nat.{mul-le}
 use Rattle.age_chunk.specs.{IsChunkBox, OpensBlock, Seals, tag_length, text_length, chunk_limit, clear_sealing, clear_opening, chunk_count, payload}
@@ -19,8 +20,8 @@ use Rattle.age_stream.specs.{Delivery, Piece, End, Restart, Status, Done, IsAuth
 use Rattle.age_stream.specs.{WholeIsAuthentic, UndamagedIsAuthentic, PayloadRoundTrip, ClearIsSealable, TakesDelivery, replay_view}
 use Rattle.age_stream.specs.inner.{with_bytes, Goes, Delivers}
 use Rattle.age_stream.specs.declared.replay.ReplayState.{ReplayState}
-use Rattle.age_stream.proofs.GoingLemmas.{fresh_outcome, pieces_join, nothing}
-use Rattle.age_stream.proofs.SegmentLemmas.{by_test, released_segment, piece_start, rest_done, rest_right, right_after}
+use Rattle.age_stream.proofs.GoingLemmas.{fresh_outcome, pieces_join, piece_nil}
+use Rattle.age_stream.proofs.SegmentLemmas.{released_segment, piece_start, rest_done, rest_right, right_after}
 
 -- ---- Where deliveries lead.
 
@@ -110,7 +111,7 @@ module _ (sealing : Seals) (opening : OpensBlock) (valid : IsChunkBox sealing op
       }
   sound_after End s stays good = let sound = stays good in record { small = sound.small; base = sound.base }
   sound_after (Restart k) s stays good =
-      by_test Stays (accepts opening n s k) _ _
+      cond_both (accepts opening n s k) _ _ Stays
       (λ sure good. restarted s k (stays (all_front Good s.given_up s.segment good)) (all_last Good s.given_up s.segment good) sure)
       (λ _ good. let sound = stays good in record { small = sound.small; base = sound.base }) good
 
@@ -178,11 +179,16 @@ on_err r h = grind (arith, common_steps)
 pub lent_flat : (chunk : Option (Bor (List ℕ))) → flat_map (λ (t : List ℕ). t) (chunk_texts chunk) ≡ chunk_bytes chunk
 lent_flat chunk = grind (arith, common_steps)
 
+-- the bytes that a step lent, or none
+pub lent : (chunk : Option (Bor (List ℕ))) (none : Bor (List ℕ)) → none.now ≡ [] → chunk_bytes chunk ≡ (unwrap_or chunk none).now
+lent None none e = sym e
+lent (Some chunk) none e = refl
+
 pub with_bytes-append : (s : Standing) (p r : List ℕ) → with_bytes (with_bytes s p) r ≡ with_bytes s (p ++ r)
 with_bytes-append s p r = ap (λ (x : Segment). record s { segment = x }) (pieces_join s.segment p r)
 
 pub with_bytes-nil : (s : Standing) → with_bytes s [] ≡ s
-with_bytes-nil s = ap (λ (x : Segment). record s { segment = x }) (nothing s.segment.start s.segment.bytes s.segment.ended s.segment.late)
+with_bytes-nil s = ap (λ (x : Segment). record s { segment = x }) (piece_nil s.segment)
 
 -- one piece after another
 pub bytes_on : {B : Type 0} {n : ℕ} {g : _} (opening : B → OpensBlock) (old mid new : ReplayState B n g) (p q all : List ℕ)

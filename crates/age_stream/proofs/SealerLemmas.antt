@@ -4,7 +4,7 @@ use Rattle.std.proofs.Common.{◌≡◌, ℕ, ◌<◌, ◌≤◌, ◌+◌, ◌*�
 use Rattle.std.proofs.Common.{take-append-drop, arith}
 use Rattle.std.specs.Prelude.{Option, Some, None, Result, Ok, IfSome}
 use Rattle.std.specs.Borrow.{Bor}
-use Rattle.std.proofs.lemmas.List.{append-nil, length-append, length-take, take_rest}
+use Rattle.std.proofs.lemmas.List.{append_assoc, append-nil, length-append, length-take, take_rest}
 use Rattle.std.specs.List.{refill}
 use Rattle.age_chunk.specs.{IsChunkBox, OpensBlock, Seals, tag_length, text_length, nonce_bytes, chunk_count, last_index, last_chunk, sealed_before_last}
 use Rattle.age_chunk.specs.{block_bytes, pair, payload}
@@ -114,6 +114,11 @@ sealed_in sealing given nonce lent block text tag new same is parts tag_len len 
 
 pub take_on : (k t : ℕ) (xs : List ℕ) → take k xs ++ take t (take (length xs - k) (drop k xs)) ≡ take (k + t) xs
 take_on k t xs = ap (λ (ys : List ℕ). take k xs ++ take t ys) (take_rest xs k) ∙ sym (take-add k t xs)
+
+-- the front of a piece and its rest, after a text
+pub rejoined : (text piece : List ℕ) (at : ℕ) → (text ++ take at piece) ++ take (length piece - at) (drop at piece) ≡ text ++ piece
+rejoined text piece at = append_assoc text (take at piece) (take (length piece - at) (drop at piece))
+    ∙ ap (λ (t : List ℕ). text ++ t) (ap (λ (t : List ℕ). take at piece ++ t) (take_rest piece at) ∙ take-append-drop at piece)
 
 abbrev pub front_of : Seals → ℕ → List ℕ → List ℕ
 front_of sealing n text = block_bytes (sealed_before_last sealing n text)

@@ -7,7 +7,7 @@ use Rattle.std.specs.List.{flat_map, enumerate_from, AllByRecursion}
 use Rattle.std.specs.Simd.{first_chunks}
 use Rattle.std.proofs.lemmas.List.{append_assoc, append-nil, take_all, take-append-drop, length-append, length-drop, length-take, drop_at, drop-drop}
 use Rattle.std.proofs.lemmas.List.{get_or_append_left, get_or-drop}
-use Rattle.std.proofs.lemmas.Bool.{ltb-true, cases_lt, eq-eqb, ne_eqb, lt-ltb, le-ltb, eqb-true, and_right, and_parts, both_ways, eqb-false}
+use Rattle.std.proofs.lemmas.Bool.{cond_both, ltb-true, cases_lt, eq-eqb, ne_eqb, lt-ltb, le-ltb, eqb-true, and_right, and_parts, both_ways, eqb-false}
 use Rattle.std.proofs.Math.Nat.{le-div_iff_mul-le, mul-le-mul_right}
 use Rattle.std.proofs.lemmas.Nat.{mul-le}
 use Rattle.std.specs.Str.{bytes_eq}
@@ -26,6 +26,10 @@ use Rattle.age_stream.proofs.ChunkLemmas.{last_chunk_le, length-sealed, pair_bef
 use Rattle.age_stream.proofs.TableLemmas.{block_full, block_is, by_lines, front_is, outcome_is, texts_fit, ended_waits, frontier, length-whole_blocks}
 use Rattle.age_stream.proofs.TableLemmas.{line_last, by_both, last_status, whole_within, opens_before}
 use Rattle.age_stream.proofs.GoingLemmas.{block_on, front_on, full_bytes, short_bytes}
+
+-- a beginning of a beginning
+pub prefix_trans : (x y z : List ℕ) → IsPrefixOf x y → IsPrefixOf y z → IsPrefixOf x z
+prefix_trans x y z p q = (p.0 ++ q.0, sym (append_assoc x p.0 q.0) ∙ (ap (λ (t : List ℕ). t ++ q.0) p.1 ∙ q.1))
 
 -- a pair of the writer's, by its number
 pub record IsPair (sealing : Seals) (n : ℕ) (text : List ℕ) (nonce block : List ℕ) : Type 0 where
@@ -53,9 +57,6 @@ IsPair-from_Contains sealing n text nonce block positive h =
           (sym (eq-eqb (q + 1) (q + 1) refl)) (sym (take_all n (last_chunk n text) (last_chunk_le n text positive)))
     ]
 
-pub by_test : {A : Type 0} (P : A → Type 0) (b : Bool) (x y : A) → (b ≡ true → P x) → (b ≡ false → P y) → P (cond b x y)
-by_test P b x y h1 h2 = grind (arith, common_steps)
-
 -- x is the chunk at i, and last says whether no other follows
 pub record IsChunk (n : ℕ) (text : List ℕ) (i : ℕ) (last : Bool) (x : List ℕ) : Type 0 where
   pub below : i < chunk_count n text
@@ -64,7 +65,7 @@ pub record IsChunk (n : ℕ) (text : List ℕ) (i : ℕ) (last : Bool) (x : List
 
 -- a piece leaves the start
 pub piece_start : (s : Segment) (p : List ℕ) → (with_piece s p).start ≡ s.start
-piece_start s p = by_test (λ (t : Segment). t.start ≡ s.start) s.ended _ _ (λ _. refl) (λ _. refl)
+piece_start s p = cond_both s.ended _ _ (λ (t : Segment). t.start ≡ s.start) (λ _. refl) (λ _. refl)
 
 -- each pair is the sealing of its chunk
 abbrev AreSealed : (List ℕ → List ℕ → List ℕ) → List (List ℕ × List ℕ) → List (List ℕ) → Type 0
@@ -90,7 +91,7 @@ found : (sealing : Seals) (opening : OpensBlock) → IsChunkBox sealing opening 
 found sealing opening valid [] chunks nonce block h some = none_if (opening nonce block) (λ o. let at = some o in absurd (omega (arith, at.1)))
 found sealing opening valid (p ∷ pairs) [] nonce block h some = absurd h
 found sealing opening valid (p ∷ pairs) (chunk ∷ chunks) nonce block h some =
-    by_test (λ (o : Option (List ℕ)). opening nonce block ≡ o) (bytes_eq p.0 nonce && bytes_eq p.1 block) _ _
+    cond_both (bytes_eq p.0 nonce && bytes_eq p.1 block) _ _ (λ (o : Option (List ℕ)). opening nonce block ≡ o)
     (λ is.
     let t = and_parts (bytes_eq p.0 nonce) (bytes_eq p.1 block) is in
     let first : p.0 ≡ nonce = (bytes_eq-Decides p.0 nonce).0 t.0 in

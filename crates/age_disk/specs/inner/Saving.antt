@@ -1,8 +1,8 @@
 -- What was done for a file that was replaced, either at once or directly.
 use Rattle.std.specs.Prelude.{◌≡◌, ℕ, List, None, IsSomeAnd, Result, OnOk}
-use Rattle.age_io.specs.declared.durability.Durability.{Durability}
+use Rattle.age_options.specs.declared.Durability.{Durability}
 use Rattle.age_calls.specs.Saved.{Saves}
-use Rattle.age_disk.specs.Outputs.{WritesDirectly}
+use Rattle.age_disk.specs.Files.{WritesDirectly}
 use Rattle.age_disk.specs.declared.saving.Saved.{Saved}
 
 -- the bytes were put to a path at once, or else written directly

@@ -2,9 +2,11 @@
 use Rattle.std.specs.Prelude.{◌≡◌, ℕ, Bool, false, List, [], ◌∷◌, refl, Option, Some, None}
 use Rattle.std.specs.Prelude.{get_or, unwrap_or}
 use Rattle.std.specs.Coded.{Coded, coded_ℕ, coded_bool, coded_list, coded_option, coded×, code_by}
-use Rattle.age_io.specs.declared.durability.Durability.TheVariants.{Synced, Buffered}
-use Rattle.age_fileset.specs.FileSet.{Event, Open, Prepare, Create, Make, Replace, Close, Reading}
-use Rattle.age_fileset.specs.FileSet.{Doings, Outcome, Found, FoundOrEmpty, Unread, Unwritten, Absent, Present}
+use Rattle.age_options.specs.declared.Durability.TheVariants.{Synced, Buffered}
+use Rattle.age_options.specs.declared.ClobberOption.TheVariants.{Allowed, Refused}
+use Rattle.age_fileset.specs.declared.files.Missing.TheVariants.{Fails, Empty}
+use Rattle.age_fileset.specs.FileSet.{Event, Open, Prepare, Create, Replace, Close, Reading}
+use Rattle.age_fileset.specs.FileSet.{Doings, Outcome, Found, Unread, Unwritten, Absent, Present}
 use Rattle.age_fileset.specs.FileSet.{Gave, Settled, Put, Alike, OneStream, InUse, Terminal}
 
 abbrev coded_bytes : Coded (List ℕ)
@@ -17,19 +19,21 @@ Parts = ℕ × (List ℕ × Option (List ℕ))
 abbrev split : Event → Parts
 split (Open name) = (0, (name, None))
 split (Prepare name spared) = (1, (name, spared))
-split (Create name) = (2, (name, None))
-split (Make name) = (3, (name, None))
+split (Create Allowed name) = (2, (name, None))
+split (Create Refused name) = (3, (name, None))
 split (Replace name Synced) = (4, (name, None))
 split (Replace name Buffered) = (5, (name, None))
 split (Close Synced) = (6, ([], None))
 split (Close Buffered) = (7, ([], None))
 
 abbrev join : Parts → Event
-join (which, (name, spared)) = get_or {A = Event} (Open name ∷ Prepare name spared ∷ Create name
-    ∷ Make name ∷ Replace name Synced ∷ Replace name Buffered ∷ Close Synced ∷ Close Buffered ∷ [])
-    which (Open name)
+join (which, (name, spared)) = get_or {A = Event} (Open name ∷ Prepare name spared
+    ∷ Create Allowed name ∷ Create Refused name ∷ Replace name Synced ∷ Replace name Buffered
+    ∷ Close Synced ∷ Close Buffered ∷ []) which (Open name)
 
 pub join-split : (e : Event) → join (split e) ≡ e
+join-split (Create Allowed name) = refl
+join-split (Create Refused name) = refl
 join-split (Replace name Synced) = refl
 join-split (Replace name Buffered) = refl
 join-split (Close Synced) = refl
@@ -48,8 +52,8 @@ abbrev texts : ℕ → List ℕ → List ℕ → Pieces
 texts which one other = (which, ((one, other), ((None, None), ([], (false, false)))))
 
 abbrev cut : Outcome → Pieces
-cut (Found name left size) = (0, ((name, []), ((left, size), ([], (false, false)))))
-cut (FoundOrEmpty name left size) = (1, ((name, []), ((left, size), ([], (false, false)))))
+cut (Found Fails name left size) = (0, ((name, []), ((left, size), ([], (false, false)))))
+cut (Found Empty name left size) = (1, ((name, []), ((left, size), ([], (false, false)))))
 cut (Gave r) = (2, ((r.name, r.given), ((None, None), ([], (r.is_at_end, r.failing)))))
 cut (Settled Synced took size) = (3, ((took, []), ((None, Some size), ([], (false, false)))))
 cut (Settled Buffered took size) = (4, ((took, []), ((None, Some size), ([], (false, false)))))
@@ -67,12 +71,14 @@ abbrev glue : Pieces → Outcome
 glue (which, ((one, other), ((left, size), (names, (is_at_end, failing))))) =
     let read : Reading =
     record { name = one; given = other; is_at_end = is_at_end; failing = failing } in
-    get_or {A = Outcome} (Found one left size ∷ FoundOrEmpty one left size ∷ Gave read
+    get_or {A = Outcome} (Found Fails one left size ∷ Found Empty one left size ∷ Gave read
     ∷ Settled Synced one (unwrap_or size 0) ∷ Settled Buffered one (unwrap_or size 0) ∷ OneStream names
     ∷ Put one other ∷ Alike one other ∷ Unread one ∷ Unwritten one ∷ Absent one ∷ InUse one
     ∷ Terminal one ∷ Present one ∷ []) which (Unread one)
 
 pub glue-cut : (o : Outcome) → glue (cut o) ≡ o
+glue-cut (Found Fails name left size) = refl
+glue-cut (Found Empty name left size) = refl
 glue-cut (Settled Synced took size) = refl
 glue-cut (Settled Buffered took size) = refl
 glue-cut o = refl

@@ -8,4 +8,4 @@ use Rattle.age_fileset.specs.declared.log.Note.TheVariants as note
 -- what a note says
 abbrev pub doings_of : Note → Doings
 doings_of note.Nothing = record { events = []; outcomes = [] }
-doings_of (note.More cell doing) = once_done doing cell.now.done
+doings_of (note.More cell doing) = once_done doing cell.now.value

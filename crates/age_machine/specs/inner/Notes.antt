@@ -3,7 +3,7 @@ use Rattle.std.specs.Prelude.{List, [], ◌∷◌}
 use Rattle.age_calls.specs.Calls.{FileCall, Made, Opened, Wrote, Cut, Broke, Measured, Synced}
 use Rattle.age_calls.specs.Calls.{Unwaited, Closed, Locked, Unlockable, Missing, Linked, Renamed}
 use Rattle.age_calls.specs.Calls.{Removed, Reclaimed, SyncedNames, UnwaitedNames}
-use Rattle.age_machine.specs.Numbers.{number_of}
+use Rattle.age_names.specs.{number_of}
 use Rattle.age_machine.specs.declared.notes.Note.{Note}
 use Rattle.age_machine.specs.declared.notes.Note.TheVariants as note
 use Rattle.age_machine.specs.declared.notes.Word.{Word}
@@ -33,5 +33,5 @@ file_call_of (word.UnwaitedNames path) = UnwaitedNames path.now
 -- the calls that a note stands for
 abbrev pub calls_of : Note → List FileCall
 calls_of note.Nothing = []
-calls_of (note.All cell) = cell.now.calls
-calls_of (note.More cell word) = file_call_of word ∷ cell.now.calls
+calls_of (note.All cell) = cell.now.value
+calls_of (note.More cell word) = file_call_of word ∷ cell.now.value

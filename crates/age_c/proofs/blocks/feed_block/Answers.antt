@@ -1,7 +1,7 @@
 use Rattle.std.proofs.Common.{sym, ap, subst, ◌∙◌, arith, List, ℕ, take, length, ◌≡◌}
 use Rattle.std.proofs.lemmas.List.{take_all}
 use Rattle.age_stream.specs.{with_piece, outcome, Stands}
-use Rattle.age_c.specs.inner.{opens}
+use Rattle.age_keys.specs.inner.{opens}
 use Rattle.age_c.proofs.{block_text}
 use Rattle.age_c.proofs.blocks.feed_block.Goals as goal
 use Rattle.age_chunk.specs.{chunk_length}

@@ -1,7 +1,7 @@
 use Rattle.std.proofs.Common.{sym, ap, subst, refl, ◌∙◌, arith, append-nil, List, ℕ, take, length, ◌≡◌}
 use Rattle.std.proofs.lemmas.List.{take_all}
 use Rattle.age_stream.specs.{with_piece, outcome, released, Stands}
-use Rattle.age_c.specs.inner.{opens}
+use Rattle.age_keys.specs.inner.{opens}
 use Rattle.age_c.proofs.{rest_open, rest_text}
 use Rattle.age_c.proofs.blocks.feed_rest.Goals as goal
 use Rattle.age_chunk.specs.{chunk_length}

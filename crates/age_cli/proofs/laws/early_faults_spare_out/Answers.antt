@@ -1,4 +1,4 @@
-use Rattle.age_cli.specs.{PortsOf}
+use Rattle.age_outputs.specs.Acts.{PortsOf}
 use Rattle.age_cli.proofs.{spares_of_request}
 use Rattle.age_cli.proofs.laws.early_faults_spare_out.Goals as goal
 

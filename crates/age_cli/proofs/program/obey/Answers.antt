@@ -9,7 +9,8 @@ use Rattle.age_fileset.proofs.{does_none}
 use Rattle.age_command.specs.{IsUnreadable}
 use Rattle.age_intake.specs.{HeadFails, NoHeadFault}
 use Rattle.age_cli.specs.{FailsFile}
-use Rattle.age_cli.proofs.{some_words, no_words, obeyed, obeyed_none, asked_fails, finally_as, for_help, help_done, help_fails, both_done, drill_acts, inspect_acts, so_finally}
+use Rattle.age_outputs.proofs.EndingLemmas.{finally_as}
+use Rattle.age_cli.proofs.{some_words, no_words, obeyed, obeyed_none, asked_fails, for_help, help_done, help_fails, both_done, drill_acts, inspect_acts, read_whole, so_finally}
 use Rattle.age_cli.proofs.program.obey.Goals as goal
 
 pub returns-then-is_empty : goal.returns-then-is_empty
@@ -18,7 +19,7 @@ returns-then-is_empty g c =
     obeyed_none _ _ _ _ _ _ _ _ _ (no_words c.args.words.now _ c.is_empty.ensures c.if-is_empty.true)
     (inspect_acts _ _ _ _ _ c.report.result refl None (HeadFails NoHeadFault (g.I.Source.view c.args.input.now) (g.I.Source.view c.report.new.input))
     (g.O.Sink.view c.args.output.now) (g.O.Sink.view c.report.new.output) (does_none (g.F.FileSet.view c.args.files.now)) c.report.ensures.fails)
-    (record { done = both_done _ _ c.report.result c.report.ensures.done c.report.ensures.sent; stops = c.report.ensures.fails; unprinted = c.report.ensures.unprinted }, refl)))
+    (record { done = both_done _ _ c.report.result (read_whole _ _ _ c.report.result c.report.ensures.done) c.report.ensures.sent; stops = c.report.ensures.fails; unprinted = c.report.ensures.unprinted }, refl)))
 
 pub returns-in-Ok-None : goal.returns-in-Ok-None
 returns-in-Ok-None g c = so_finally (Err (Refused Unread)) (inr (record {
@@ -62,7 +63,7 @@ returns-in-Inspect-None g c =
     obeyed _ _ _ _ _ _ _ _ _ (Inspect None) (subst (Requests (texts c.args.words.now)) (c.in-Inspect-None.is ∙ ap Inspect (rw c.in-Inspect-None.is at c.in-Inspect-None.field-0-is)) (rw c.in-Ok-Some.field-0-is at c.in-Ok-Some.ensures.asked))
     (inspect_acts _ _ _ _ _ c.report-in-Inspect-None.result refl None (HeadFails NoHeadFault (g.I.Source.view c.args.input.now) (g.I.Source.view c.report-in-Inspect-None.new.input))
     (g.O.Sink.view c.args.output.now) (g.O.Sink.view c.report-in-Inspect-None.new.output) (does_none (g.F.FileSet.view c.args.files.now)) c.report-in-Inspect-None.ensures.fails)
-    (record { done = both_done _ _ c.report-in-Inspect-None.result c.report-in-Inspect-None.ensures.done c.report-in-Inspect-None.ensures.sent; stops = c.report-in-Inspect-None.ensures.fails; unprinted = c.report-in-Inspect-None.ensures.unprinted }, refl)))
+    (record { done = both_done _ _ c.report-in-Inspect-None.result (read_whole _ _ _ c.report-in-Inspect-None.result c.report-in-Inspect-None.ensures.done) c.report-in-Inspect-None.ensures.sent; stops = c.report-in-Inspect-None.ensures.fails; unprinted = c.report-in-Inspect-None.ensures.unprinted }, refl)))
 
 pub returns-in-Encrypt : goal.returns-in-Encrypt
 returns-in-Encrypt g c =

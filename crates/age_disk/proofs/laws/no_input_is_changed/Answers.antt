@@ -1,10 +1,12 @@
 use Rattle.std.proofs.Common.{◌≡◌, ◌<◌, ◌^◌, ℕ, List, Option, Some, sym, ◌∙◌, ap, subst}
 use Rattle.std.specs.Prelude.{Contains, IfSome}
 use Rattle.age_calls.specs.{OutFile}
-use Rattle.age_machine.specs.{NumbersAreApart, number_of}
-use Rattle.age_machine.specs.declared.node.Node.{Node}
-use Rattle.age_disk.specs.{OutputView, HasNode, IsApart, FileId}
-use Rattle.age_disk.specs.declared.names.FileId.TheVariants.{File}
+use Rattle.age_names.specs.{NumbersAreApart, number_of}
+use Rattle.age_names.specs.declared.names.FileId.{FileId}
+use Rattle.age_names.specs.declared.node.Node.{Node}
+use Rattle.age_names.specs.declared.names.FileId.TheVariants.{File}
+use Rattle.age_host_out.specs.{HasNode, OutputView}
+use Rattle.age_disk.specs.{IsApart}
 use Rattle.age_disk.proofs.laws.no_input_is_changed.Goals as goal
 
 -- no input has the number of an output that is none of them

@@ -1,18 +1,14 @@
-use Rattle.std.proofs.Common.{◌≡◌, ◌++◌, true, ◌∷◌, [], ap, inl, inr, refl, Result, Ok, Err, OnOk}
+use Rattle.std.proofs.Common.{◌≡◌, true, ◌∷◌, [], ap, inl, inr, refl, Err}
 use Rattle.age_io.specs.{Named}
 use Rattle.age_cli_args.specs.{option_text}
-use Rattle.age_fileset.specs.{CameSince, Open, Found, Gave, reading_of}
-use Rattle.age_fileset.proofs.{came_one, checked_does, checked_stream, did_events, does_none, does_only, does_then, found_plain, gave_puts, opened_does, opened_in_use, opened_unread}
-use Rattle.age_command.specs.{IsUnreadable, opening_event}
-use Rattle.age_command.proofs.{did_came, followed, longer, then_follows}
-use Rattle.age_drill.specs.Drills.{RefusesDrill}
+use Rattle.age_fileset.specs.{CameSince, Open, Gave, reading_of}
+use Rattle.age_fileset.specs.declared.files.Missing.TheVariants.{Fails}
+use Rattle.age_fileset.proofs.{came_one, checked_does, checked_stream, did_events, does_none, does_only, does_then, gave_puts, opened_does, opened_in_use, opened_unread}
+use Rattle.age_command.specs.{IsUnreadable, RefusesDrill, opening_event}
+use Rattle.age_command.proofs.{always_ok, did_came, followed, longer, then_follows}
 use Rattle.age_drill.specs.inner.{RefusesDelivery}
 use Rattle.age_drill.proofs.{delivery_refused, ends_as, open_ends, streams_end, unopened, unopened_later}
 use Rattle.age_drill.proofs.drill.drill_file.Goals as goal
-
-always : {T E : Type 0} (r : Result T E) (P : Type 0) → P → OnOk r P
-always (Ok x) P h = h
-always (Err e) P h = tt
 
 pub returns-then-asked-is_some-clause-order : goal.returns-then-asked-is_some-clause-order
 returns-then-asked-is_some-clause-order g c = longer [] _ _ _ (followed _ _ [] (did_events [] _ _ (does_none (g.F.FileSet.view c.args.files.now))))
@@ -66,14 +62,14 @@ pub returns-in_err-source-clause-order : goal.returns-in_err-source-clause-order
 returns-in_err-source-clause-order g c =
     let asked = c.args.asked.now in
     let from = asked.from.now in
-    let opened = opened_does g.F.In.Source.view g.F.FileSet.size from (Found from) (found_plain from) _ _ c.open.result c.open.ensures.noted c.open.ensures.faults in
+    let opened = opened_does g.F.In.Source.view g.F.FileSet.size Fails from _ _ c.open.result c.open.ensures.noted c.open.ensures.faults in
     followed _ _ _ (did_events _ _ _ (does_then [] _ _ _ _ (checked_does c.check_streams.ensures.checks) (does_then (opening_event (option_text asked.pass)) (Open asked.script.now ∷ Open from ∷ [])
     _ _ _ c.read_passphrase.ensures.does (does_then (Open asked.script.now ∷ []) _ _ _ _ c.read_script.ensures.does opened))))
 
 pub returns-in_err-source-clause-does : goal.returns-in_err-source-clause-does
 returns-in_err-source-clause-does g c =
     let from = c.args.asked.now.from.now in
-    let opened = opened_does g.F.In.Source.view g.F.FileSet.size from (Found from) (found_plain from) _ _ c.open.result c.open.ensures.noted c.open.ensures.faults in
+    let opened = opened_does g.F.In.Source.view g.F.FileSet.size Fails from _ _ c.open.result c.open.ensures.noted c.open.ensures.faults in
     (_, does_then [] _ _ _ _ (checked_does c.check_streams.ensures.checks) (does_then _ _ _ _ _ c.read_passphrase.ensures.does (does_then _ _ _ _ _ c.read_script.ensures.does opened)))
 
 pub returns-in_err-source-clause-ends : goal.returns-in_err-source-clause-ends
@@ -85,8 +81,8 @@ returns-in_err-source-clause-ends g c =
     let before = does_then [] _ _ _ _ (checked_does c.check_streams.ensures.checks) (does_then _ _ _ _ _ c.read_passphrase.ensures.does c.read_script.ensures.does) in
     unopened (CameSince (g.F.FileSet.view c.args.files.now) (g.F.FileSet.view c.open.new.self)) asked (c.args.output.now ≡ c.args.output.now) (g.O.Sink.view c.args.output.now) c.from_residual-in_err-source.result _ c.from_residual-in_err-source.ensures
     (unopened_later (did_came before) asked _ (open_ends (CameSince (g.F.FileSet.view c.read_script.new.files) (g.F.FileSet.view c.open.new.self)) asked f c.in_err-source.ensures.faults
-    (λ same. inl (from, opened_unread In g.F.FileSet.size from (Found from) (found_plain from) _ _ (Err f) c.in_err-source.ensures.noted same))
-    (λ same. (from, opened_in_use In g.F.FileSet.size from (Found from) (found_plain from) _ _ (Err f) c.in_err-source.ensures.noted same)))) refl
+    (λ same. inl (from, opened_unread In g.F.FileSet.size Fails from _ _ (Err f) c.in_err-source.ensures.noted same))
+    (λ same. (from, opened_in_use In g.F.FileSet.size Fails from _ _ (Err f) c.in_err-source.ensures.noted same)))) refl
 
 pub returns-clause-order : goal.returns-clause-order
 returns-clause-order g c =
@@ -94,7 +90,7 @@ returns-clause-order g c =
     let from = asked.from.now in
     let In = g.F.In.Source.view in
     let over = c.finish.ensures.over from (c.deliver_source-drilled.ensures.began (Named from) c.in_ok-source.ensures.named) in
-    let opened = opened_does In g.F.FileSet.size from (Found from) (found_plain from) _ _ c.open.result c.open.ensures.noted c.open.ensures.faults in
+    let opened = opened_does In g.F.FileSet.size Fails from _ _ c.open.result c.open.ensures.noted c.open.ensures.faults in
     let read = does_then (Open from ∷ []) [] _ _ _ opened (does_only _ _ (Gave (reading_of from (In c.deliver_source-drilled.new.source)) ∷ []) over (gave_puts _)) in
     followed _ _ _ (did_events _ _ _ (does_then [] _ _ _ _ (checked_does c.check_streams.ensures.checks) (does_then (opening_event (option_text asked.pass)) (Open asked.script.now ∷ Open from ∷ [])
     _ _ _ c.read_passphrase.ensures.does (does_then (Open asked.script.now ∷ []) _ _ _ _ c.read_script.ensures.does read))))
@@ -104,7 +100,7 @@ returns-clause-does g c =
     let from = c.args.asked.now.from.now in
     let In = g.F.In.Source.view in
     let over = c.finish.ensures.over from (c.deliver_source-drilled.ensures.began (Named from) c.in_ok-source.ensures.named) in
-    let opened = opened_does In g.F.FileSet.size from (Found from) (found_plain from) _ _ c.open.result c.open.ensures.noted c.open.ensures.faults in
+    let opened = opened_does In g.F.FileSet.size Fails from _ _ c.open.result c.open.ensures.noted c.open.ensures.faults in
     let read = does_then (Open from ∷ []) [] _ _ _ opened (does_only _ _ (Gave (reading_of from (In c.deliver_source-drilled.new.source)) ∷ []) over (gave_puts _)) in
     (_, does_then [] _ _ _ _ (checked_does c.check_streams.ensures.checks) (does_then _ _ _ _ _ c.read_passphrase.ensures.does (does_then _ _ _ _ _ c.read_script.ensures.does read)))
 
@@ -114,9 +110,9 @@ returns-clause-order_done g c =
     let from = asked.from.now in
     let In = g.F.In.Source.view in
     let over = c.finish.ensures.over from (c.deliver_source-drilled.ensures.began (Named from) c.in_ok-source.ensures.named) in
-    let opened = opened_does In g.F.FileSet.size from (Found from) (found_plain from) _ _ c.open.result c.open.ensures.noted c.open.ensures.faults in
+    let opened = opened_does In g.F.FileSet.size Fails from _ _ c.open.result c.open.ensures.noted c.open.ensures.faults in
     let read = does_then (Open from ∷ []) [] _ _ _ opened (does_only _ _ (Gave (reading_of from (In c.deliver_source-drilled.new.source)) ∷ []) over (gave_puts _)) in
-    always c.deliver_source-drilled.result _ (does_then [] _ _ _ _ (checked_does c.check_streams.ensures.checks) (does_then (opening_event (option_text asked.pass)) (Open asked.script.now ∷ Open from ∷ [])
+    always_ok c.deliver_source-drilled.result _ (does_then [] _ _ _ _ (checked_does c.check_streams.ensures.checks) (does_then (opening_event (option_text asked.pass)) (Open asked.script.now ∷ Open from ∷ [])
     _ _ _ c.read_passphrase.ensures.does (does_then (Open asked.script.now ∷ []) _ _ _ _ c.read_script.ensures.does read)))
 
 pub returns-clause-ends : goal.returns-clause-ends
@@ -126,7 +122,7 @@ returns-clause-ends g c =
     let In = g.F.In.Source.view in
     let reading = reading_of from (In c.deliver_source-drilled.new.source) in
     let over = c.finish.ensures.over from (c.deliver_source-drilled.ensures.began (Named from) c.in_ok-source.ensures.named) in
-    let opened = opened_does In g.F.FileSet.size from (Found from) (found_plain from) _ _ c.open.result c.open.ensures.noted c.open.ensures.faults in
+    let opened = opened_does In g.F.FileSet.size Fails from _ _ c.open.result c.open.ensures.noted c.open.ensures.faults in
     let before = does_then [] _ _ _ _ (checked_does c.check_streams.ensures.checks) (does_then _ _ _ _ _ c.read_passphrase.ensures.does (does_then _ _ _ _ _ c.read_script.ensures.does opened)) in
     let came = did_came before (Gave reading) (came_one _ _ _ (ap (λ v. v.outcomes) over)) in
     let Came = CameSince (g.F.FileSet.view c.args.files.now) (g.F.FileSet.view c.finish.new.self) in
@@ -140,6 +136,6 @@ returns-clause-over g c =
     let In = g.F.In.Source.view in
     let reading = reading_of from (In c.deliver_source-drilled.new.source) in
     let over = c.finish.ensures.over from (c.deliver_source-drilled.ensures.began (Named from) c.in_ok-source.ensures.named) in
-    let opened = opened_does In g.F.FileSet.size from (Found from) (found_plain from) _ _ c.open.result c.open.ensures.noted c.open.ensures.faults in
+    let opened = opened_does In g.F.FileSet.size Fails from _ _ c.open.result c.open.ensures.noted c.open.ensures.faults in
     let before = does_then [] _ _ _ _ (checked_does c.check_streams.ensures.checks) (does_then _ _ _ _ _ c.read_passphrase.ensures.does (does_then _ _ _ _ _ c.read_script.ensures.does opened)) in
-    always c.deliver_source-drilled.result _ (reading, did_came before (Gave reading) (came_one _ _ _ (ap (λ v. v.outcomes) over)), refl)
+    always_ok c.deliver_source-drilled.result _ (reading, did_came before (Gave reading) (came_one _ _ _ (ap (λ v. v.outcomes) over)), refl)

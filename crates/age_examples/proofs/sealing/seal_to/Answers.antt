@@ -1,17 +1,11 @@
-use Rattle.std.proofs.Common.{◌≡◌, ◌-◌, ◌≤◌, ℕ, ◌+◌, length, take, drop, List, ◌++◌, ap, sym, subst, ◌∙◌, arith, take-add}
-use Rattle.std.proofs.lemmas.List.{take_all, take_rest, length-take, length-drop}
+use Rattle.std.proofs.Common.{◌≡◌, ◌-◌, ℕ, ◌+◌, length, take, drop, List, ◌++◌, ap, sym, subst, ◌∙◌, arith}
+use Rattle.std.proofs.lemmas.List.{take_all, length-take, length-drop}
 use Rattle.age_io.specs.Taken.{Appends}
-use Rattle.age_stream.specs.{Holds, step_len}
+use Rattle.age_stream.specs.{Holds}
 use Rattle.age_chunk.specs.{sealed_before_last, block_bytes, payload, chunk_length}
-use Rattle.std.proofs.lemmas.Bool.Decides.{nat_tests}
+use Rattle.age_stream.proofs.{step_len_le, take_on}
 use Rattle.age_io.proofs.{Appends-trans}
 use Rattle.age_examples.proofs.sealing.seal_to.Goals as goal
-
-step_len_le : (m : ℕ) (held piece : List ℕ) → step_len m held piece ≤ length piece
-step_len_le m held piece = grind (arith, nat_tests)
-
-take_on : (k t : ℕ) (xs : List ℕ) → take k xs ++ take t (take (length xs - k) (drop k xs)) ≡ take (k + t) xs
-take_on k t xs = ap (λ (ys : List ℕ). take k xs ++ take t ys) (take_rest xs k) ∙ sym (take-add k t xs)
 
 pub loop-at-preserved : goal.loop-at-preserved
 loop-at-preserved g c =

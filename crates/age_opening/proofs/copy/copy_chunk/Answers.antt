@@ -1,7 +1,7 @@
 use Rattle.std.proofs.Common.{◌≡◌, ◌++◌, ◌∙◌, ℕ, List, [], refl, sym, ap, subst, take, length, arith, append-nil, inl, inr}
 use Rattle.std.proofs.lemmas.List.{length-append, length-take}
 use Rattle.age_stream.specs.{IsPrefixOf}
-use Rattle.age_fault.specs.{HasFailed}
+use Rattle.age_io.specs.{HasFailed}
 use Rattle.age_io.specs.Taken.{Appends}
 use Rattle.age_intake.proofs.ReadLemmas.{err_is, passes_same}
 use Rattle.age_opening.proofs.StartLemmas.{passes_on, dries_same}
@@ -53,7 +53,7 @@ returns-in_err-write_all-clause-copied g c =
     let some = c.in_ok-need_bytes.ensures.some in
     let passes = passes_same kept.passes some.passes in
     let unread = c.need_bytes.new.reader.intake.now.bytes in
-    rw (err_is c.from_residual-in_err-write_all.result c.from_residual-in_err-write_all.ensures.1, c.in_err-write_all.ensures.fault) (record {
+    rw (err_is c.from_residual-in_err-write_all.result c.from_residual-in_err-write_all.ensures.1) (record {
       out = kept.copied ++ put.out;
       wrote = wrote_then kept.wrote (record { bytes = put.wrote; count = put.count });
       answered = (

@@ -1,7 +1,7 @@
 use Rattle.std.proofs.Common.{◌∙◌, ap, refl, length, arith}
 use Rattle.age_stream.specs.{has_failed}
-use Rattle.age_opening.specs.inner.{opens, seals, stage_of}
-use Rattle.age_keys.specs.inner.{box_valid}
+use Rattle.age_opening.specs.inner.{stage_of}
+use Rattle.age_keys.specs.inner.{box_valid, opens, seals}
 use Rattle.age_intake.proofs.ReadLemmas.{err_is}
 use Rattle.age_opening.proofs.PayloadLemmas.{begins, fed_all, feed_stops, pulled_more, pulled_none, pull_stops, pour_stopped, pour_ended}
 use Rattle.age_opening.proofs.CountLemmas.{released_none}

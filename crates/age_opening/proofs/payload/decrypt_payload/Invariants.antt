@@ -1,5 +1,6 @@
 use Rattle.std.proofs.Common.{◌-◌, ◌^◌}
-use Rattle.age_opening.specs.inner.{opens, stage_of}
+use Rattle.age_keys.specs.inner.{opens}
+use Rattle.age_opening.specs.inner.{stage_of}
 use Rattle.age_intake.specs.{SameReader}
 use Rattle.age_position.specs.inner.{SameWriter}
 use Rattle.age_opening.proofs.PayloadLemmas.{GoesOn}

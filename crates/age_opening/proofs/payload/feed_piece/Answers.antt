@@ -3,12 +3,11 @@ use Rattle.std.proofs.Common.{[], ◌+◌, ◌≡◌, ◌-◌, ◌≤◌, length
 use Rattle.std.proofs.Common.{inl, false}
 use Rattle.std.proofs.lemmas.List.{length-append, length-take, length-drop, take_all}
 use Rattle.age_stream.specs.{chunk_texts}
-use Rattle.age_stream.proofs.{take_on, lent_flat}
-use Rattle.age_opening.specs.inner.{opens, segment, seals}
-use Rattle.age_keys.specs.inner.{box_valid}
+use Rattle.age_stream.proofs.{lent, lent_flat, rejoined, take_on}
+use Rattle.age_opening.specs.inner.{segment}
+use Rattle.age_keys.specs.inner.{box_valid, opens, seals}
 use Rattle.age_intake.proofs.ReadLemmas.{err_is}
 use Rattle.age_opening.proofs.CountLemmas.{fed_none, fed_whole, fed_cut, chunk_few, holds_or_lends}
-use Rattle.age_opening.proofs.PayloadLemmas.{lent, rejoined}
 use Rattle.age_chunk.specs.{chunk_length}
 use Rattle.age_opening.proofs.payload.feed_piece.Goals as goal
 
@@ -50,7 +49,7 @@ returns-in_err-write_all-clause-fed g c = λ key k first fed h.
     let front = fed ++ take at piece in
     let more = take step.taken rest in
     let is = lent_flat step.chunk ∙ lent step.chunk _ refl ∙ ap (λ b. b.now) (sym c.unwrap_or-chunk.ensures) ∙ put.parts in
-    rw (err_is c.from_residual-in_err-write_all.result c.from_residual-in_err-write_all.ensures.1, c.in_err-write_all.ensures.fault) (record {
+    rw (err_is c.from_residual-in_err-write_all.result c.from_residual-in_err-write_all.ensures.1) (record {
       fed = front ++ more;
       left = drop step.taken rest;
       unwritten = put.unwritten;

@@ -1,5 +1,6 @@
 use Rattle.std.proofs.Common.{length, ◌-◌, ◌≤◌, ◌++◌, ℕ, List, take, [], false}
-use Rattle.age_opening.specs.inner.{opens, HasReleased, FeedGoes, segment}
+use Rattle.age_keys.specs.inner.{opens}
+use Rattle.age_opening.specs.inner.{HasReleased, FeedGoes, segment}
 use Rattle.age_position.specs.inner.{WriterView, view_of_writer, SameWriter}
 use Rattle.age_chunk.specs.{chunk_length}
 use Rattle.age_opening.proofs.payload.feed_piece.Given as goal

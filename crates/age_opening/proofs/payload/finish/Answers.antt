@@ -1,9 +1,8 @@
-use Rattle.std.proofs.Common.{ap, ◌∙◌, ◌+◌, ◌-◌, ◌^◌, min, ℕ, [], refl, inr, arith, false}
+use Rattle.std.proofs.Common.{◌∙◌, [], refl, inr, arith, false}
 use Rattle.age_io.proofs.{Appends-kept}
-use Rattle.age_opening.specs.inner.{opens, seals, segment}
-use Rattle.age_keys.specs.inner.{box_valid}
+use Rattle.age_opening.specs.inner.{segment}
+use Rattle.age_keys.specs.inner.{box_valid, opens, seals}
 use Rattle.age_intake.proofs.ReadLemmas.{err_is}
-use Rattle.age_opening.proofs.StartLemmas.{answer_as}
 use Rattle.age_opening.proofs.CountLemmas.{end_released}
 use Rattle.age_position.proofs.MarkLemmas.{wrote_none}
 use Rattle.age_chunk.specs.{chunk_length}
@@ -29,14 +28,15 @@ returns-in_err-write_all-clause-ends g c = λ key k first fed h.
       released = end_released seals opens box_valid chunk_length (omega arith) h after.key (after.stands (segment k fed false) h.stands)
           (rw put.parts at (c.in_ok-text.ensures.ends.text (segment k fed false) h.stands))
           (record { bytes = put.wrote; count = put.count }) refl refl;
-      answered = rw (p, c.in_err-write_all.ensures.fault) (put.answered, inr (refl, after.done));
+      answered = rw p (put.answered, inr (refl, after.done));
     }
 
-pub returns-clause-ends : goal.returns-clause-ends
-returns-clause-ends g c = λ key k first fed h.
+pub returns-in_err-flush_all-clause-ends : goal.returns-in_err-flush_all-clause-ends
+returns-in_err-flush_all-clause-ends g c = λ key k first fed h.
+    let p = err_is c.from_residual-in_err-flush_all.result c.from_residual-in_err-flush_all.ensures.1 in
     let after = rw c.in_ok-text.was at c.end.follows.holds-at-none in
     let put = c.in_ok-write_all.ensures.writes in
-    let flushed = c.flush_all.ensures in
+    let flushed = c.in_err-flush_all.ensures in
     record {
       unwritten = put.unwritten;
       released = end_released seals opens box_valid chunk_length (omega arith) h after.key (after.stands (segment k fed false) h.stands)
@@ -44,6 +44,20 @@ returns-clause-ends g c = λ key k first fed h.
             bytes = Appends-kept _ _ _ _ put.wrote flushed.bytes;
             count = put.count;
           }) refl refl;
-      answered = answer_as c.flush_all.result flushed.counted flushed.fault (λ _ same. (after.done, put.answered.0, same ∙ put.answered.1))
-          (λ _ is more. rw is ((more.0 ∙ ap (λ (k : ℕ). min (k + 1) (2 ^ 64 - 1)) put.answered.1, more.1), inr (refl, after.done)));
+      answered = rw p (rw put.answered.1 at flushed.counted, inr (refl, after.done));
+    }
+
+pub returns-clause-ends : goal.returns-clause-ends
+returns-clause-ends g c = λ key k first fed h.
+    let after = rw c.in_ok-text.was at c.end.follows.holds-at-none in
+    let put = c.in_ok-write_all.ensures.writes in
+    let flushed = c.in_ok-flush_all.ensures in
+    record {
+      unwritten = put.unwritten;
+      released = end_released seals opens box_valid chunk_length (omega arith) h after.key (after.stands (segment k fed false) h.stands)
+          (rw put.parts at (c.in_ok-text.ensures.ends.text (segment k fed false) h.stands)) (record {
+            bytes = Appends-kept _ _ _ _ put.wrote flushed.bytes;
+            count = put.count;
+          }) refl refl;
+      answered = (after.done, put.answered.0, flushed.counted ∙ put.answered.1);
     }

@@ -2,7 +2,7 @@ use Rattle.std.proofs.lemmas.Grind.{common_steps}
 use Rattle.std.proofs.Common.{◌∙◌, arith}
 use Rattle.age_io.proofs.{Appends-kept}
 use Rattle.age_intake.proofs.ReadLemmas.{err_is}
-use Rattle.age_sealing.proofs.SealLemmas.{last_cut, last_flushed}
+use Rattle.age_sealing.proofs.SealLemmas.{last_cut, last_on}
 use Rattle.age_sealing.proofs.sealing.finish.Goals as goal
 
 pub finish-requires : goal.finish-requires
@@ -17,19 +17,35 @@ returns-in_err-write_all-clause-sealed g c = λ key first text h.
     let last = c.in_ok-block.ensures.finishes in
     let is = err_is c.from_residual-in_err-write_all.result c.from_residual-in_err-write_all.ensures.1 in (
       omega (arith, last.limit, h.holds.index),
-      rw (is, c.in_err-write_all.ensures.fault) (last_cut (omega arith) h put.out put.unwritten
+      rw is (last_cut (omega arith) h put.out put.unwritten
           (record { bytes = put.wrote; count = put.count }) (rw put.parts at (last.chunk text h.holds))
           put.answered),
+    )
+
+pub returns-in_err-flush_all-clause-sealed : goal.returns-in_err-flush_all-clause-sealed
+returns-in_err-flush_all-clause-sealed g c = λ key first text h.
+    let put = c.in_ok-write_all.ensures.writes in
+    let last = c.in_ok-block.ensures.finishes in
+    let flushed = c.in_err-flush_all.ensures in
+    let is = err_is c.from_residual-in_err-flush_all.result c.from_residual-in_err-flush_all.ensures.1 in (
+      omega (arith, last.limit, h.holds.index),
+      rw is (last_cut (omega arith) h put.out put.unwritten (record {
+        bytes = Appends-kept _ _ _ _ put.wrote flushed.bytes;
+        count = put.count;
+      }) (rw put.parts at (last.chunk text h.holds)) (rw put.answered.1 at flushed.counted)),
     )
 
 pub returns-clause-sealed : goal.returns-clause-sealed
 returns-clause-sealed g c = λ key first text h.
     let put = c.in_ok-write_all.ensures.writes in
     let last = c.in_ok-block.ensures.finishes in
-    let flushed = c.flush_all.ensures in (
+    let flushed = c.in_ok-flush_all.ensures in (
       omega (arith, last.limit, h.holds.index),
-      last_flushed (omega arith) h put.out put.unwritten (record {
-        bytes = Appends-kept _ _ _ _ put.wrote flushed.bytes;
-        count = put.count;
-      }) (rw put.parts at (last.chunk text h.holds)) c.flush_all.result put.answered.0 flushed.fault (rw put.answered.1 at flushed.counted),
+      (
+        last_on (omega arith) h put.out put.unwritten (record {
+          bytes = Appends-kept _ _ _ _ put.wrote flushed.bytes;
+          count = put.count;
+        }) (rw put.parts at (last.chunk text h.holds)) put.answered.0,
+        flushed.counted ∙ put.answered.1 ∙ h.same,
+      ),
     )

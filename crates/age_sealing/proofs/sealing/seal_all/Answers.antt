@@ -2,8 +2,8 @@ use Rattle.std.proofs.lemmas.Grind.{common_steps}
 use Rattle.std.proofs.Common.{refl, length, ap, sym, subst, ◌∙◌, arith, ℕ, ◌++◌}
 use Rattle.age_io.proofs.{Consumes-nil}
 use Rattle.std.proofs.lemmas.List.{length-append}
-use Rattle.age_keys.specs.inner.{box_valid}
-use Rattle.age_sealing.specs.inner.{opens, seals, ports_of, front_of}
+use Rattle.age_keys.specs.inner.{box_valid, opens, seals}
+use Rattle.age_sealing.specs.inner.{ports_of, front_of}
 use Rattle.age_intake.specs.{start_at, reader_view, view_of_reader, Pulled}
 use Rattle.age_position.specs.inner.{view_of_writer}
 use Rattle.age_intake.proofs.ReadLemmas.{err_is, nothing_pulled}

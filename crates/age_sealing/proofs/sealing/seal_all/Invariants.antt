@@ -1,5 +1,6 @@
 use Rattle.std.proofs.Common.{◌-◌, ◌^◌, ◌≡◌, ℕ, [], List, length}
-use Rattle.age_sealing.specs.inner.{seals, HasSealedFront}
+use Rattle.age_keys.specs.inner.{seals}
+use Rattle.age_sealing.specs.inner.{HasSealedFront}
 use Rattle.age_intake.specs.{start_at, Pulled, SameReader}
 use Rattle.age_position.specs.inner.{view_of_writer, SameWriter}
 use Rattle.age_chunk.specs.{chunk_length}

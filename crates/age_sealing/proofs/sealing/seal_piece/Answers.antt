@@ -2,11 +2,10 @@ use Rattle.std.proofs.lemmas.Grind.{common_steps}
 use Rattle.std.proofs.Common.{refl, ◌+◌, ◌≡◌, ◌-◌, ◌≤◌, length, take, drop, ap, sym, ◌∙◌, arith, ℕ, List, ◌++◌, append-nil, append_assoc}
 use Rattle.std.proofs.Common.{take-append-drop}
 use Rattle.std.proofs.lemmas.List.{length-take, length-drop, length-append, take_all}
-use Rattle.age_stream.proofs.{step_len_le, take_on}
-use Rattle.age_sealing.specs.inner.{opens, seals}
-use Rattle.age_keys.specs.inner.{box_valid}
+use Rattle.age_stream.proofs.{lent, rejoined, step_len_le, take_on}
+use Rattle.age_keys.specs.inner.{box_valid, opens, seals}
 use Rattle.age_intake.proofs.ReadLemmas.{err_is}
-use Rattle.age_sealing.proofs.SealLemmas.{lent, lent_few, rejoined, seal_refused, seal_on, seal_cut, room_left}
+use Rattle.age_sealing.proofs.SealLemmas.{lent_few, seal_refused, seal_on, seal_cut, room_left}
 use Rattle.age_chunk.specs.{block_length, chunk_length}
 use Rattle.age_sealing.proofs.sealing.seal_piece.Goals as goal
 
@@ -59,7 +58,7 @@ returns-in_err-write_all-clause-sealed g c = λ key first text h.
     let all : (front ++ take step.taken rest) ++ drop step.taken rest ≡ text ++ piece = append_assoc front (take step.taken rest) (drop step.taken
     rest)
     ∙ ap (λ (t : List ℕ). front ++ t) (take-append-drop step.taken rest) ∙ rejoined text piece at in
-    rw (p, c.in_err-write_all.ensures.fault, ← all) (seal_cut (omega arith) kept (take step.taken rest) put.out put.unwritten
+    rw (p, ← all) (seal_cut (omega arith) kept (take step.taken rest) put.out put.unwritten
     (record { bytes = put.wrote; count = put.count }) (rw is at (c.in_ok-step.ensures.takes.chunk front
     kept.holds))
     (drop step.taken rest) put.answered)

@@ -1,5 +1,6 @@
 use Rattle.std.proofs.Common.{length, ◌-◌, ◌≤◌, ◌++◌, take, List, ℕ}
-use Rattle.age_sealing.specs.inner.{seals, HasSealedFront}
+use Rattle.age_keys.specs.inner.{seals}
+use Rattle.age_sealing.specs.inner.{HasSealedFront}
 use Rattle.age_position.specs.inner.{WriterView, view_of_writer, SameWriter}
 use Rattle.age_chunk.specs.{chunk_length}
 use Rattle.age_sealing.proofs.sealing.seal_piece.Given as goal

@@ -5,9 +5,5 @@ pub open-tells : goal.open-tells
 open-tells g x c = let e = c.ensures in
     record { noted = rw (e.noted, e.came, e.unended, e.unsaved) refl; begun = e.begun; named = e.named; faults = e.faults }
 
-pub open_or_empty-tells : goal.open_or_empty-tells
-open_or_empty-tells g x c = let e = c.ensures in
-    record { noted = rw (e.noted, e.came, e.unended, e.unsaved) refl; begun = e.begun; named = e.named; faults = e.faults }
-
 pub replace-tells : goal.replace-tells
 replace-tells g x c = let e = c.ensures in record { noted = rw (e.noted, e.came, e.unended) refl; saved = e.saved; faults = e.faults }

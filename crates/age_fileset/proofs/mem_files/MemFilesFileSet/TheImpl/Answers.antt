@@ -12,9 +12,6 @@ check_streams-tells g x c = record { checks = grind (arith, common_steps); fault
 pub open-tells : goal.open-tells
 open-tells g x c = record { noted = search rules; begun = grind (arith, common_steps); named = grind (arith, common_steps); faults = grind (arith, common_steps) }
 
-pub open_or_empty-tells : goal.open_or_empty-tells
-open_or_empty-tells g x c = record { noted = search rules; begun = grind (arith, common_steps); named = grind (arith, common_steps); faults = grind (arith, common_steps) }
-
 pub finish-tells : goal.finish-tells
 finish-tells g x c = record { over = grind (arith, common_steps); same = search rules }
 
@@ -26,9 +23,6 @@ create-tells g x c = record { noted = search rules; begun = grind (arith, common
 
 pub check_absent-tells : goal.check_absent-tells
 check_absent-tells g x c = record { noted = search rules; faults = grind (arith, common_steps) }
-
-pub create_new-tells : goal.create_new-tells
-create_new-tells g x c = record { noted = search rules; begun = grind (arith, common_steps); named = grind (arith, common_steps); faults = grind (arith, common_steps) }
 
 pub is_for_faults-tells : goal.is_for_faults-tells
 is_for_faults-tells g x c = grind (arith, common_steps)

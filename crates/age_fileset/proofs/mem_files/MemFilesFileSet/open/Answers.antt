@@ -7,4 +7,4 @@ pub invariant_of-self : goal.invariant_of-self
 invariant_of-self c = kept_one _ c.self.inside.log.outcomes _ (Unread c.args.name.now) (search rules) (λ files q. refl) (search rules) c.self.invariant
 
 pub invariant_of-self-2 : goal.invariant_of-self-2
-invariant_of-self-2 c = kept_one _ c.self.inside.log.outcomes _ (Found c.args.name.now (Some c.in-Some.bytes.now) (Some (length c.in-Some.bytes.now))) (search rules) (λ files q. refl) (refl, search rules, refl) c.self.invariant
+invariant_of-self-2 c = kept_one _ c.self.inside.log.outcomes _ (Found c.args.missing c.args.name.now (Some c.in-Some.bytes.now) (Some (length c.in-Some.bytes.now))) (search rules) (λ files q. refl) (refl, search rules, refl) c.self.invariant

@@ -1,0 +1,69 @@
+-- How `inspect` prints a report, and what it did of the file that it read.
+use Rattle.std.specs.Prelude.{◌≡◌, ℕ, suc, List, [], ◌∷◌, ◌++◌, Option, Some, ◌⊎◌, IfSome, codes, None}
+use Rattle.std.specs.List.{flat_map}
+use Rattle.std.specs.Fmt.{decimal}
+use Rattle.age_io.specs.{SourceView, SinkView, HasRisen}
+use Rattle.age_io.specs.Supply.{Supply}
+use Rattle.age_fault.specs.declared.fault.FileFault.{FileFault}
+use Rattle.age_fault.specs.declared.fault.FileFault.TheVariants.{Read, Write, Memory}
+use Rattle.age_intake.specs.{HeadFails, NoHeadFault}
+use Rattle.age_inspection.specs.{IsReport}
+use Rattle.age_inspection.specs.Reports as file
+use Rattle.age_inspection.specs.declared.report.Report.{Report}
+use Rattle.age_inspection.specs.declared.report.StanzaReport.{StanzaReport}
+use Rattle.age_fileset.specs.{FilesView, CameSince, Outcome, Unread, InUse}
+use Rattle.age_fileset.specs.declared.files.Missing.TheVariants as missing
+use Rattle.age_command.specs.declared.ending.Ending.{Ending}
+use Rattle.age_command.specs.declared.ending.Ending.TheVariants.{Fault}
+use Rattle.age_outputs.specs.Commands.{WasRead}
+use Rattle.clap.specs.Words.{Text}
+
+-- ---- How a report is printed: lines that end with LF, numbers in decimal.
+
+-- stanza TYPE ARGS BODY
+abbrev pub stanza_line : StanzaReport → List ℕ
+stanza_line s = codes "stanza " ++ s.kind ++ codes " " ++ decimal s.args ++ codes " "
+    ++ decimal s.body ++ codes "\n"
+
+-- plain P, or plain none
+abbrev pub plain_line : Option ℕ → List ℕ
+plain_line None = codes "plain none\n"
+plain_line (Some p) = codes "plain " ++ decimal p ++ codes "\n"
+
+-- the version, the header's length, its stanzas, the rest and the plaintext's length
+abbrev pub report_text : Report → List ℕ
+report_text r = codes "version age-encryption.org/v1\nheader " ++ decimal r.header ++ codes "\n"
+    ++ flat_map stanza_line r.stanzas ++ (codes "rest " ++ decimal r.rest ++ codes "\n")
+    ++ plain_line r.plain
+
+-- ---- What `inspect` did.
+
+-- the report of an input by its header and how long it is; or of one that was read to its end, if that
+-- isn't known or can't be believed: a file of no length may give bytes, as in /proc
+abbrev pub ReportsAs : Option ℕ → Supply → Supply → Report → Type 0
+ReportsAs (Some (suc n)) old new r = file.InspectsFront (suc n) old new r
+ReportsAs size old new r = file.Inspects old new r
+
+-- The report of what the file of this name gave, or of its header and of how long it is by the set of
+-- files; and of all that it had to give, if contracts see that.
+pub record ReportsFile (Came : Outcome → Type 0) (name : Text) (r : Report) : Type 0 where
+  pub first : SourceView
+  pub last : SourceView
+  pub reading : WasRead Came missing.Fails name first last
+  pub whole : IfSome first.supply.left (λ bytes. IsReport bytes r)
+  pub reports : ReportsAs reading.size first.supply last.supply r
+
+-- Reading the file of this name fails with this fault: that of the header that came; or 26 or 29, and what
+-- came has no fault of its own; or 26, since it couldn't be opened or is in use.
+abbrev pub FailsFile : (old new : FilesView) → Text → FileFault → Type 0
+FailsFile old new name fault = ((fault ≡ Read)
+    × (CameSince old new (Unread name) ⊎ (new.outcomes ≡ old.outcomes ++ InUse name ∷ [])))
+    ⊎ ((first : SourceView) × (last : SourceView)
+    × WasRead (CameSince old new) missing.Fails name first last × HeadFails NoHeadFault first last fault)
+
+-- how a report fails: its output couldn't be written; memory ran out; or as reading its input does
+abbrev pub FailsReport : (Fails : FileFault → Type 0) → (old new : SinkView) → Ending → Type 0
+FailsReport Fails old new (Fault Write) = HasRisen old.failed new.failed
+FailsReport Fails old new (Fault Memory) = Unit {0}
+FailsReport Fails old new (Fault fault) = Fails fault
+FailsReport Fails old new other = ⊥

@@ -1,0 +1,3 @@
+pub mod Inputs
+pub mod inner
+pub use Inputs.{InputView, IsFresh, as_source}

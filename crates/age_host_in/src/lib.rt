@@ -1,0 +1,11 @@
+//! The machine's files that are read, and the standard streams.
+//!
+//! Contracts see the bytes that a file gave or skipped, whether a pull found its end, and how many
+//! pulls have failed. What the machine answered then is noted for `RunFailures`.
+#![tactic(auto)]
+
+mod input;
+mod watched;
+
+pub use input::HostIn;
+pub use watched::Watched;

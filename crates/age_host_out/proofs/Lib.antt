@@ -1,0 +1,2 @@
+pub mod FileLemmas
+unfoldable pub use FileLemmas.*

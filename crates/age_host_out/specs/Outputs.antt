@@ -1,0 +1,70 @@
+-- What contracts see of a file of the machine that is written.
+use Rattle.std.specs.Prelude.{◌≡◌, ◌<◌, ◌^◌, ◌⊎◌, ℕ, List, [], Bool, true, false, Option, None, Some, is_none}
+use Rattle.age_io.specs.{SinkView}
+use Rattle.age_calls.specs.{OutFile}
+use Rattle.age_names.specs.{number_of}
+use Rattle.age_names.specs.declared.names.FileId.{FileId}
+use Rattle.age_names.specs.declared.node.Node.{Node}
+use Rattle.age_names.specs.declared.names.FileId.TheVariants.{File}
+
+pub record OutputView : Type 0 where
+  -- the name under which it was opened or made
+  pub name : List ℕ
+  -- how many puts have failed, and whether the last call did
+  pub failed : ℕ
+  pub failing : Bool
+  -- the bytes that it took, and how many of them it had taken when the disk was last waited for
+  pub took : List ℕ
+  pub settled : ℕ
+  -- which regular file it is, if it is one
+  pub file : Option OutFile
+  -- the path at which it is to be made, if it doesn't exist yet
+  pub unmade : Option (List ℕ)
+  -- what tells it from other files, if that is known
+  pub id : Option FileId
+
+-- a regular file has the id of the node whose number its calls have
+pub record HasNode (id : Option FileId) (file : OutFile) : Type 0 where
+  pub node : Node
+  pub fits : node.inode < 2 ^ 64
+  pub known : id ≡ Some (File node)
+  pub number : file.number ≡ number_of node
+
+-- a sink that took these bytes; it doesn't show what it holds
+abbrev pub sink_of : (failed : ℕ) (failing : Bool) (took : List ℕ) → SinkView
+sink_of failed failing took = record {
+  taken = record { bytes = took; contents = None; label = [] };
+  failed = failed;
+  failing = failing;
+  flushed = true;
+}
+
+-- the file as a sink, which has sent nothing on before it was made
+abbrev pub as_sink : OutputView → SinkView
+as_sink out = record (sink_of out.failed out.failing out.took) {
+  taken = record { bytes = out.took; contents = None; label = out.name };
+  flushed = is_none out.unmade;
+}
+
+-- nothing was put into it yet
+pub record IsNew (out : OutputView) : Type 0 where
+  pub failed : out.failed ≡ 0
+  pub failing : out.failing ≡ false
+  pub took : out.took ≡ []
+
+-- a regular file that was made at a path
+pub record IsMadeAt (path : List ℕ) (now : Option OutFile) : Type 0 where
+  pub file : OutFile
+  pub is : now ≡ Some file
+  pub at : file.path ≡ path
+  pub made : file.is_made ≡ true
+
+-- It is the same file as before. One that didn't exist yet still doesn't, or was made at its path.
+abbrev pub Stays : (unmade later : Option (List ℕ)) (file now : Option OutFile) (id known : Option FileId)
+    → Type 0
+Stays None later file now id known = (later ≡ None) × (now ≡ file) × (known ≡ id)
+Stays (Some path) later file now id known = ((later ≡ Some path) × (now ≡ file) × (known ≡ id))
+    ⊎ ((later ≡ None) × IsMadeAt path now)
+
+abbrev pub KeepsFile : (old new : OutputView) → Type 0
+KeepsFile old new = Stays old.unmade new.unmade old.file new.file old.id new.id

@@ -1,0 +1,34 @@
+-- What is known of a file while it is written.
+use Rattle.std.specs.Prelude.{◌≡◌, ◌≤◌, ℕ, List, [], length, Option, Some, None, false, option_map}
+use Rattle.std.specs.Prelude.{string_bytes}
+use Rattle.age_calls.specs.{OutFile, OutView, text_of}
+use Rattle.age_host_out.specs.declared.output.Pace.{Pace}
+use Rattle.age_host_out.specs.declared.target.Target.{Target}
+use Rattle.age_host_out.specs.declared.target.Target.TheVariants as target
+
+-- the regular file among targets
+abbrev pub regular_of : Target → Option OutView
+regular_of (target.File out) = Some out
+regular_of other = None
+
+-- which one it is
+abbrev pub out_file_of : Target → Option OutFile
+out_file_of it = option_map (λ (o : OutView). o.file) (regular_of it)
+
+-- the path at which a file that doesn't exist yet is to be made
+abbrev pub unmade_of : Target → Option (List ℕ)
+unmade_of (target.Unmade path) = Some (string_bytes path)
+unmade_of other = None
+
+-- What its sink took was written to a regular file. While no put has failed, no call has, unless
+-- the file can't be relied on. While nothing was taken either, no call has failed in any case.
+abbrev pub IsTaking : Option OutView → ℕ → List ℕ → Type 0
+IsTaking None failed took = Unit {0}
+IsTaking (Some out) failed took = (text_of out.calls ≡ took)
+    × ((failed ≡ 0 → out.is_lost ≡ false → out.failed ≡ 0)
+    × (failed ≡ 0 → took ≡ [] → out.failed ≡ 0))
+
+-- no more was waited for than was written, nor written than a sink took; some was, if it took any
+abbrev pub IsPaced : Pace → List ℕ → Type 0
+IsPaced pace took = (pace.settled ≤ pace.taken)
+    × ((pace.taken ≤ length took) × (pace.taken ≡ 0 → took ≡ []))

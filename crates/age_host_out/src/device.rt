@@ -1,0 +1,15 @@
+//! What is opened for writing and isn't a regular file.
+
+ghost use Rattle.std.specs.Prelude.{◌≡◌, Some};
+ghost use Rattle.age_names.specs.{number_of};
+ghost use Rattle.age_host_out.specs.inner.Devices.{device_of};
+
+use age_machine::{HostFile, HostMachine};
+
+/// A device or a pipe, and the machine that opened it.
+#[derive(Drop)]
+pub(crate) struct Device {
+    pub(crate) file: HostFile,
+    pub(crate) machine: HostMachine,
+    ghost opened: { device_of machine.calls ≡ Some (number_of file.node) },
+}

@@ -1,0 +1,797 @@
+//! A file of the machine that is written.
+
+ghost use Rattle.std.specs.Prelude.{◌≡◌, ◌↔◌, ◌≤◌, ◌<◌, [], ◌∷◌, ◌++◌, None, Some, true, false, length, is_ok};
+ghost use Rattle.std.specs.Prelude.{is_err, IfOk, IfSome, OnOk, OnErr, MatchResult, string_bytes, option_map, ℕ};
+ghost use Rattle.std.specs.Prelude.{List};
+ghost use Rattle.std.specs.Io.{WritesAtMost};
+ghost use Rattle.age_io.specs.{one_more};
+ghost use Rattle.age_options.specs.declared.Durability.TheVariants as wait;
+ghost use Rattle.age_io.specs.Taken.{WriteAppends, Keeps};
+ghost use Rattle.age_calls.specs.{Opened, Closes, Discards, TouchesItself};
+ghost use Rattle.age_names.specs.{number_of};
+ghost use Rattle.age_host_out.specs.Outputs.{IsNew, KeepsFile, Stays, HasNode, sink_of, as_sink};
+ghost use Rattle.age_host_out.specs.Targets.{regular_of, out_file_of, unmade_of, IsTaking, IsPaced};
+ghost use Rattle.age_host_out.specs.inner.{opening_calls, part_of, TargetGoes};
+
+use crate::device::Device;
+use crate::sync::{Witness, close_stream};
+use crate::target::{Target, claimed, make_first};
+use age_calls::{Kind, Opening};
+use age_io::{Failed, Failures, Sink, Tape};
+use age_machine::calls::close;
+use age_machine::{HostFile, HostMachine, Machine, Out};
+use age_names::{
+    FileId, Led, Node, Resolved, StandardStream, check_place, found_at, is_for_faults, tape_of,
+};
+use age_options::Durability;
+use std::alloc::Global;
+use std::fs::File;
+use std::io::{self, IsTerminal};
+use std::marker::Model;
+use std::rt::HostRuntime;
+
+/// How much a file took, and when the disk is waited for.
+#[derive(Clone, Copy)]
+struct Pace {
+    // How many bytes it took, and how many of them it had taken when the disk was last waited for.
+    taken: u64,
+    settled: u64,
+    // Whether the disk is waited for while it is written.
+    durability: Durability,
+    // How a wait for the disk failed. The system says so only once, so a later wait proves nothing.
+    lost: Option<io::Error>,
+}
+
+impl Pace {
+    /// Before anything is written.
+    fn new() -> Pace
+        ensures { IsPaced result [] }
+    {
+        Pace {
+            taken: 0,
+            settled: 0,
+            durability: Durability::Buffered,
+            lost: None,
+        }
+    }
+
+    /// Waits until what was written has reached the disk. Once a wait has failed, each later one fails.
+    fn reach_disk(&mut self, target: &mut Target) -> io::Result<()>
+        ensures settled { OnOk result (self.new.settled ≡ self.new.taken) }
+        ensures more { (took : List ℕ) → IsPaced self.old took → self.old.settled ≤ self.new.settled }
+        ensures goes { TargetGoes target.old target.new true [] }
+        ensures paced { (took : List ℕ) → IsPaced self.old took → IsPaced self.new took }
+    {
+        if let Some(error) = self.lost {
+            return Err(error);
+        }
+        let reached = target.reach_disk();
+        match reached {
+            Ok(()) => self.settled = self.taken,
+            Err(error) => self.lost = Some(error),
+        }
+        reached
+    }
+
+    /// Whether all that was written has reached the disk, and the machine says so again when a copy
+    /// is closed.
+    fn is_stored(&mut self, rt: &HostRuntime, target: &mut Target) -> bool
+        ensures stored { result ≡ true → self.new.taken ≤ self.new.settled }
+        ensures more { (took : List ℕ) → IsPaced self.old took → self.old.settled ≤ self.new.settled }
+        ensures goes { TargetGoes target.old target.new true [] }
+        ensures paced { (took : List ℕ) → IsPaced self.old took → IsPaced self.new took }
+    {
+        if self.taken > self.settled && self.reach_disk(target).is_err() {
+            return false;
+        }
+        target.close_copy(rt).is_ok()
+    }
+
+    /// Waits for the disk before more is written, if it is time to.
+    fn wait(&mut self, target: &mut Target) -> io::Result<()>
+        ensures goes { TargetGoes target.old target.new true [] }
+        ensures paced { (took : List ℕ) → IsPaced self.old took → IsPaced self.new took }
+    {
+        if self.durability == Durability::Buffered || !is_wait_due(self.taken, self.settled) {
+            return Ok(());
+        }
+        self.reach_disk(target)
+    }
+}
+
+/// Writes to a target, after the disk was waited for.
+fn write_paced(
+    rt: &HostRuntime,
+    target: &mut Target,
+    pace: &mut Pace,
+    from: &[u8],
+    handed: &mut Tape,
+) -> io::Result<usize>
+    ensures bound { WritesAtMost result from.now }
+    ensures handed { regular_of target.old ≡ None
+        → handed.new ≡ handed.old ++ part_of result from.now }
+    ensures goes { TargetGoes target.old target.new (is_ok result) (part_of result from.now) }
+    ensures paced { (took : List ℕ) → IsPaced pace.old took
+        → IsPaced pace.new (took ++ part_of result from.now) }
+{
+    pace.wait(target)?;
+    let n = target.write(rt, from, handed)?;
+    pace.taken = pace.taken.saturating_add(n as u64);
+    Ok(n)
+}
+
+/// Keeps what a put took, or why it took nothing.
+fn note_put(
+    took: &mut Tape,
+    error: &mut io::Error,
+    put: io::Result<usize>,
+    from: &[u8],
+) -> Result<usize, Failed>
+    requires { WritesAtMost put from.now }
+    ensures took { took.new ≡ took.old ++ part_of put from.now }
+    ensures bound { IfOk result (λ n. (n ≤ length from.now) × (0 < length from.now → 0 < n)) }
+    ensures ok { IfOk result (λ n. put ≡ Ok n) }
+    ensures err { OnErr result (part_of put from.now ≡ []) }
+{
+    match put {
+        Ok(n) if n > 0 || from.is_empty() => {
+            took.note(&from[..n]);
+            Ok(n)
+        }
+        other => {
+            *error = error_of(other);
+            Err(Failed)
+        }
+    }
+}
+
+/// Writes to a target, which is made before the first byte.
+fn write_made(
+    rt: &HostRuntime,
+    name: &str,
+    target: &mut Target,
+    id: &mut Option<FileId>,
+    pace: &mut Pace,
+    from: &[u8],
+    handed: &mut Tape,
+) -> io::Result<usize>
+    ensures bound { WritesAtMost result from.now }
+    ensures keeps { Stays (unmade_of target.old) (unmade_of target.new) (out_file_of target.old)
+        (out_file_of target.new) id.old id.new }
+    ensures made { IfOk result (λ n. 0 < n → unmade_of target.new ≡ None) }
+    ensures node { IfSome (regular_of target.old) (λ o. HasNode id.old o.file)
+        → IfSome (regular_of target.new) (λ o. HasNode id.new o.file) }
+    ensures taking { (before after : ℕ) (took : List ℕ) → IsTaking (regular_of target.old) before took
+        → IfSome (unmade_of target.old) (λ _. took ≡ [])
+        → (after ≡ 0 → (before ≡ 0) × (is_ok result ≡ true))
+        → IsTaking (regular_of target.new) after (took ++ part_of result from.now) }
+    ensures handed { (took : List ℕ) → (regular_of target.old ≡ None → handed.old ≡ took)
+        → regular_of target.new ≡ None → handed.new ≡ took ++ part_of result from.now }
+    ensures paced { (took : List ℕ) → IsPaced pace.old took
+        → IsPaced pace.new (took ++ part_of result from.now) }
+{
+    if from.is_empty() {
+        return Ok(0);
+    }
+    make_first(rt, name, target, id)?;
+    write_paced(rt, target, pace, from, handed)
+}
+
+/// Which regular file was ended, for contracts alone.
+#[derive(Drop)]
+struct Which {
+    path: Tape,
+    node: Node,
+    is_made: bool,
+}
+
+impl Model for Which {
+    ghost use Rattle.age_calls.specs.{OutFile};
+    ghost use Rattle.age_names.specs.{number_of};
+
+    ghost Value = { OutFile };
+
+    ghost view = { λ w. record {
+      path = w.path;
+      number = number_of w.node;
+      is_made = w.is_made;
+    } };
+}
+
+impl Which {
+    /// The file of an output.
+    fn of(out: &Out<HostMachine>) -> Which
+        ensures { result ≡ out.now.file }
+    {
+        let (path, file, is_made) = out.which();
+        Which {
+            path: tape_of(path.as_bytes()),
+            node: file.node(),
+            is_made,
+        }
+    }
+}
+
+/// What was done to a file that was ended, for contracts alone.
+#[derive(Drop)]
+pub struct HostEnded {
+    took: Tape,
+    // Whether it was closed with what was written, and not discarded.
+    is_closed: bool,
+    which: Option<Which>,
+    machine: HostMachine,
+}
+
+impl Model for HostEnded {
+    ghost use Rattle.age_calls.specs.{EndedFile};
+
+    ghost Value = { EndedFile };
+
+    ghost view = { λ e. record {
+      took = e.took;
+      is_closed = e.is_closed;
+      file = e.which;
+      calls = e.machine.calls;
+      failed = e.machine.failed;
+    } };
+}
+
+impl HostEnded {
+    /// The bytes that its sink took, for contracts alone.
+    pub fn took(&self) -> &Tape
+        ensures { result.now ≡ self.now.took }
+    {
+        &self.took
+    }
+
+    /// Which regular file it is, if it is one.
+    pub fn id(&self) -> Option<FileId> {
+        match &self.which {
+            Some(which) => Some(FileId::of_node(which.node)),
+            None => None,
+        }
+    }
+
+    /// Whether its file system has no way to wait until it has reached the disk.
+    pub fn is_unwaited(&self) -> bool {
+        self.machine.is_unwaited()
+    }
+}
+
+/// A file of the machine that is written, or standard output or error. A regular file keeps its
+/// bytes until a put takes some. One that doesn't exist yet is made then, or by the flush, so a run
+/// that stops before leaves nothing. A contract sees the bytes that it took, but not what it holds,
+/// how many puts have failed, and whether the last call did.
+#[derive(Drop)]
+pub struct HostOut {
+    rt: HostRuntime,
+    name: String,
+    target: Target,
+    // Which file it is, if that is known.
+    id: Option<FileId>,
+    failures: Failures,
+    // What the machine answered to the last put that failed.
+    error: io::Error,
+    pace: Pace,
+    took: Tape,
+    // What a device or a stream took, as it was written.
+    handed: Tape,
+}
+
+impl Model for HostOut {
+    ghost use Rattle.age_host_out.specs.Outputs.{OutputView, HasNode};
+    ghost use Rattle.std.specs.Prelude.{◌≡◌, [], None, IfSome, string_bytes};
+    ghost use Rattle.age_host_out.specs.Targets.{regular_of, out_file_of, unmade_of, IsTaking, IsPaced};
+
+    ghost Value = { OutputView };
+
+    ghost view = { λ s. record {
+      name = string_bytes s.name;
+      failed = s.failures.count;
+      failing = s.failures.last;
+      took = s.took;
+      settled = s.pace.settled;
+      file = out_file_of s.target;
+      unmade = unmade_of s.target;
+      id = s.id;
+    } };
+
+    ghost invariant = { λ s. IsTaking (regular_of s.target) s.failures.count s.took
+        × (IfSome (regular_of s.target) (λ o. HasNode s.id o.file) × (IsPaced s.pace s.took
+        × ((regular_of s.target ≡ None → s.handed ≡ s.took)
+        × IfSome (unmade_of s.target) (λ _. s.took ≡ [])))) };
+}
+
+/// The least and the most bytes that are written between two waits for the disk. In between, their
+/// number grows with what was written, so a stop seldom loses more than half of it.
+const WAIT_FIRST: u64 = 1 << 24;
+
+const WAIT_MOST: u64 = 1 << 30;
+
+/// Whether the disk is to be waited for before more is written.
+fn is_wait_due(taken: u64, settled: u64) -> bool {
+    taken.saturating_sub(settled) >= settled.min(WAIT_MOST).max(WAIT_FIRST)
+}
+
+/// What was done to a device or a stream. No call is noted except the one that opened it.
+fn unseen(rt: &HostRuntime, target: &Target, took: Tape, is_closed: bool) -> HostEnded
+    requires { regular_of target.now ≡ None }
+    ensures is { result ≡ record {
+      took = took;
+      is_closed = is_closed;
+      file = None;
+      calls = opening_calls target.now;
+      failed = 0;
+    } }
+    ensures within { TouchesItself result }
+{
+    let machine = match target {
+        Target::Device(device) => device.machine.again(),
+        _ => HostMachine::new(rt),
+    };
+    HostEnded {
+        took,
+        is_closed,
+        which: None,
+        machine,
+    }
+}
+
+/// Ends a regular file, and closes it.
+fn end_file(
+    out: Out<HostMachine>,
+    took: Tape,
+    failures: Failures,
+    durability: Durability,
+) -> (HostEnded, io::Result<()>)
+    requires { IsTaking (Some out) failures.count took }
+    ensures { Closes durability (Some out.file) (sink_of failures.count failures.last took) result.1
+        result.0 }
+{
+    let which = Some(Which::of(&out));
+    let age_machine::Ended { end, machine, .. } = out.end(durability);
+    let ended = HostEnded {
+        took,
+        is_closed: true,
+        which,
+        machine,
+    };
+    (ended, end)
+}
+
+/// Ends a regular file unchanged, if nothing was written.
+fn discard_file(
+    out: Out<HostMachine>,
+    took: Tape,
+    failures: Failures,
+    durability: Durability,
+) -> HostEnded
+    requires { IsTaking (Some out) failures.count took }
+    ensures { Discards (Some out.file) (sink_of failures.count failures.last took) result }
+{
+    let which = Some(Which::of(&out));
+    let machine = out.discard(durability);
+    HostEnded {
+        took,
+        is_closed: false,
+        which,
+        machine,
+    }
+}
+
+/// Ends a regular file to which each put failed, by closing it unchanged.
+fn close_untouched(
+    out: Out<HostMachine>,
+    took: Tape,
+    failures: Failures,
+    durability: Durability,
+) -> (HostEnded, io::Result<()>)
+    requires taking { IsTaking (Some out) failures.count took }
+    requires failed { (0 < failures.count) × (took ≡ []) }
+    ensures { Closes durability (Some out.file) (sink_of failures.count failures.last took) result.1
+        result.0 }
+{
+    let mut ended = discard_file(out, took, failures, durability);
+    ended.is_closed = true;
+    (ended, Ok(()))
+}
+
+/// Ends a device or a stream, and closes it in any case.
+fn end_stream(
+    rt: &HostRuntime,
+    mut target: Target,
+    mut pace: Pace,
+    durability: Durability,
+) -> io::Result<()>
+    ensures made { OnOk result (unmade_of target ≡ None) }
+{
+    let reached = match durability {
+        Durability::Synced => pace.reach_disk(&mut target),
+        Durability::Buffered => Ok(()),
+    };
+    let closed = match target {
+        Target::File(_) => Ok(()),
+        Target::Unmade(_) => Err(io::Error::from(io::ErrorKind::NotFound)),
+        Target::Device(Device { file, .. }) => close(rt, file.into_file()),
+        Target::Output(..) => close_stream(rt, StandardStream::Output),
+        Target::Faults(..) => close_stream(rt, StandardStream::Faults),
+    };
+    reached?;
+    closed
+}
+
+impl HostOut {
+    fn new(rt: &HostRuntime, name: String, target: Target, id: Option<FileId>) -> HostOut
+        requires taking { IsTaking (regular_of target) 0 [] }
+        requires node { IfSome (regular_of target) (λ o. HasNode id o.file) }
+        ensures fresh { IsNew result }
+        ensures named { result.name ≡ string_bytes name }
+        ensures file { (result.file ≡ out_file_of target) × (result.unmade ≡ unmade_of target) }
+    {
+        HostOut {
+            rt: *rt,
+            name,
+            target,
+            id,
+            failures: Failures::none(),
+            error: io::Error::from(io::ErrorKind::Other),
+            pace: Pace::new(),
+            took: Tape::new(),
+            handed: Tape::new(),
+        }
+    }
+
+    /// What the machine answered to the last put that failed.
+    pub fn error(&self) -> io::Error {
+        self.error
+    }
+
+    /// Standard error, for the lines of faults. Puts fail if the program was started without it.
+    pub fn faults(rt: &HostRuntime) -> HostOut
+        ensures { IsNew result }
+    {
+        let target = Target::Faults(rt.stderr(), Witness::none());
+        HostOut::new(rt, String::new(rt.alloc()), target, None)
+    }
+
+    /// Opens what a name stands for without emptying it; if nothing exists, a file is to be made.
+    /// Standard input can't be written. If the output is to be on the disk at the end, the disk is
+    /// waited for every 16 MiB to 1 GiB, so that a failure is seen early, and `settle` can tell
+    /// what is certain.
+    pub fn open(
+        alloc: Global,
+        rt: &HostRuntime,
+        name: &str,
+        durability: Durability,
+    ) -> io::Result<HostOut>
+        ensures fresh { IfOk result IsNew }
+        ensures named { IfOk result (λ o. o.name ≡ name.now) }
+    {
+        let Led { name, to } = Led::of(alloc, rt, name)?;
+        let name = String::from_str(alloc, name)?;
+        let mut out = match to {
+            Resolved::Path(path) => HostOut::open_at(alloc, rt, name, path.as_str())?,
+            Resolved::Stream(stream) => HostOut::of_stream(rt, name, stream)?,
+        };
+        if out.target.can_reach_disk() {
+            out.pace.durability = durability;
+        }
+        Ok(out)
+    }
+
+    /// A file that is to be made, if nothing has the name, not even a link. The disk is waited for as
+    /// by `open`.
+    pub fn to_make(
+        alloc: Global,
+        rt: &HostRuntime,
+        name: &str,
+        durability: Durability,
+    ) -> io::Result<HostOut>
+        ensures fresh { IfOk result IsNew }
+        ensures named { IfOk result (λ o. o.name ≡ name.now) }
+        ensures unmade { IfOk result (λ o. o.unmade ≡ Some name.now) }
+    {
+        if found_at(rt, name)?.is_some() {
+            return Err(io::Error::from(io::ErrorKind::AlreadyExists));
+        }
+        let own = String::from_str(alloc, name)?;
+        let mut out = HostOut::unmade_at(rt, own, String::from_str(alloc, name)?)?;
+        out.pace.durability = durability;
+        Ok(out)
+    }
+
+    /// Opens the file at the end of a name's links, which is to be made if it doesn't exist.
+    fn open_at(alloc: Global, rt: &HostRuntime, name: String, path: &str) -> io::Result<HostOut>
+        ensures fresh { IfOk result IsNew }
+        ensures named { IfOk result (λ o. o.name ≡ string_bytes name) }
+    {
+        let own = String::from_str(alloc, path)?;
+        let mut machine = HostMachine::new(rt);
+        match machine.open(name.as_str(), own.as_str())? {
+            Some(opened) => HostOut::of_opened(rt, machine, opened, name, own),
+            None => HostOut::unmade_at(rt, name, own),
+        }
+    }
+
+    /// A file that is to be made at a path that holds neither a file nor a link.
+    fn unmade_at(rt: &HostRuntime, name: String, path: String) -> io::Result<HostOut>
+        ensures fresh { IfOk result IsNew }
+        ensures named { IfOk result (λ o. o.name ≡ string_bytes name) }
+        ensures unmade { IfOk result (λ o. o.unmade ≡ Some (string_bytes path)) }
+    {
+        check_place(rt, path.as_str())?;
+        Ok(HostOut::new(rt, name, Target::Unmade(path), None))
+    }
+
+    /// Takes what was opened for writing. What is written to a regular file replaces what it holds.
+    fn of_opened(
+        rt: &HostRuntime,
+        machine: HostMachine,
+        opened: (HostFile, Kind),
+        name: String,
+        path: String,
+    ) -> io::Result<HostOut>
+        requires unfailed { machine.failed ≡ 0 }
+        requires opened { machine.calls
+            ≡ Opened (string_bytes path) (number_of opened.0.node) opened.1 ∷ [] }
+        ensures fresh { IfOk result IsNew }
+        ensures named { IfOk result (λ o. o.name ≡ string_bytes name) }
+    {
+        let (file, kind) = opened;
+        let Kind::Regular(is_waited) = kind else {
+            let id = FileId::of(&file.file().metadata()?);
+            let device = Target::Device(Device { file, machine });
+            return Ok(HostOut::new(rt, name, device, id));
+        };
+        let opening = Opening::Found {
+            is_named: file.is_named(),
+            is_waited,
+        };
+        let id = Some(FileId::of_node(file.node()));
+        let out = Out::new(machine, file, path, opening);
+        Ok(HostOut::new(rt, name, Target::File(out), id))
+    }
+
+    /// Takes a file that is open for writing, to which a path leads, unless it is a device. Its
+    /// name isn't waited for.
+    pub fn over(alloc: Global, rt: &HostRuntime, file: File, path: &str) -> io::Result<HostOut>
+        ensures { IfOk result IsNew }
+    {
+        let (name, own) = (
+            String::from_str(alloc, path)?,
+            String::from_str(alloc, path)?,
+        );
+        let mut machine = HostMachine::new(rt);
+        let opened = machine.adopt(file, own.as_str())?;
+        HostOut::of_opened(rt, machine, opened, name, own)
+    }
+
+    /// A stream of this name that can be written, from where it stands.
+    pub fn of_stream(rt: &HostRuntime, name: String, stream: StandardStream) -> io::Result<HostOut>
+        ensures fresh { IfOk result IsNew }
+        ensures named { IfOk result (λ o. o.name ≡ string_bytes name) }
+    {
+        let target = Target::of_stream(rt, stream)?;
+        let id = FileId::of_open_stream(rt, stream)?;
+        Ok(HostOut::new(rt, name, target, id))
+    }
+
+    /// Takes a regular file for this run alone, so that no two runs write to it. Fails if another
+    /// run has it, or if its name no longer leads to it, as when another run that had made it has
+    /// removed it.
+    pub fn claim(self, rt: &HostRuntime) -> io::Result<HostOut>
+        ensures { IfOk result (λ o. o ≡ self) }
+    {
+        let target = claimed(rt, self.target, self.id, self.name.as_str())?;
+        Ok(HostOut { target, ..self })
+    }
+
+    /// The name under which it was opened or made.
+    pub fn name(&self) -> &str
+        ensures { result.now ≡ self.now.name }
+    {
+        self.name.as_str()
+    }
+
+    /// The bytes that it took, for contracts alone.
+    pub fn took(&self) -> &Tape
+        ensures { result.now ≡ self.now.took }
+    {
+        &self.took
+    }
+
+    /// Which file it is, if that is known.
+    pub fn id(&self) -> Option<FileId>
+        ensures same { result ≡ self.now.id }
+        ensures node { IfSome self.now.file (HasNode self.now.id) }
+    {
+        self.id
+    }
+
+    /// The path at which it is to be made, if it doesn't exist yet.
+    pub fn unmade(&self) -> Option<&str>
+        ensures { option_map (λ s. s.now) result ≡ self.now.unmade }
+    {
+        match &self.target {
+            Target::Unmade(path) => Some(path.as_str()),
+            _ => None,
+        }
+    }
+
+    /// Whether it is standard error, or the file to which that leads.
+    pub fn is_for_faults(&self, rt: &HostRuntime) -> bool {
+        match &self.target {
+            Target::Faults(..) => true,
+            _ => is_for_faults(rt, self.id),
+        }
+    }
+
+    /// Whether it is a terminal.
+    pub fn is_terminal(&self) -> bool
+        ensures { result ≡ true → self.now.file ≡ None }
+    {
+        match &self.target {
+            Target::File(_) | Target::Unmade(_) => false,
+            Target::Device(device) => device.file.file().is_terminal(),
+            Target::Output(output, _) => output.is_terminal(),
+            Target::Faults(faults, _) => faults.is_terminal(),
+        }
+    }
+
+    /// Whether it has taken no byte so far.
+    pub fn is_empty(&self) -> bool
+        ensures { result ≡ true ↔ (self.now.took ≡ []) }
+    {
+        self.pace.taken == 0
+    }
+
+    /// How many of the bytes that it took are certainly stored: on the disk, if they are to be and
+    /// the machine can wait for that. A file that was truncated or removed has fewer. What may
+    /// still be on its way through a pipe isn't counted.
+    pub fn settle(&mut self, rt: &HostRuntime, durability: Durability) -> u64
+        ensures same { self.new ≡ record self.old { settled = self.new.settled } }
+        ensures most { result ≤ length self.old.took }
+        ensures stored { durability ≡ wait.Synced → result ≤ self.new.settled }
+    {
+        let before = self.pace.settled;
+        let held = match durability {
+            Durability::Synced
+                if self.pace.taken > 0 && !self.pace.is_stored(rt, &mut self.target) => {
+                before.min(self.target.length_by_name(rt))
+            }
+            _ => self.pace.taken,
+        };
+        self.target.certain_of(rt, held)
+    }
+
+    /// Like `settle`, but by what the waits so far have shown, without another one, which might take a
+    /// failure away that the end is to find. If the disk isn't waited for, nothing is certain.
+    pub fn settled_so_far(&self, rt: &HostRuntime, durability: Durability) -> u64
+        ensures most { result ≤ length self.now.took }
+        ensures stored { result ≤ self.now.settled }
+    {
+        match durability {
+            Durability::Synced => {
+                let held = self.pace.settled.min(self.target.length_by_name(rt));
+                self.target.certain_of(rt, held)
+            }
+            Durability::Buffered => 0,
+        }
+    }
+
+    /// Whether puts were tried, and none took a byte.
+    fn has_only_failed(&self) -> bool
+        ensures { result ≡ true
+            → (0 < self.now.failed) × ((self.now.took ≡ []) × (self.now.unmade ≡ None)) }
+    {
+        if self.failures.count == 0 || !self.is_empty() {
+            return false;
+        }
+        match &self.target {
+            Target::File(out) => out.is_untouched(),
+            Target::Device(_) => true,
+            _ => false,
+        }
+    }
+
+    /// Ends it with what was written, and closes it in any case. If each put failed, it is
+    /// unchanged. Fails if it wasn't made.
+    pub fn close(self, rt: &HostRuntime, durability: Durability) -> (HostEnded, io::Result<()>)
+        ensures closes { Closes durability self.file (as_sink self) result.1 result.0 }
+        ensures made { OnOk result.1 (self.unmade ≡ None) }
+    {
+        let has_only_failed = self.has_only_failed();
+        let HostOut {
+            target,
+            failures,
+            pace,
+            took,
+            ..
+        } = self;
+        match target {
+            Target::File(out) if has_only_failed => {
+                close_untouched(out, took, failures, durability)
+            }
+            Target::File(out) => end_file(out, took, failures, durability),
+            other => {
+                let unseen = unseen(rt, &other, took, true);
+                let ended = if has_only_failed {
+                    Ok(())
+                } else {
+                    end_stream(rt, other, pace, durability)
+                };
+                (unseen, ended)
+            }
+        }
+    }
+
+    /// Ends it unchanged, if nothing was written.
+    pub fn discard(self, rt: &HostRuntime, durability: Durability) -> HostEnded
+        ensures discards { Discards self.file (as_sink self) result }
+    {
+        let HostOut {
+            target,
+            failures,
+            took,
+            ..
+        } = self;
+        match target {
+            Target::File(out) => discard_file(out, took, failures, durability),
+            other => unseen(rt, &other, took, false),
+        }
+    }
+}
+
+/// What the machine answered when it took no byte.
+fn error_of(put: io::Result<usize>) -> io::Error {
+    match put {
+        Ok(_) => io::Error::from(io::ErrorKind::WriteZero),
+        Err(error) => error,
+    }
+}
+
+impl Sink for HostOut {
+    ghost view = { as_sink };
+
+    fn put(&mut self, from: &[u8]) -> Result<usize, Failed>
+        ensures bound { IfOk result (λ n. (n ≤ length from.now) × (0 < length from.now → 0 < n)) }
+        ensures bytes { WriteAppends (as_sink self.old).taken (as_sink self.new).taken result from.now }
+        ensures counted { MatchResult result (λ _. self.new.failed ≡ self.old.failed)
+            (λ _. self.new.failed ≡ one_more self.old.failed) }
+        ensures last { self.new.failing ≡ is_err result }
+        ensures same { KeepsFile self.old self.new }
+        ensures made { IfOk result (λ n. 0 < n → self.new.unmade ≡ None) }
+    {
+        let put = write_made(
+            &self.rt,
+            self.name.as_str(),
+            &mut self.target,
+            &mut self.id,
+            &mut self.pace,
+            from,
+            &mut self.handed,
+        );
+        let taken = note_put(&mut self.took, &mut self.error, put, from);
+        self.failures.note(taken)
+    }
+
+    /// Makes a file that doesn't exist yet. The program keeps no buffer for the machine's files.
+    fn flush(&mut self) -> Result<(), Failed>
+        ensures flushed { OnOk result ((as_sink self.new).flushed ≡ true) }
+        ensures bytes { Keeps (as_sink self.old).taken (as_sink self.new).taken }
+        ensures counted { MatchResult result (λ _. self.new.failed ≡ self.old.failed)
+            (λ _. self.new.failed ≡ one_more self.old.failed) }
+        ensures last { self.new.failing ≡ is_err result }
+        ensures same { KeepsFile self.old self.new }
+    {
+        let made = make_first(&self.rt, self.name.as_str(), &mut self.target, &mut self.id);
+        if let Err(error) = made {
+            self.error = error;
+        }
+        self.failures.note(made.map_err(|_| Failed))
+    }
+
+    fn failures(&self) -> u64 {
+        self.failures.count
+    }
+}

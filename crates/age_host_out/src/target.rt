@@ -1,0 +1,249 @@
+//! What the bytes of a written file go to.
+
+ghost use Rattle.std.specs.Prelude.{◌≡◌, ◌≤◌, ◌<◌, ◌++◌, [], None, true, IfOk, IfSome, OnOk, OnErr, is_ok};
+ghost use Rattle.std.specs.Prelude.{ℕ, List};
+ghost use Rattle.std.specs.Io.{WritesAtMost};
+ghost use Rattle.age_calls.specs.{text_of};
+ghost use Rattle.age_host_out.specs.Outputs.{HasNode, Stays};
+ghost use Rattle.age_host_out.specs.Targets.{regular_of, out_file_of, unmade_of, IsTaking};
+ghost use Rattle.age_host_out.specs.inner.{part_of, TargetGoes};
+
+use crate::device::Device;
+use crate::sync::{Witness, sync_file};
+use age_calls::Opening;
+use age_io::Tape;
+use age_machine::calls::close;
+use age_machine::{HostMachine, Machine, Out, TRIES, is_to_retry, too_many_tries};
+use age_names::{FileId, StandardStream, is_handed_on, led_to};
+use std::io::{self, Write};
+use std::os::fd::AsFd;
+use std::rt::{HostRuntime, Stderr, Stdout};
+use std::{fs, mem};
+
+/// How many bytes of what a pipe took aren't counted as certain, since the pipe and its reader may hold
+/// them: a network connection holds megabytes.
+const ON_THE_WAY: u64 = 4 << 20;
+
+/// Where the bytes of an output go.
+#[derive(Drop)]
+pub(crate) enum Target {
+    /// A regular file that was opened or made.
+    File(Out<HostMachine>),
+    /// A file that is to be made at this path, once something is to be written.
+    Unmade(String),
+    /// A pipe or a device that was opened.
+    Device(Device),
+    /// Standard output, from where it stands, and what its disk is waited for by.
+    Output(Stdout, Witness),
+    /// Standard error, from where it stands.
+    Faults(Stderr, Witness),
+}
+
+/// Writes to what isn't a regular file, and notes what it took. No proof sees the call.
+fn write_once<W: Write>(to: &mut W, from: &[u8], handed: &mut Tape) -> io::Result<usize>
+    ensures bound { WritesAtMost result from.now }
+    ensures notes { handed.new ≡ handed.old ++ part_of result from.now }
+    ensures err { OnErr result (handed.new ≡ handed.old) }
+{
+    let n = to.write(from)?;
+    handed.note(&from[..n]);
+    Ok(n)
+}
+
+/// Writes, and tries again if the machine says to.
+fn write_to<W: Write>(
+    rt: &HostRuntime,
+    to: &mut W,
+    from: &[u8],
+    handed: &mut Tape,
+) -> io::Result<usize>
+    ensures bound { WritesAtMost result from.now }
+    ensures notes { handed.new ≡ handed.old ++ part_of result from.now }
+{
+    for _ in 0..TRIES {
+        match write_once(to, from, handed) {
+            Err(error) if is_to_retry(rt, &error) => {}
+            written => return written,
+        }
+    }
+    Err(too_many_tries())
+}
+
+impl Target {
+    /// What is written to a stream, from where it stands. Standard input can't be written.
+    pub(crate) fn of_stream(rt: &HostRuntime, stream: StandardStream) -> io::Result<Target>
+        ensures { IfOk result (λ t. regular_of t ≡ None) }
+    {
+        stream.check(rt)?;
+        match stream {
+            StandardStream::Input => Err(io::Error::from(io::ErrorKind::Unsupported)),
+            StandardStream::Output => Ok(Target::Output(rt.stdout(), Witness::of(rt, stream))),
+            StandardStream::Faults => Ok(Target::Faults(rt.stderr(), Witness::of(rt, stream))),
+        }
+    }
+
+    /// Writes some bytes, and notes what anything but a regular file took.
+    pub(crate) fn write(
+        &mut self,
+        rt: &HostRuntime,
+        from: &[u8],
+        handed: &mut Tape,
+    ) -> io::Result<usize>
+        ensures bound { WritesAtMost result from.now }
+        ensures goes { TargetGoes self.old self.new (is_ok result) (part_of result from.now) }
+        ensures handed { regular_of self.old ≡ None
+            → handed.new ≡ handed.old ++ part_of result from.now }
+    {
+        match self {
+            Target::File(_) if from.is_empty() => Ok(0),
+            Target::File(out) => out.put(from),
+            Target::Unmade(_) => Err(io::Error::from(io::ErrorKind::NotFound)),
+            Target::Device(device) => write_to(rt, &mut device.file.file(), from, handed),
+            Target::Output(output, _) => write_to(rt, output, from, handed),
+            Target::Faults(faults, _) => write_to(rt, faults, from, handed),
+        }
+    }
+
+    /// Waits until what was written has reached the disk.
+    pub(crate) fn reach_disk(&mut self) -> io::Result<()>
+        ensures { TargetGoes self.old self.new true [] }
+    {
+        match self {
+            Target::File(out) => out.reach(),
+            Target::Unmade(_) => Ok(()),
+            Target::Device(device) => sync_file(device.file.file()),
+            Target::Output(_, witness) => witness.sync(),
+            Target::Faults(_, witness) => witness.sync(),
+        }
+    }
+
+    /// Closes a second descriptor of it, if one can be made, since some file systems store a file
+    /// only when one is closed, and say only then that they can't.
+    pub(crate) fn close_copy(&self, rt: &HostRuntime) -> io::Result<()> {
+        let copy = match self {
+            Target::File(out) => out.file().file().as_fd().try_clone_to_owned(),
+            Target::Unmade(_) | Target::Device(_) => return Ok(()),
+            Target::Output(..) => StandardStream::Output.copy(rt),
+            Target::Faults(..) => StandardStream::Faults.copy(rt),
+        };
+        match copy {
+            Ok(copy) => close(rt, copy),
+            Err(_) => Ok(()),
+        }
+    }
+
+    /// How long the file is to which its name leads; 0 if there is none.
+    pub(crate) fn length_by_name(&self, rt: &HostRuntime) -> u64 {
+        let path = match self {
+            Target::File(out) => out.path(),
+            Target::Unmade(_) => return 0,
+            Target::Device(_) => return u64::MAX,
+            Target::Output(..) => StandardStream::Output.path(),
+            Target::Faults(..) => StandardStream::Faults.path(),
+        };
+        match led_to(rt, path) {
+            Ok(Some(found)) => found.len(),
+            _ => 0,
+        }
+    }
+
+    /// How many of `held` bytes are certain. A file has no more than its length, and the last bytes
+    /// of a pipe may be on their way to whoever reads it.
+    pub(crate) fn certain_of(&self, rt: &HostRuntime, held: u64) -> u64
+        ensures { result ≤ held }
+    {
+        let found = match self {
+            Target::File(out) => return held.min(out.room()),
+            Target::Unmade(_) => return 0,
+            Target::Device(device) => device.file.file().metadata(),
+            Target::Output(..) => fs::metadata(rt, StandardStream::Output.path()),
+            Target::Faults(..) => fs::metadata(rt, StandardStream::Faults.path()),
+        };
+        match found {
+            Ok(metadata) if is_handed_on(&metadata) => held.saturating_sub(ON_THE_WAY),
+            Ok(metadata) if metadata.is_file() => held.min(metadata.len()),
+            _ => held,
+        }
+    }
+
+    /// Whether the disk can be waited for. If it can't, that is said at the end, once all is written.
+    pub(crate) fn can_reach_disk(&self) -> bool {
+        match self {
+            Target::File(_) | Target::Unmade(_) | Target::Device(_) => true,
+            Target::Output(_, witness) | Target::Faults(_, witness) => !witness.is_missing(),
+        }
+    }
+}
+
+/// Takes a regular file for this run alone, if its name leads to it.
+fn take_alone(
+    rt: &HostRuntime,
+    out: &mut Out<HostMachine>,
+    id: Option<FileId>,
+    name: &str,
+) -> io::Result<()>
+    ensures same { (out.new.file ≡ out.old.file) × (out.new.is_lost ≡ out.old.is_lost) }
+    ensures text { text_of out.new.calls ≡ text_of out.old.calls }
+    ensures sound { OnOk result (out.new.failed ≡ out.old.failed) }
+{
+    out.claim()?;
+    match FileId::seen_at(rt, name) {
+        Ok(seen) if seen == id => Ok(()),
+        Ok(_) => Err(io::Error::from(io::ErrorKind::NotFound)),
+        Err(error) => Err(error),
+    }
+}
+
+/// A target whose regular file is taken for this run alone, if its name still leads to it.
+pub(crate) fn claimed(
+    rt: &HostRuntime,
+    target: Target,
+    id: Option<FileId>,
+    name: &str,
+) -> io::Result<Target>
+    ensures file { IfOk result (λ t. out_file_of t ≡ out_file_of target) }
+    ensures unmade { IfOk result (λ t. unmade_of t ≡ unmade_of target) }
+    ensures taking { IfOk result (λ t. (failed : ℕ) (took : List ℕ)
+        → IsTaking (regular_of target) failed took → IsTaking (regular_of t) failed took) }
+{
+    match target {
+        Target::File(mut out) => {
+            take_alone(rt, &mut out, id, name)?;
+            Ok(Target::File(out))
+        }
+        other => Ok(other),
+    }
+}
+
+/// Makes the file of a target that doesn't exist yet, and takes it for this run alone. Fails if
+/// something has appeared at its path, or if its name doesn't lead to it. A file that was made stays.
+pub(crate) fn make_first(
+    rt: &HostRuntime,
+    name: &str,
+    target: &mut Target,
+    id: &mut Option<FileId>,
+) -> io::Result<()>
+    ensures keeps { Stays (unmade_of target.old) (unmade_of target.new) (out_file_of target.old)
+        (out_file_of target.new) id.old id.new }
+    ensures made { OnOk result (unmade_of target.new ≡ None) }
+    ensures node { IfSome (regular_of target.old) (λ o. HasNode id.old o.file)
+        → IfSome (regular_of target.new) (λ o. HasNode id.new o.file) }
+    ensures none { regular_of target.new ≡ None → regular_of target.old ≡ None }
+    ensures taking { OnOk result ((failed : ℕ) (took : List ℕ)
+        → IsTaking (regular_of target.old) failed took
+        → IfSome (unmade_of target.old) (λ _. took ≡ []) → IsTaking (regular_of target.new) failed took) }
+    ensures failing { OnErr result ((failed : ℕ) (took : List ℕ) → 0 < failed
+        → IfSome (unmade_of target.old) (λ _. took ≡ []) → IsTaking (regular_of target.new) failed took) }
+{
+    let Target::Unmade(path) = target else {
+        return Ok(());
+    };
+    let mut machine = HostMachine::new(rt);
+    let file = machine.make_output(path.as_str())?;
+    let own = mem::replace(path, String::new(rt.alloc()));
+    *id = Some(FileId::of_node(file.node()));
+    let mut out = Out::new(machine, file, own, Opening::New);
+    let taken = take_alone(rt, &mut out, *id, name);
+    *target = Target::File(out);
+    taken
+}

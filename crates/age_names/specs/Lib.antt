@@ -1,0 +1,2 @@
+pub mod Numbers
+pub use Numbers.{NumbersAreApart, number_of}

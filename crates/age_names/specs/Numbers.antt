@@ -1,0 +1,12 @@
+-- Which file has which number.
+use Rattle.std.specs.Prelude.{◌≡◌, ◌<◌, ℕ, ◌+◌, ◌*◌, ◌^◌}
+use Rattle.age_names.specs.declared.node.Node.{Node}
+
+-- the device and inode of a node, as one number
+abbrev pub number_of : Node → ℕ
+number_of node = node.device * 2 ^ 64 + node.inode
+
+-- Two files have the same number only if they are one file, since the inode of each fits into 64 bits.
+abbrev pub NumbersAreApart : Type 0
+NumbersAreApart = (one other : Node) → one.inode < 2 ^ 64 → other.inode < 2 ^ 64
+    → number_of one ≡ number_of other → one ≡ other

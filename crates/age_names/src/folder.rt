@@ -1,0 +1,65 @@
+//! The folder that a path leads into.
+
+use crate::node::Node;
+use std::path::{Path, PathBuf};
+use std::rt::HostRuntime;
+use std::{fs, io};
+
+/// The folder of a path.
+pub fn folder_of(path: &str) -> &str {
+    match Path::new(path).parent() {
+        Some(folder) if !folder.as_str().is_empty() => folder.as_str(),
+        _ => ".",
+    }
+}
+
+/// A folder that a path leads into.
+#[derive(Drop)]
+pub enum Folder {
+    /// Its path, without links.
+    Path(PathBuf),
+    /// Its node, if it has no such path, as when the path is longer than the system takes.
+    Node(Node),
+}
+
+impl Folder {
+    /// The folder that a path leads into. Fails if that isn't known.
+    pub fn of(rt: &HostRuntime, path: &str) -> io::Result<Folder> {
+        match fs::canonicalize(rt, folder_of(path)) {
+            Ok(folder) => Ok(Folder::Path(folder)),
+            Err(error) if error.kind() == io::ErrorKind::OutOfMemory => Err(error),
+            Err(_) => Ok(Folder::Node(Node::of(&fs::metadata(rt, folder_of(path))?))),
+        }
+    }
+
+    fn is_same(&self, other: &Folder) -> bool {
+        match (self, other) {
+            (Folder::Path(one), Folder::Path(other)) => one.as_str() == other.as_str(),
+            (Folder::Node(one), Folder::Node(other)) => one == other,
+            _ => false,
+        }
+    }
+}
+
+/// Fails if the folder that was found before isn't the one that is found now. What is done there
+/// next goes by its path again, so somebody who may rename the folder can still do so in between.
+pub fn check_same(before: Option<&Folder>, now: io::Result<Option<Folder>>) -> io::Result<()> {
+    match (before, now) {
+        (Some(before), Ok(Some(now))) if before.is_same(&now) => Ok(()),
+        (None, Ok(None)) => Ok(()),
+        (_, Err(error)) if error.kind() == io::ErrorKind::OutOfMemory => Err(error),
+        _ => Err(io::Error::other("its folder has changed")),
+    }
+}
+
+/// Fails if no file can be made at a path, since it has no name or its folder doesn't exist.
+pub fn check_place(rt: &HostRuntime, path: &str) -> io::Result<()> {
+    if path.is_empty() || path.ends_with('/') {
+        return Err(io::Error::from(io::ErrorKind::IsADirectory));
+    }
+    if fs::metadata(rt, folder_of(path))?.is_dir() {
+        Ok(())
+    } else {
+        Err(io::Error::from(io::ErrorKind::NotADirectory))
+    }
+}

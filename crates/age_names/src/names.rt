@@ -1,0 +1,286 @@
+//! What the machine's names stand for: an inherited stream, or a file, whatever links lead to it.
+
+ghost use Rattle.std.specs.Prelude.{◌≡◌, ◌<◌, ◌^◌, IfOk};
+ghost use Rattle.age_names.specs.declared.names.FileId.TheVariants.{File};
+
+use crate::node::{Node, led_to};
+use age_io::Tape;
+use std::alloc::Global;
+use std::fs::{self, Metadata};
+use std::io;
+use std::os::fd::{AsFd, OwnedFd};
+use std::os::unix::fs::{FileTypeExt, MetadataExt};
+use std::path::PathBuf;
+use std::rt::HostRuntime;
+
+/// A stream that the program was started with.
+#[derive(Clone, Copy)]
+pub enum StandardStream {
+    /// Standard input.
+    Input,
+    /// Standard output.
+    Output,
+    /// Standard error.
+    Faults,
+}
+
+impl StandardStream {
+    /// The stream of this name.
+    fn named(name: &str) -> Option<StandardStream> {
+        match name {
+            "/dev/stdin" | "/dev/fd/0" | "/proc/self/fd/0" => Some(StandardStream::Input),
+            "/dev/stdout" | "/dev/fd/1" | "/proc/self/fd/1" => Some(StandardStream::Output),
+            "/dev/stderr" | "/dev/fd/2" | "/proc/self/fd/2" => Some(StandardStream::Faults),
+            _ => None,
+        }
+    }
+
+    /// The path at which the system shows what the stream is connected to.
+    pub fn path(self) -> &'static str {
+        match self {
+            StandardStream::Input => "/proc/self/fd/0",
+            StandardStream::Output => "/proc/self/fd/1",
+            StandardStream::Faults => "/proc/self/fd/2",
+        }
+    }
+
+    /// A second descriptor of the stream. Fails if the program was started without this stream.
+    pub fn copy(self, rt: &HostRuntime) -> io::Result<OwnedFd> {
+        match self {
+            StandardStream::Input => rt.stdin().as_fd().try_clone_to_owned(),
+            StandardStream::Output => rt.stdout().as_fd().try_clone_to_owned(),
+            StandardStream::Faults => rt.stderr().as_fd().try_clone_to_owned(),
+        }
+    }
+
+    /// Fails if the program was started without this stream. A copy is made only if it has to be,
+    /// since closing one tells some file systems that all is written.
+    pub fn check(self, rt: &HostRuntime) -> io::Result<()> {
+        if !matches!(led_to(rt, self.path()), Ok(Some(_))) {
+            self.copy(rt)?;
+        }
+        Ok(())
+    }
+
+    /// Whether the stream leads to a file that holds bytes on a disk, as far as the system shows that.
+    pub fn may_be_on_disk(self, rt: &HostRuntime) -> bool {
+        match led_to(rt, self.path()) {
+            Ok(Some(metadata)) => is_on_disk(&metadata),
+            _ => true,
+        }
+    }
+}
+
+/// What a name stands for.
+#[derive(Drop)]
+pub enum Resolved {
+    /// A stream that the program was started with.
+    Stream(StandardStream),
+    /// A path that isn't a link, and at which a file may or may not exist.
+    Path(PathBuf),
+}
+
+/// A name, and what it stands for.
+#[derive(Drop)]
+pub struct Led<'w> {
+    pub name: &'w str,
+    pub to: Resolved,
+}
+
+impl<'w> Led<'w> {
+    /// Looks up what a name stands for, and notes it. No proof sees where that is.
+    pub fn of(alloc: Global, rt: &HostRuntime, name: &'w str) -> io::Result<Led<'w>>
+        ensures { IfOk result (λ l. l.name.now ≡ name.now) }
+    {
+        let to = resolve(alloc, rt, name)?;
+        Ok(Led { name, to })
+    }
+}
+
+/// How many links are followed, which is as many as the system follows.
+const LINKS_MAX: usize = 40;
+
+/// What a name stands for, at the end of its links.
+pub fn resolve(alloc: Global, rt: &HostRuntime, name: &str) -> io::Result<Resolved> {
+    let mut path = PathBuf::from_str(alloc, name)?;
+    for _ in 0..=LINKS_MAX {
+        if let Some(stream) = StandardStream::named(path.as_str()) {
+            return Ok(Resolved::Stream(stream));
+        }
+        match target_of(alloc, rt, &path)? {
+            Some(target) => path = target,
+            None => return Ok(Resolved::Path(path)),
+        }
+    }
+    Err(io::Error::from(io::ErrorKind::FilesystemLoop))
+}
+
+/// Where a link leads; `None` for what isn't a link.
+fn target_of(alloc: Global, rt: &HostRuntime, path: &PathBuf) -> io::Result<Option<PathBuf>> {
+    match fs::read_link(rt, path.as_str()) {
+        Ok(target) => match path.parent() {
+            Some(folder) => Ok(Some(folder.join(alloc, target.as_str())?)),
+            None => Ok(Some(target)),
+        },
+        Err(error) if error.kind() == io::ErrorKind::OutOfMemory => Err(error),
+        Err(_) => Ok(None),
+    }
+}
+
+/// Identifies a file, whatever its names.
+#[derive(Clone, Copy, PartialEq, Eq)]
+pub enum FileId {
+    /// A regular file or a pipe.
+    File(Node),
+    /// A block device, by its number.
+    Block(u64),
+}
+
+impl FileId {
+    /// Identifies a file by its metadata; `None` for a terminal or another character device, and
+    /// for a socket, since what is written to one is never read from it again.
+    pub fn of(metadata: &Metadata) -> Option<FileId> {
+        let kind = metadata.file_type();
+        if kind.is_block_device() {
+            Some(FileId::Block(metadata.rdev()))
+        } else if kind.is_file() || kind.is_fifo() {
+            Some(FileId::of_node(Node::of(metadata)))
+        } else {
+            None
+        }
+    }
+
+    /// The id of a regular file or a pipe.
+    pub fn of_node(node: Node) -> FileId
+        ensures known { result ≡ File node }
+        ensures fits { node.inode < 2 ^ 64 }
+    {
+        FileId::File(node)
+    }
+
+    /// The id of the file to which a name leads; `None` if it leads to none. Fails if the system
+    /// can't look at it, since nobody knows then which file it is.
+    pub fn seen_at(rt: &HostRuntime, name: &str) -> io::Result<Option<FileId>> {
+        match led_to(rt, name)? {
+            Some(found) => Ok(FileId::of(&found)),
+            None => Ok(None),
+        }
+    }
+
+    /// Like `seen_at`, but a file that can't be looked at counts as none.
+    pub fn at(rt: &HostRuntime, name: &str) -> Option<FileId> {
+        FileId::seen_at(rt, name).unwrap_or(None)
+    }
+
+    /// The id of the file to which an open stream leads. Fails if the system doesn't show that, as
+    /// when /proc doesn't exist, since what is read could be overwritten.
+    pub fn of_open_stream(rt: &HostRuntime, stream: StandardStream) -> io::Result<Option<FileId>> {
+        match led_to(rt, stream.path())? {
+            Some(found) => Ok(FileId::of(&found)),
+            None => Err(io::Error::other("/proc doesn't show where it leads")),
+        }
+    }
+}
+
+/// Whether this is the file to which standard error leads.
+pub fn is_for_faults(rt: &HostRuntime, id: Option<FileId>) -> bool {
+    id.is_some() && id == FileId::at(rt, StandardStream::Faults.path())
+}
+
+/// Identifies what gives each of its bytes once, whatever its names.
+#[derive(Clone, Copy, PartialEq, Eq)]
+pub enum StreamId {
+    /// Standard input, if it is a file that others can open. It is read from where it stands.
+    Input,
+    /// A terminal, or another device that is read byte by byte, by its number.
+    Device(u64),
+    /// A pipe, a socket or another file of their kind.
+    Pipe(Node),
+}
+
+/// The number of `/dev/tty`, which is the same terminal as another device.
+const CONTROLLING_TERMINAL: u64 = 0x500;
+
+impl StreamId {
+    /// The stream to which a name leads, before it is opened; `None` for what can be read twice.
+    /// Fails if memory runs out.
+    pub fn at(alloc: Global, rt: &HostRuntime, name: &str) -> io::Result<Option<StreamId>> {
+        match resolve(alloc, rt, name) {
+            Ok(Resolved::Path(_)) => Ok(StreamId::found(rt, name)),
+            Ok(Resolved::Stream(StandardStream::Input)) => Ok(Some(StreamId::of_input(rt))),
+            Err(error) if error.kind() == io::ErrorKind::OutOfMemory => Err(error),
+            _ => Ok(None),
+        }
+    }
+
+    /// The stream that standard input is.
+    fn of_input(rt: &HostRuntime) -> StreamId {
+        match StreamId::found(rt, StandardStream::Input.path()) {
+            Some(id) => id,
+            None => StreamId::Input,
+        }
+    }
+
+    /// The stream that is found at a path.
+    fn found(rt: &HostRuntime, path: &str) -> Option<StreamId> {
+        match led_to(rt, path) {
+            Ok(Some(found)) => StreamId::of(&found),
+            _ => None,
+        }
+    }
+
+    fn of(metadata: &Metadata) -> Option<StreamId> {
+        let kind = metadata.file_type();
+        if kind.is_file() || kind.is_dir() || kind.is_block_device() {
+            None
+        } else if kind.is_char_device() {
+            StreamId::of_device(metadata.rdev())
+        } else {
+            Some(StreamId::Pipe(Node::of(metadata)))
+        }
+    }
+
+    /// The stream of a device; `None` for those without an end or a state: `/dev/null`, `zero`,
+    /// `full`, `random` and `urandom`.
+    fn of_device(number: u64) -> Option<StreamId> {
+        match number {
+            0x103 | 0x105 | 0x107 | 0x108 | 0x109 => None,
+            _ => Some(StreamId::Device(number)),
+        }
+    }
+
+    /// Whether two are one stream, as far as the system shows.
+    pub fn is_same(self, other: StreamId) -> bool {
+        match (self, other) {
+            (StreamId::Device(CONTROLLING_TERMINAL), StreamId::Device(_))
+            | (StreamId::Device(_), StreamId::Device(CONTROLLING_TERMINAL)) => true,
+            _ => self == other,
+        }
+    }
+}
+
+/// Whether a file holds bytes that can reach a disk.
+pub fn is_on_disk(metadata: &Metadata) -> bool {
+    let kind = metadata.file_type();
+    kind.is_file() || kind.is_block_device()
+}
+
+/// Whether a file is a pipe or a socket, so that nobody knows who has what is written to it.
+pub fn is_handed_on(metadata: &Metadata) -> bool {
+    let kind = metadata.file_type();
+    kind.is_fifo() || kind.is_socket()
+}
+
+/// Whether a file is the machine's generator of random bytes.
+pub fn is_random(metadata: &Metadata) -> bool {
+    metadata.file_type().is_char_device() && matches!(metadata.rdev(), 0x108 | 0x109)
+}
+
+/// These bytes, for contracts alone.
+pub fn tape_of(bytes: &[u8]) -> Tape
+    ensures { result ≡ bytes.now }
+{
+    let mut tape = Tape::new();
+    tape.note(bytes);
+    tape
+}

@@ -1,0 +1,21 @@
+//! What is asked of a file that is written: when it reaches the disk, and whether it may take an
+//! existing one's place.
+#![tactic(auto)]
+
+/// When a file that was written reaches the disk.
+#[derive(Clone, Copy, Debug, PartialEq, Eq)]
+pub enum Durability {
+    /// Before the call that ends it returns, so that a power failure undoes none of it.
+    Synced,
+    /// When the system writes it, some seconds later.
+    Buffered,
+}
+
+/// What becomes of an existing file.
+#[derive(Clone, Copy, Debug, PartialEq, Eq)]
+pub enum ClobberOption {
+    /// It is overwritten.
+    Allowed,
+    /// It is refused, and is unchanged.
+    Refused,
+}

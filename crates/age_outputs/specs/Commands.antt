@@ -1,0 +1,52 @@
+-- What the commands that write OUT find in the options and the files.
+use Rattle.std.specs.Prelude.{◌≡◌, ℕ, List, [], ◌++◌, length, Option, ◌⊎◌, ◌<◌, ◌==◌, if◌then◌else◌}
+use Rattle.age_io.specs.{SourceView}
+use Rattle.age_keys.specs.{IsAllowed}
+use Rattle.age_sealing.specs.{SecretView}
+use Rattle.age_position.specs.{NoPosition}
+use Rattle.age_position.specs.declared.position.Position.{Position}
+use Rattle.age_fileset.specs.{Outcome, Found, Gave, reading_of}
+use Rattle.age_fileset.specs.declared.files.Missing.{Missing}
+use Rattle.age_fileset.specs.declared.files.Missing.TheVariants.{Empty, Fails}
+use Rattle.age_cli_args.specs.{option_text}
+use Rattle.age_cli_args.specs.declared.request.Encrypting.{Encrypting}
+use Rattle.age_command.specs.{random_name, IsPassphraseIn}
+use Rattle.clap.specs.Words.{Text}
+
+-- ---- What was read of a file.
+
+-- A file of this name was found, or an empty one if a missing one counts so, and its reading is over. Its
+-- source was this one at first, of which nothing was read so far, and that one at the end.
+pub record WasRead (Came : Outcome → Type 0) (missing : Missing) (name : Text) (first last : SourceView)
+    : Type 0 where
+  pub unread : first.supply.given ≡ []
+  -- how long it is, if the set of files can say
+  pub size : Option ℕ
+  pub found : Came (Found missing name first.supply.left size)
+  pub over : Came (Gave (reading_of name last))
+
+-- ---- What `encrypt` makes a file of.
+
+-- The work factor that is asked for and two files make the secret: all that the file of the passphrase
+-- gave; and what that of the random bytes gave, which begins with 48 of them: the file key, the stanza's
+-- salt and the payload nonce.
+pub record MakesSecret (GaveAll Gave : Text → List ℕ → Type 0) (asked : Encrypting) (s : SecretView)
+    : Type 0 where
+  pub pass : IsPassphraseIn (GaveAll asked.pass.now) s.pass
+  pub log_is : s.log ≡ asked.log
+  pub within : IsAllowed s.pass s.log
+  pub rest : List ℕ
+  pub random_given : Gave (random_name (option_text asked.random)) (s.key ++ (s.salt ++ (s.nonce ++ rest)))
+  pub key_length : length s.key ≡ 16
+  pub salt_length : length s.salt ≡ 16
+  pub nonce_length : length s.nonce ≡ 16
+
+-- ---- Where `resume` begins.
+
+-- these bytes are no position: none is longer than 256 bytes
+abbrev pub HoldsNoPosition : List ℕ → Type 0
+HoldsNoPosition held = (256 < length held) ⊎ NoPosition held
+
+-- at chunk 0 nothing of the earlier output is needed, and a missing one counts as empty
+abbrev pub missing_at : Position → Missing
+missing_at position = if position.index == 0 then Empty else Fails

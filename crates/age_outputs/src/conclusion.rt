@@ -1,0 +1,110 @@
+//! How a decryption ends, and where it can continue.
+
+ghost use Rattle.std.specs.Prelude.{◌≡◌, ◌⊎◌, ◌≤◌, ◌<◌, [], Some, IfSome, option_map};
+ghost use Rattle.age_io.specs.{Named};
+ghost use Rattle.age_fileset.specs.{CameSince, Does, Gave, reading_of};
+ghost use Rattle.age_cli_args.specs.{option_text};
+ghost use Rattle.age_outputs.specs.{kept_for, start_of};
+ghost use Rattle.age_outputs.specs.inner.{IsPlacedBy, earlier_of, end_of, own_of};
+
+use crate::decrypt_command::OldText;
+use crate::interruption::Reached;
+use age_fault::FileFault;
+use age_fileset::FileSet;
+use age_io::Source;
+use age_opening::{Done, Marks, Stopped};
+use age_position::{Position, PositionPolicy};
+use std::alloc::Global;
+
+/// Positions are kept if one is to be saved.
+pub(crate) fn positions_for(save: Option<&str>) -> PositionPolicy
+    ensures { result ≡ kept_for (option_text save.entry) }
+{
+    match save {
+        Some(_) => PositionPolicy::Kept,
+        None => PositionPolicy::Dropped,
+    }
+}
+
+/// The position that a decryption continues from, if any.
+pub(crate) fn start_of<S: Source>(earlier: &Option<OldText<'_, S>>) -> Option<Position>
+    ensures { result ≡ start_of (option_map earlier_of earlier.now) }
+{
+    match earlier {
+        Some(old) => Some(old.position),
+        None => None,
+    }
+}
+
+/// The later one of a position and of where its run started.
+fn not_before(place: Position, start: Option<Position>) -> Position
+    ensures { (result ≡ place × IfSome start (λ s. s.index ≤ result.index))
+        ⊎ ((start ≡ Some result) × (place.index < result.index)) }
+{
+    match start {
+        Some(start) => {
+            if place.index < start.index {
+                start
+            } else {
+                place
+            }
+        }
+        None => place,
+    }
+}
+
+/// The position of a stop, if it has one.
+fn own_position(end: &Result<Done, Stopped>) -> Option<Position>
+    ensures { result ≡ own_of end.now }
+{
+    match end {
+        Ok(_) => None,
+        Err(stopped) => stopped.position,
+    }
+}
+
+/// Where a decryption that ended so can continue, if so many bytes of its output are certain: by
+/// its marks at the last position within these, but not before where the run started, since that
+/// would replace a better one; or at its own, if it has no marks.
+pub(crate) fn place_of(
+    end: &Result<Done, Stopped>,
+    marks: &Option<Marks>,
+    start: Option<Position>,
+    settled: u64,
+) -> Reached
+    ensures placed { IsPlacedBy marks.now start settled (own_of end.now) result.position }
+    ensures settled { result.settled ≡ settled }
+{
+    match marks {
+        Some(marks) => Reached {
+            position: Some(not_before(marks.within(settled), start)),
+            settled,
+        },
+        None => Reached {
+            position: own_position(end),
+            settled,
+        },
+    }
+}
+
+/// How a decryption ended, without what it wrote.
+pub(crate) fn end_of(end: &Result<Done, Stopped>) -> Result<(), FileFault>
+    ensures { result ≡ end_of end.now }
+{
+    match end {
+        Ok(_) => Ok(()),
+        Err(stopped) => Err(stopped.fault),
+    }
+}
+
+/// Ends the reading of the earlier output, if there is one.
+pub(crate) fn finish_old<'w, F: FileSet<'w>>(files: &mut F, earlier: Option<OldText<'w, F::In>>)
+    requires { IfSome earlier (λ e. F.In.began e.source (Named e.name.now)) }
+    ensures does { Does [] (F.view files.old) (F.view files.new) }
+    ensures over { IfSome earlier.entry (λ e. CameSince (F.view files.old) (F.view files.new)
+        (Gave (reading_of e.name.now (F.In.view e.source)))) }
+{
+    if let Some(old) = earlier {
+        files.finish(old.source);
+    }
+}

@@ -1,0 +1,22 @@
+//! The commands that write OUT: `encrypt`, `decrypt` and `resume`, and how they end.
+//!
+//! `encrypt_file`, `decrypt_file` and `resume_file` do what one command asks for, once its words
+//! are read. Each finds what opens or seals the input, opens the files in a fixed order, runs its
+//! engine, and leaves the output, and the position if it is to be saved, as its contract says,
+//! whether it succeeds or stops. If it isn't done, `conclude` reports why, and an `Ending` says it.
+//!
+//! Its definitions say what each command does with files, done or stopped. `age_cli` picks one by
+//! the arguments. Nothing of a drill is here, so `age_drill` is proved beside it.
+#![tactic(auto)]
+
+mod conclusion;
+mod decrypt_command;
+mod encrypt_command;
+mod interruption;
+mod output;
+mod resume_command;
+
+pub use decrypt_command::decrypt_file;
+pub use encrypt_command::encrypt_file;
+pub use interruption::{Stop, Unfinished, conclude};
+pub use resume_command::resume_file;

@@ -1,0 +1,350 @@
+//! How the input and the output of a command are opened, and how the output is ended.
+
+ghost use Rattle.std.specs.Prelude.{◌≡◌, [], ◌∷◌, ◌++◌, map, Some, None, true, is_some, length, IfSome};
+ghost use Rattle.age_io.specs.{Adds, Begins, Ends, Named};
+ghost use Rattle.age_fileset.specs.{Open, Create, Found, Absent, Settled, Terminal, Does, CameSince};
+ghost use Rattle.age_cli_args.specs.{option_text};
+ghost use Rattle.age_options.specs.declared.ClobberOption.TheVariants.{Refused};
+ghost use Rattle.age_command.specs.{AreApart, NamesTwice, preparing, making};
+ghost use Rattle.age_command.specs.declared.ending.Usage.TheVariants.{SameFile};
+ghost use Rattle.age_command.specs.declared.ending.Ending.TheVariants.{Usage as UsageEnding};
+ghost use Rattle.age_outputs.specs.Acts.{Finally, IsUnusable, NamesOne};
+ghost use Rattle.age_outputs.specs.inner.{Concludes, EndsOut, IsLeft, LeavesOut};
+ghost use Rattle.age_outputs.specs.inner.{Compares, EndsBy, IsNewBy, IsUnopened, OpensFiles, age_file_in, order_in};
+ghost use Rattle.age_outputs.specs.declared.output.Content.TheVariants.{AgeFile};
+
+use crate::interruption::{Reached, Stop, Unfinished};
+use age_cli_args::Paths;
+use age_command::{Ending, Usage};
+use age_fault::FileFault;
+use age_fileset::{FileSet, Missing};
+use age_io::{Meter, Metered};
+use age_options::{ClobberOption, Durability};
+use std::alloc::Global;
+
+/// What an output holds.
+#[derive(Clone, Copy)]
+pub(crate) enum Content {
+    /// The decrypted plaintext, which may go to a terminal.
+    Plaintext,
+    /// An age file, whose bytes a terminal can't show.
+    AgeFile,
+}
+
+/// What a command that writes is to read and to write. The order of the command says which of its
+/// names must differ.
+#[derive(Clone, Copy)]
+pub(crate) struct Writing<'a> {
+    /// The first file by which the arguments are judged: that of the passphrase.
+    pub(crate) first: Option<&'a str>,
+    /// The second: that of the shared secret, or of the random bytes.
+    pub(crate) second: Option<&'a str>,
+    /// The file of the position at which it begins, which may be the file of `save`.
+    pub(crate) position: Option<&'a str>,
+    /// The earlier output.
+    pub(crate) old: Option<&'a str>,
+    /// Where the position goes if the command stops.
+    pub(crate) save: Option<&'a str>,
+    /// The input and the output.
+    pub(crate) paths: Paths<'a>,
+    /// What the output is to hold.
+    pub(crate) content: Content,
+}
+
+/// Whether two names are given, and stand for one file.
+fn are_one<'w, F: FileSet<'w>>(files: &mut F, one: Option<&'w str>, other: Option<&'w str>) -> bool
+    ensures { Compares (F.view files.old) (F.view files.new) result
+        (λ a b. (option_text one.entry ≡ Some a) × (option_text other.entry ≡ Some b)) }
+{
+    match one {
+        Some(one) => match other {
+            Some(other) => files.is_same(one, other),
+            None => false,
+        },
+        None => false,
+    }
+}
+
+/// Whether a name is given, and stands for the same file as one of others that are given.
+fn is_one_of<'w, F: FileSet<'w>>(
+    files: &mut F,
+    name: Option<&'w str>,
+    others: &[Option<&'w str>],
+) -> bool
+    ensures { Compares (F.view files.old) (F.view files.new) result
+        (AreApart ((option_text name.entry, map option_text others.now) ∷ [])) }
+{
+    for other in others {
+        if are_one(files, name, *other) {
+            return true;
+        }
+    }
+    false
+}
+
+/// Whether two names that must differ stand for one file: the output's and an input's; that of
+/// `save`, and the output's or that of an input other than the position; or the earlier output's
+/// and the input's.
+pub(crate) fn names_twice<'w, F: FileSet<'w>>(files: &mut F, asked: &Writing<'w>) -> bool
+    ensures { Compares (F.view files.old) (F.view files.new) result
+        (AreApart (order_in asked.now).apart) }
+{
+    let Writing {
+        first,
+        second,
+        position,
+        old,
+        ..
+    } = *asked;
+    let from = Some(asked.paths.from);
+    let to = Some(asked.paths.to);
+    if is_one_of(files, to, &[position, from, first, second, old]) {
+        return true;
+    }
+    if is_one_of(files, asked.save, &[to, from, first, second, old]) {
+        return true;
+    }
+    is_one_of(files, old, &[from])
+}
+
+/// Whether an output is a terminal that can't show what it is to hold.
+fn is_unshown<'w, F: FileSet<'w>>(files: &mut F, out: &F::Out, content: Content) -> bool
+    ensures does { Does [] (F.view files.old) (F.view files.new) }
+    ensures terminal { result ≡ true → (content ≡ AgeFile)
+        × CameSince (F.view files.old) (F.view files.new) (Terminal (F.Out.view out.now).taken.label) }
+{
+    match content {
+        Content::AgeFile => files.is_terminal(out),
+        Content::Plaintext => false,
+    }
+}
+
+/// Why what was opened can't be the output: it is a terminal, which is no place for an age file, or
+/// progress and faults go there.
+fn refusal_of<'w, F: FileSet<'w>>(files: &mut F, out: &F::Out, content: Content) -> Option<Usage>
+    ensures does { Does [] (F.view files.old) (F.view files.new) }
+    ensures taken { IfSome result (λ u. IsUnusable (CameSince (F.view files.old) (F.view files.new))
+        (age_file_in content (F.Out.view out.now).taken.label) (UsageEnding u)) }
+{
+    if is_unshown(files, out, content) {
+        return Some(Usage::OutIsTerminal);
+    }
+    if files.is_for_faults(out) {
+        return Some(Usage::SameFile);
+    }
+    None
+}
+
+/// Refuses names that must differ and stand for one file, and two names of inputs that stand for
+/// one stream.
+pub(crate) fn check_names<'w, F: FileSet<'w>>(
+    alloc: Global,
+    files: &mut F,
+    asked: &Writing<'w>,
+) -> Result<(), Ending>
+    ensures { OpensFiles [] [] (NamesTwice (order_in asked.now).apart) (λ Came. EndsBy Came ⊥
+        (λ e. (e ≡ UsageEnding SameFile) × NamesOne Came (order_in asked.now)))
+        (F.view files.old) (F.view files.new) (λ _. Unit {0}) result }
+{
+    if names_twice(files, asked) {
+        return Err(Ending::Usage(Usage::SameFile));
+    }
+    let Writing {
+        first,
+        second,
+        position,
+        old,
+        ..
+    } = *asked;
+    Ok(files.check_streams(
+        alloc,
+        &[position, old, first, second, Some(asked.paths.from)],
+    )?)
+}
+
+/// Opens a file for reading.
+pub(crate) fn open_in<'w, F: FileSet<'w>>(
+    alloc: Global,
+    files: &mut F,
+    name: &'w str,
+    missing: Missing,
+) -> Result<F::In, Ending>
+    ensures { OpensFiles (Open name.now ∷ []) (Open name.now ∷ []) ⊥ (IsUnopened None)
+        (F.view files.old) (F.view files.new) (λ s. ((F.In.view s).supply.given ≡ [])
+        × F.In.began s (Named name.now) × CameSince (F.view files.old) (F.view files.new)
+        (Found missing name.now (F.In.view s).supply.left (F.size s))) result }
+{
+    Ok(files.open(alloc, name, missing)?)
+}
+
+/// Refuses an existing output, if it must be new.
+pub(crate) fn check_new<'w, F: FileSet<'w>>(files: &mut F, paths: &Paths<'w>) -> Result<(), Ending>
+    ensures { OpensFiles [] [] ⊥ (IsUnopened None) (F.view files.old) (F.view files.new)
+        (λ _. Unit {0}) result }
+{
+    match paths.clobber {
+        ClobberOption::Allowed => Ok(()),
+        ClobberOption::Refused => Ok(files.check_absent(paths.to)?),
+    }
+}
+
+/// Opens the output, unless it turns out to be an input or the file of `save`, or can't be the
+/// output for another reason.
+pub(crate) fn create_out<'w, F: FileSet<'w>>(
+    alloc: Global,
+    files: &mut F,
+    asked: &Writing<'w>,
+) -> Result<F::Out, Ending>
+    ensures { OpensFiles (Create asked.now.paths.clobber asked.now.paths.to.now ∷ [])
+        (making asked.now.paths.clobber asked.now.paths.to.now asked.now.paths.durability) ⊥
+        (IsUnopened (age_file_in asked.now.content asked.now.paths.to.now))
+        (F.view files.old) (F.view files.new) (λ o. ((F.Out.view o).taken.bytes ≡ [])
+        × ((F.Out.view o).failed ≡ 0) × ((F.Out.view o).taken.label ≡ asked.now.paths.to.now)
+        × (asked.now.paths.clobber ≡ Refused
+        → CameSince (F.view files.old) (F.view files.new) (Absent asked.now.paths.to.now))) result }
+{
+    let paths = &asked.paths;
+    let out = files.create(alloc, paths.to, paths.clobber, paths.durability)?;
+    match refusal_of(files, &out, asked.content) {
+        Some(usage) => {
+            files.discard(out, paths.durability);
+            Err(Ending::Usage(usage))
+        }
+        None => Ok(out),
+    }
+}
+
+/// Prepares the file of `save`, if there is one, unless it turns out to be an input other than the
+/// file of the position.
+fn prepare_save<'w, F: FileSet<'w>>(
+    alloc: Global,
+    files: &mut F,
+    asked: &Writing<'w>,
+) -> Result<(), Ending>
+    ensures { OpensFiles (preparing (option_text asked.now.save) (option_text asked.now.position))
+        (preparing (option_text asked.now.save) (option_text asked.now.position)) ⊥ (IsUnopened None)
+        (F.view files.old) (F.view files.new) (λ _. Unit {0}) result }
+{
+    match asked.save {
+        Some(save) => Ok(files.prepare(alloc, save, asked.position, asked.paths.durability)?),
+        None => Ok(()),
+    }
+}
+
+/// Opens the input, and then what is to be written, unless that turns out to be an input.
+pub(crate) fn open_both<'w, F: FileSet<'w>>(
+    alloc: Global,
+    files: &mut F,
+    asked: &Writing<'w>,
+) -> Result<(F::In, F::Out), Ending>
+    ensures { OpensFiles (Open asked.now.paths.from.now
+        ∷ (preparing (option_text asked.now.save) (option_text asked.now.position)
+        ++ Create asked.now.paths.clobber asked.now.paths.to.now ∷ []))
+        (Open asked.now.paths.from.now
+        ∷ (preparing (option_text asked.now.save) (option_text asked.now.position)
+        ++ making asked.now.paths.clobber asked.now.paths.to.now asked.now.paths.durability)) ⊥
+        (IsUnopened (age_file_in asked.now.content asked.now.paths.to.now))
+        (F.view files.old) (F.view files.new)
+        (λ both. IsNewBy F.In.view F.Out.view F.In.began F.size
+        (CameSince (F.view files.old) (F.view files.new)) asked.now.paths both.0 both.1) result }
+{
+    let source = open_in(alloc, files, asked.paths.from, Missing::Fails)?;
+    prepare_save(alloc, files, asked)?;
+    let out = create_out(alloc, files, asked)?;
+    Ok((source, out))
+}
+
+/// Tells a meter that the reading of an input begins, with its length if the set of files knows it.
+pub(crate) fn begin_meter<'w, F: FileSet<'w>, M: Meter>(files: &F, source: &F::In, meter: &mut M)
+    ensures { IfSome (F.In.view source.now).supply.left (λ bytes. F.size source.now ≡ Some (length bytes))
+        × Adds (M.shown meter.old) (M.shown meter.new) (Begins (F.size source.now)) }
+{
+    meter.begin(files.length(source));
+}
+
+/// Tells a meter that the run is over.
+pub(crate) fn end_meter<M: Meter>(meter: &mut M)
+    ensures { Adds (M.shown meter.old) (M.shown meter.new) Ends }
+{
+    meter.end();
+}
+
+/// Ends the output of an engine that stopped: with what was written, or unchanged if nothing was.
+pub(crate) fn leave<'w, F: FileSet<'w>>(files: &mut F, out: F::Out, durability: Durability)
+    ensures { LeavesOut durability (F.Out.view out) (IsLeft durability (F.Out.view out))
+        (F.view files.old) (F.view files.new) }
+{
+    let is_empty = files.is_empty(&out);
+    if is_empty {
+        files.discard(out, durability);
+    } else {
+        // What stopped the engine is reported, not that its output couldn't be closed either.
+        let _ = files.close(out, durability);
+    }
+}
+
+/// How many bytes an output certainly holds, if a position is to be saved. If the engine ended,
+/// this is asked without a wait, so that the end of the output finds each failure.
+pub(crate) fn settle_end<'w, F: FileSet<'w>>(
+    files: &mut F,
+    out: &mut F::Out,
+    asked: &Writing<'w>,
+    is_stopped: bool,
+) -> u64
+    ensures does { Does [] (F.view files.old) (F.view files.new) }
+    ensures same { F.Out.view out.new ≡ F.Out.view out.old }
+    ensures certain { is_some (option_text asked.now.save) ≡ true
+        → CameSince (F.view files.old) (F.view files.new)
+        (Settled asked.now.paths.durability (F.Out.view out.old).taken.bytes result) }
+{
+    if asked.save.is_none() {
+        return 0;
+    }
+    if is_stopped {
+        files.settle(out, asked.paths.durability)
+    } else {
+        files.settled_so_far(out, asked.paths.durability)
+    }
+}
+
+/// Ends the output once the engine has returned: complete, or as its stop leaves it. Returns why
+/// the command stops, if it does: the engine did, or the output couldn't be ended.
+fn end_out<'w, F: FileSet<'w>>(
+    files: &mut F,
+    out: F::Out,
+    durability: Durability,
+    engine: Result<(), FileFault>,
+) -> Result<(), FileFault>
+    ensures { EndsOut durability (F.Out.view out) engine (F.view files.old) (F.view files.new) result }
+{
+    match engine {
+        Ok(()) => files.close(out, durability),
+        Err(fault) => {
+            leave(files, out, durability);
+            Err(fault)
+        }
+    }
+}
+
+/// Ends the output. If the engine stopped, or the output couldn't be ended, what `conclude` does
+/// remains: the position isn't saved yet.
+pub(crate) fn end_output<'w, F: FileSet<'w>>(
+    files: &mut F,
+    out: F::Out,
+    asked: &Writing<'w>,
+    place: Reached,
+    engine: Result<(), FileFault>,
+) -> Result<(), Unfinished<'w>>
+    ensures { Finally (Concludes (option_text asked.now.save) asked.now.paths.durability
+        (F.Out.view out) engine place (F.view files.old)) (F.view files.new) result }
+{
+    match end_out(files, out, asked.paths.durability, engine) {
+        Ok(()) => Ok(()),
+        Err(fault) => Err(Unfinished::Stopped(Stop {
+            fault,
+            place,
+            save: asked.save,
+            durability: asked.paths.durability,
+        })),
+    }
+}

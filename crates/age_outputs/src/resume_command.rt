@@ -1,0 +1,113 @@
+//! The command that continues a decryption.
+
+ghost use Rattle.std.specs.Prelude.{◌≡◌, [], ◌∷◌};
+ghost use Rattle.age_io.specs.{Named};
+ghost use Rattle.age_fileset.specs.{Open, CameSince, HasGivenAll};
+ghost use Rattle.age_cli_args.specs.declared.request.Request.TheVariants.{Resume};
+ghost use Rattle.age_position.specs.{position_text};
+ghost use Rattle.age_outputs.specs.Acts.{Acts, Finally};
+ghost use Rattle.age_outputs.specs.{PortsOf, ShowsProgress, missing_at};
+ghost use Rattle.age_outputs.specs.inner.{IsNewOld, IsUnplaced, OpensFiles};
+
+use crate::decrypt_command::{OldText, Outputs, Ready, decrypt_ready, identify};
+use crate::interruption::Unfinished;
+use crate::output::{Content, Writing, open_both, open_in};
+use age_cli_args::Resuming;
+use age_command::{Ending, read_file};
+use age_fault::FileFault;
+use age_fileset::{FileSet, Missing};
+use age_io::Meter;
+use age_position::Position;
+use std::alloc::Global;
+
+/// A position's file has at most this many bytes.
+const POSITION_FILE_MAX: usize = 256;
+
+/// The position in a file.
+fn read_position<'w, F: FileSet<'w>>(
+    alloc: Global,
+    files: &mut F,
+    name: &'w str,
+) -> Result<Position, Ending>
+    ensures { OpensFiles (Open name.now ∷ []) (Open name.now ∷ []) ⊥ (IsUnplaced name.now)
+        (F.view files.old) (F.view files.new)
+        (λ p. HasGivenAll (CameSince (F.view files.old) (F.view files.new)) name.now
+        (position_text p)) result }
+{
+    let held = read_file(alloc, files, name, POSITION_FILE_MAX)?;
+    match held {
+        Some(text) => Ok(Position::read(text.as_slice())?),
+        None => Err(Ending::Fault(FileFault::BadPosition)),
+    }
+}
+
+/// If a position has no chunk before it, a missing earlier output counts as empty, since a run that
+/// stops before its first chunk makes none.
+fn missing_at(position: &Position) -> Missing
+    ensures { result ≡ missing_at position.now }
+{
+    if position.index == 0 {
+        Missing::Empty
+    } else {
+        Missing::Fails
+    }
+}
+
+/// The position, and then the earlier output, opened.
+fn open_earlier<'w, F: FileSet<'w>>(
+    alloc: Global,
+    files: &mut F,
+    asked: &Resuming<'w>,
+) -> Result<OldText<'w, F::In>, Ending>
+    ensures { OpensFiles (Open asked.now.position.now ∷ Open asked.now.old.now ∷ [])
+        (Open asked.now.position.now ∷ Open asked.now.old.now ∷ []) ⊥
+        (IsUnplaced asked.now.position.now) (F.view files.old) (F.view files.new)
+        (λ e. HasGivenAll (CameSince (F.view files.old) (F.view files.new)) asked.now.position.now
+        (position_text e.position) × (e.name.now ≡ asked.now.old.now)
+        × F.In.began e.source (Named e.name.now)
+        × IsNewOld F.In.view F.size (CameSince (F.view files.old) (F.view files.new)) e) result }
+{
+    let position = read_position(alloc, files, asked.position)?;
+    let source = open_in(alloc, files, asked.old, missing_at(&position))?;
+    Ok(OldText {
+        position,
+        name: asked.old,
+        source,
+    })
+}
+
+/// Continues a decryption as asked. If it isn't done, `conclude` reports why, and saves the position
+/// of a stop.
+pub fn resume_file<'w, F: FileSet<'w>, P: Meter>(
+    alloc: Global,
+    files: &mut F,
+    asked: &Resuming<'w>,
+    progress: &mut P,
+) -> Result<(), Unfinished<'w>>
+    ensures { Finally (λ after. Acts (PortsOf F.In.view F.Out.view) (Resume asked.now)
+        (F.view files.old) after (progress.new ≡ progress.old)
+        (ShowsProgress (CameSince (F.view files.old) after) (P.shown progress.old)
+        (P.shown progress.new))) (F.view files.new) result }
+{
+    let wanted = &asked.decrypting;
+    let writing = Writing {
+        first: wanted.identity.pass,
+        second: wanted.identity.shared,
+        position: Some(asked.position),
+        old: Some(asked.old),
+        save: wanted.save,
+        paths: wanted.paths,
+        content: Content::Plaintext,
+    };
+    let identity = identify(alloc, files, wanted, &writing)?;
+    let old = open_earlier(alloc, files, asked)?;
+    let (source, out) = open_both(alloc, files, &writing)?;
+    let earlier = Some(old);
+    let outputs = Outputs { earlier, out };
+    let ready = Ready {
+        identity,
+        source,
+        outputs,
+    };
+    decrypt_ready(alloc, files, &writing, ready, progress)
+}
