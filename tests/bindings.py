@@ -26,8 +26,23 @@ def module():
     """The Python module, over the library as it is now."""
     os.environ["AGE_C_LIBRARY"] = str(workspace.library() / "libage_c.so")
     sys.path.insert(0, str(PYTHON))
-    import agefile._keys
+    import agefile._keys, agefile._output, agefile._workers
     return agefile
+
+
+class Late:
+    """The same for a file of tests, which is loaded before there has to be a library."""
+
+    def __getattr__(self, name):
+        return getattr(module(), name)
+
+
+agefile = Late()
+
+
+def setUpModule():
+    """What a file of tests that imports it begins with."""
+    module()
 
 
 def python_with(module):

@@ -3,28 +3,36 @@ file, or a test, that made no check has failed. So has a test that is expected t
 nothing ran), or one of whose threads ended by an exception; and, if AGE_TEST_ALL is set, each check that was left out for want of
 something that tests/optional doesn't list.
 
-usage: python3 -m tests.counted FILE     as test_disk; the last line is `N passed, M failed, K skipped`, and the status 0 if none failed
+usage: python3 -m tests.counted FILE     as test_disk; the last line is `N passed, M failed, K skipped`, and the status 0 if none failed;
+                                         each test that took a second or more has a line before it, `S s TEST`
 """
 import functools
 import os
 import pathlib
 import sys
 import threading
+import time
 import unittest
 
 OPTIONAL = pathlib.Path(__file__).with_name("optional")
 
 
 class Counted(unittest.TextTestResult):
-    passed = checks = asserted = 0
+    passed = checks = asserted = begun = 0
+
+    def __init__(self, *words):
+        super().__init__(*words)
+        self.took = []
 
     def startTest(self, test):
         super().startTest(test)
-        self.checks = Counted.asserted = 0
+        self.checks, Counted.asserted, self.begun = 0, 0, time.monotonic()
         threading.excepthook = lambda it: self.addError(test, it[:3])
 
     def stopTest(self, test):
         threading.excepthook = threading.__excepthook__
+        if (took := time.monotonic() - self.begun) >= 1:
+            self.took.append((took, test.id().removeprefix("tests.")))
         super().stopTest(test)
 
     def addSubTest(self, test, check, error):
@@ -74,6 +82,8 @@ def main():
     if not result.passed + failed + len(result.skipped):
         print(f"{sys.argv[1]}: no check was made")
         failed += 1
+    for took, test in sorted(result.took, reverse=True):
+        print(f"{took:.1f} s {test}")
     print(f"{result.passed} passed, {failed} failed, {len(result.skipped)} skipped")
     return failed != 0
 

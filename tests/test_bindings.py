@@ -12,8 +12,7 @@ import subprocess
 import sys
 import tempfile
 
-from tests import bindings
-from tests.bindings import BLOCK, KEY, LENGTHS, PYTHON, BindingsCase, by_python, fault_in, flipped, plain_of
+from tests.bindings import BLOCK, KEY, LENGTHS, PYTHON, BindingsCase, agefile, by_python, fault_in, flipped, plain_of, setUpModule
 from tests.case import needs
 from tools.workspace import LIBRARY, TOP
 
@@ -45,11 +44,6 @@ FLAWS = {
     "any-order": "the text is", "writes-after": "a call that doesn't return 0", "forgets-fault": "a fault stays", "unchecked-header": "a header opens",
     "reads-past": "memory beside what was given was touched",
 }
-
-
-def setUpModule():
-    global agefile
-    agefile = bindings.module()
 
 
 def sample_of(language, number=1):

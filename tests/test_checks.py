@@ -1,8 +1,10 @@
 """Tries what the gate itself rests on: that what is gone, left out or published by another way is noticed. None of it needs the program."""
 import contextlib
 import io
+import os
 import pathlib
 import re
+import signal
 import subprocess
 import sys
 import tempfile
@@ -11,8 +13,8 @@ import unittest
 import unittest.mock
 
 from tests import counted, test_runs
-from tests.case import Case
-from tools import sources
+from tests.case import SECONDS, Case
+from tools import older_kit, sources
 from tools.workspace import TOP, loaded, with_room
 
 EMPTY = "import unittest\n\nclass EmptyTest(unittest.TestCase):\n    pass\n"
@@ -74,33 +76,72 @@ class ChecksTest(unittest.TestCase):
     def test_check(self):
         """`check` tries the core of the edits and runs all files of tests; whatever fails, ends early, has no count or is gone shows in its
         status."""
-        check = loaded(TOP / "check")
-        for script, found in (("print('1 passed, 0 failed')", (1, 0)), ("print('1 passed, 0 failed'); exit(1)", (1, 1)), ("", (0, 1)), ("print('1 passed, 2 failed'); exit(1)", (1, 2))):
-            with self.subTest(script), contextlib.redirect_stdout(io.StringIO()):
-                self.assertEqual(check.counted(sys.executable, "-c", script), found)
-        ran = []
-        with unittest.mock.patch.multiple(check, counted=lambda *words: ran.append(words) or (1, 0), kit=lambda: types.SimpleNamespace(Kept=None)):
-            self.assertEqual((check.run_gate(), ran[-1]), ((1, 1, 0), ("checks/edits", "--core")))
-        for failing in (0, 1):
-            failed = lambda *words: (1, int((words[0] == "checks/edits") == bool(failing)))
-            with unittest.mock.patch.multiple(check, counted=failed, kit=lambda: types.SimpleNamespace(Kept=None)):
-                self.assertEqual(check.run_gate(), (1, failing, 1))
+        check, well = loaded(TOP / "check"), "1 passed, 0 failed, 0 skipped\n"
         files, (crates, edits) = sorted(TOP.glob("tests/test_*.py")), map(int, re.match(r"(\d+) crates, (\d+) edits", (TOP / "tests/ran").read_text()).groups())
-        for said, gate, failed in (
-            ("1 passed, 0 failed, 0 skipped\n", (crates, edits, 0), 0), ("1 passed, 1 failed, 0 skipped\n", (crates, edits, 0), 1), ("it was killed\n", (crates, edits, 0), 1),
-            ("README.md says: nothing of that\n1 passed, 0 failed, 0 skipped\n", (crates, edits, 0), 1), ("1 passed, 0 failed, 0 skipped\n", (crates, edits - 1, 0), 1),
-            ("1 passed, 0 failed, 0 skipped\n", (crates - 1, edits, 0), 1), ("1 passed, 0 failed, 0 skipped\n", (crates, edits, 1), 1),
-        ):
-            ran = []
-            patched = {"run_file": lambda it: ran.append(it) or said, "program": lambda: "", "library": lambda: "", "run_gate": lambda: gate}
-            with self.subTest(said), contextlib.redirect_stdout(io.StringIO()), unittest.mock.patch.dict("os.environ"), unittest.mock.patch.multiple(check, **patched):
-                self.assertEqual(check.main(), failed != 0)
+        self.assertEqual(check.EDITS, ("checks/edits", "--core", "--beside"))
+        count, proofs, refused, ran = crates + edits + len(files), f"print('{crates} passed, 0 failed')", f"print('{edits} passed, 0 failed')", []
+
+        def told(proofs, edits, said=well):
+            """The status of `check` and its last line, if its commands are these scripts, and one file of tests says this."""
+            ran.clear()
+            scripts = {name: (sys.executable, "-c", it) for name, it in (("PROOFS", proofs), ("EDITS", f"import sys; told = sys.stdin.read(); {edits}"))}
+            tests = {"run_file": lambda it: ran.append(it) or (said if it == files[0] else well), "program": str, "library": str}
+            patched = unittest.mock.patch.multiple(check, kit=lambda: types.SimpleNamespace(Kept=None), **scripts, **tests)
+            with contextlib.redirect_stdout(io.StringIO()) as shown, unittest.mock.patch.dict("os.environ"), patched:
+                status = check.main()
+            return status, shown.getvalue().splitlines()[-1]
+
+        for of, call in ((crates, lambda it: told(it, refused)), (edits, lambda it: told(proofs, it))):
+            well_said = f"print('{of} passed, 0 failed')"
+            for script, less, failed in (
+                (well_said, 0, 0), (f"{well_said}; exit(1)", 0, 1), ("", of, 2), (f"print('{of - 1} passed, 1 failed'); exit(1)", 1, 2), (f"print('{of - 1} passed, 0 failed')", 1, 1),
+            ):
+                with self.subTest(script):
+                    self.assertEqual(call(script), (failed != 0, f"{count - less} passed, {failed} failed"))
+                    self.assertEqual(sorted(ran), files)
+        for script, word in ((proofs, "proved"), (f"print('{crates} passed, 1 failed'); exit(1)", "failed")):
+            with self.subTest(f"the edits hear: {word}"):
+                self.assertEqual(told(script, f"exit(1) if told != '{word}' else {refused}")[1], f"{count} passed, {int(word == 'failed')} failed")
+        for said, less in (("1 passed, 1 failed, 0 skipped\n", 0), ("it was killed\n", 1), (f"README.md says: nothing of that\n{well}", 0), ("", 1)):
+            with self.subTest(said):
+                # (a file that doesn't come to its end fails, and is one less that ran)
+                self.assertEqual(told(proofs, refused, said), (True, f"{count - less} passed, {1 + less} failed"))
                 self.assertEqual(sorted(ran), files)
-        with contextlib.redirect_stdout(io.StringIO()) as shown, unittest.mock.patch.dict("os.environ"), unittest.mock.patch.multiple(
-                check, run_file=lambda it: "1 passed, 0 failed, 0 skipped\n" if it != files[0] else "", program=str, library=str, run_gate=lambda: (crates, edits, 0)):
-            self.assertTrue(check.main())
-        # (the file that didn't come to its end, and that one file less ran)
-        self.assertTrue(shown.getvalue().endswith(f"{crates + edits + len(files) - 1} passed, 2 failed\n"), shown.getvalue()[-200:])
+
+    def test_interrupt(self):
+        """Whatever ends `check` early ends what it started."""
+        # (what a shell runs in the background ignores the first of these signals)
+        words = """import signal, sys; from tools.workspace import TOP, loaded; check = loaded(TOP / "check")
+signal.signal(signal.SIGINT, signal.default_int_handler)
+check.PROOFS = check.EDITS = (sys.executable, "-c", "import os, time; print(os.getpid(), flush=True); time.sleep(60)")
+check.main()"""
+        for stop in (signal.SIGINT, signal.SIGTERM):
+            with self.subTest(stop), subprocess.Popen([sys.executable, "-c", words], cwd=TOP, stdout=subprocess.PIPE, stderr=subprocess.DEVNULL, text=True) as run:
+                proofs = pathlib.Path("/proc", run.stdout.readline().strip())
+                self.assertTrue(proofs.exists())
+                run.send_signal(stop)
+                self.assertNotEqual(run.wait(SECONDS), 0)
+                self.assertFalse(proofs.exists())
+
+    def test_beside(self):
+        """Edits are tried once their crate is proved and kept; in the end what wasn't kept is proved if `check` says that all is, and else isn't
+        tried. If it says nothing, they end with it."""
+        edits = loaded(TOP / "checks/edits")
+        for word, rest, is_older in (("proved", ["c"], False), ("failed", [], False), ("", [], False), ("proved", ["a", "b", "c"], True), ("failed", ["a", "b"], True)):
+            (ends, begins), kept, ended = os.pipe(), ["a"], []
+            libraries = types.SimpleNamespace(is_kept=lambda it: it in kept, is_proved=lambda it: it != "d")
+            patched = unittest.mock.patch.multiple(edits, PAUSE=0.01, kit=lambda: types.SimpleNamespace(Kept=older_kit.Kept if is_older else None))
+            with self.subTest(word, is_older=is_older), open(ends) as told, unittest.mock.patch("sys.stdin", told), patched:
+                proofs = edits.Proofs(lambda: ended.append("it has"), lambda: ended.append("after"))
+                found = proofs.arriving(libraries, ["a", "b", "c", "d"])
+                if not is_older:
+                    self.assertEqual(next(found), "a")
+                kept.append("b")
+                if not is_older:
+                    self.assertEqual(next(found), "b")
+                os.write(begins, word.encode())
+                os.close(begins)
+                self.assertEqual(([*found], ended), (rest, ["after"] if word else ["it has", "after"]))
 
     def test_room(self):
         """A count may grow by 2 % until the next release, and by 1 at least."""
@@ -153,13 +194,13 @@ class ChecksTest(unittest.TestCase):
         spoiling += ("std::os::unix::fs::FileExt::write_at(file, from, 0)?;", "use std::os::unix::fs::{chown};", "fs :: rename(rt, one, other)?;")
         spoiling += ("use crate::output::HostOut as Own;", "use age_machine::HostMachine as Own;")
         opening = ("let mut own = HostMachine::new(self.rt);", "let _ = HostOut::to_make(alloc, rt, name, durability);", "let mut own = kept.machine();", "let mut log = HostOut::faults(rt);")
-        spoiling += ("use std::fs::{File, rename};", "File::set_len(&file, 0)?;", "file.write_vectored(&held)?;", "fs::create(rt, path)?;")
+        spoiling += ("let file = make_file(rt, path)?;", "remove_own(rt, &file, path);", "use std::fs::{File, rename};", "File::set_len(&file, 0)?;", "file.write_vectored(&held)?;", "fs::create(rt, path)?;")
         spoiling += ("file.write_all_at(b\"x\", 0)?;", "let it = calls :: remove;", "libc::unlink(path);", "std::fs::remove_file(rt, name)?;")
         spoiling += ("use std::process::Command;", "let _ = std::env::var(\"HOME\");", "use std::{net, io};", "rt.stdin().read(into)?;", "std::thread::spawn(it);", "let _ = eprint!(rt; \"{byte}\");")
-        for place, lines in (("files", spoiling), ("prepare", opening), ("output", ("calls::remove(rt, path)?;", "use age_machine::calls::{close, cut};"))):
+        for place, lines in (("age_disk/src/files", spoiling), ("age_prepared/src/prepare", opening), ("age_host_out/src/output", ("calls::remove(rt, path)?;", "use age_machine::calls::{close, cut};"))):
             for line in lines:
                 with self.subTest(line, place=place), tempfile.TemporaryDirectory() as room:
-                    path = pathlib.Path(room) / f"age_disk/src/{place}.rt"
+                    path = pathlib.Path(room) / f"{place}.rt"
                     path.parent.mkdir(parents=True)
                     path.write_text(f"{line}\nfn spoil() {{\n    {line}\n}}\n")
                     self.assertNotEqual([*check.unnoted([sources.Source(path, pathlib.Path(room))])], [])

@@ -32,11 +32,11 @@ class FailingCallsTest(Case):
         self.text, parts = random.Random(5).randbytes(200_000), random.Random(6).randbytes(48)
         self.file = file_under(b"p", 1, parts, self.text)
         front = self.file.index(b"\n--- ") + 49 + 16
-        self.key, self.nonce, self.id, self.cut = parts[:16], parts[32:], hashlib.sha256(self.file[:front]).digest(), self.file[: front + 2 * BLOCK + 100]
+        self.key, self.nonce, self.file_id, self.cut = parts[:16], parts[32:], hashlib.sha256(self.file[:front]).digest(), self.file[: front + 2 * BLOCK + 100]
         self.kept = {"pass": b"p\n", "random": parts}
 
     def position(self, index):
-        return Position(index, self.id, chain_of(parts_of(self.text)[:index])).signed(self.key, self.nonce).text()
+        return Position(index, self.file_id, chain_of(parts_of(self.text)[:index])).signed(self.key, self.nonce).text()
 
     def commands(self):
         whole, cut, decrypt = {"in": self.file}, {"in": self.cut}, "decrypt --pass pass --save saved in out"

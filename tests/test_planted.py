@@ -13,7 +13,7 @@ from tools.workspace import TOP
 # Of each check: a file, an old text in it and a new one (both are appended to if there is no old one), and what the check has to say.
 PLANTED = {
     "documents": (
-        ("README.md", "`age_disk` first", "`age_nothing` first. [Here](docs/NOTHING.md)", "README.md: no docs/NOTHING.md"),
+        ("README.md", "`age_names` and `age_prepared` first", "`age_nothing` first. [Here](docs/NOTHING.md)", "README.md: no docs/NOTHING.md"),
         ("README.md", "`arrayvec`,", "", "README.md: arrayvec isn't among what is trusted"),
         ("README.md", "| encrypt 512 MiB | 0.82 s", "| encrypt 512 MiB | 0.42 s", "README.md"),
         ("HANDLES", "none", "Net", "HANDLES: something is allowed"),
@@ -52,6 +52,8 @@ PLANTED = {
     "unused": (
         ("crates/age_kdf/specs/Derivation.antt", None, "", "age_kdf/specs/Derivation.antt: nothing uses idle"),
         ("crates/age_kdf/src/loose.rt", None, "//! Nothing.\n", "age_kdf/src/loose.rt: no module names it"),
+        ("crates/age_intake/proofs/ReadLemmas.antt", None, "\nagain : (was : Supply) → Consumes was was []\nagain was = Consumes-nil was\n",
+         "age_intake/proofs/ReadLemmas.antt: again is Consumes-nil of age_io/proofs/SupplyLemmas.antt"),
         ("crates.txt", "age_kdf: sha2", "age_kdf: sha2 hex", "crates.txt: age_kdf doesn't use hex"),
     ),
 }

@@ -7,8 +7,7 @@ import subprocess
 import sys
 import unittest
 
-from tests import bindings
-from tests.bindings import PYTHON, BindingsCase, plain_of
+from tests.bindings import PYTHON, BindingsCase, plain_of, setUpModule
 from tests.case import needs
 from tools.workspace import LIBRARY, TOP
 
@@ -35,10 +34,6 @@ func TestOldProcessor(t *testing.T) {
 	}
 }
 """
-
-
-def setUpModule():
-    bindings.module()
 
 
 @unittest.skipUnless(platform.machine() == "x86_64", "needs x86-64")

@@ -7,8 +7,7 @@ import random
 import subprocess
 import sys
 
-from tests import bindings
-from tests.bindings import LENGTHS, PYTHON, BindingsCase, plain_of, python_with, raised
+from tests.bindings import LENGTHS, PYTHON, BindingsCase, agefile, plain_of, python_with, raised, setUpModule
 from tests.test_bindings import sample_of
 from tests.test_python_files import interrupted_at, together
 from tools.workspace import LIBRARY
@@ -38,11 +37,6 @@ async def main():
 
 asyncio.run(main())
 """
-
-
-def setUpModule():
-    global agefile
-    agefile = bindings.module()
 
 
 def sealed(text):

@@ -17,8 +17,7 @@ import threading
 import zipfile
 from unittest import mock
 
-from tests import bindings
-from tests.bindings import BLOCK, CHUNK, KEY, PYTHON, BindingsCase, by_python, flipped, limited, raised, slow
+from tests.bindings import BLOCK, CHUNK, KEY, PYTHON, BindingsCase, agefile, by_python, flipped, limited, raised, setUpModule, slow
 from tests.case import needs
 from tools import shim
 from tools.workspace import LIBRARY, TOP
@@ -73,11 +72,6 @@ def of_buffers(mapped: mmap.mmap, secret: bytearray, view: memoryview) -> bytes:
     with agefile.open("a", passphrase=view) as file, agefile.Decryptor(passphrase=secret) as text, agefile.Encryptor(passphrase=secret) as out:
         return made + file.read() + text.update(mapped) + out.update(view)
 """
-
-
-def setUpModule():
-    global agefile
-    agefile = bindings.module()
 
 
 def fault_of(call, *words, **more):

@@ -18,14 +18,8 @@ import types
 import warnings
 import zlib
 
-from tests import bindings
-from tests.bindings import KEY, LENGTHS, RANDOM, BindingsCase, by_python, plain_of, raised, slow
+from tests.bindings import KEY, LENGTHS, PYTHON, RANDOM, BindingsCase, agefile, by_python, limited, plain_of, raised, setUpModule, slow
 from tools.workspace import TOP
-
-
-def setUpModule():
-    global agefile
-    agefile = bindings.module()
 
 
 class Halting(io.RawIOBase):
@@ -427,7 +421,7 @@ class PythonFilesTest(BindingsCase):
     def test_interrupted_writers(self):
         """An exception at each place where Python lets a signal's handler run, in each call of a writer, and then another call: the file is
         whole or refused by every reader, as that call says, and what it was opened on is closed."""
-        text, path, package = plain_of(100_000), self.path("interrupted.age"), str(bindings.PYTHON / "agefile")
+        text, path, package = plain_of(100_000), self.path("interrupted.age"), str(PYTHON / "agefile")
         calls = {"write": lambda file: file.write(text[70_000:]), "close": lambda file: file.close(), "abandon": lambda file: file.abandon()}
         for what, call in calls.items():
             for after in ("abandon", "close"):
@@ -448,7 +442,7 @@ class PythonFilesTest(BindingsCase):
 
     def test_interrupted_text(self):
         """In text mode an exception in a call doesn't lose what earlier ones wrote, or the file can't be finished."""
-        kept, package = "a" * 5_000, str(bindings.PYTHON / "agefile")
+        kept, package = "a" * 5_000, str(PYTHON / "agefile")
         for what, call in {"write": lambda file: file.write("b" * 5_000), "flush": lambda file: file.flush()}.items():
             turn, wrong = 0, []
             while turn < 400:
@@ -623,7 +617,7 @@ class PythonFilesTest(BindingsCase):
         and a seek to a known place reads the right text, or what is read without one is an exception."""
         text = plain_of(200_000)
         data = self.sealed(text)
-        package = str(bindings.PYTHON / "agefile")
+        package = str(PYTHON / "agefile")
         calls = {
             "read": (lambda file: file.read(100_000), 0), "a short read": (lambda file: file.read(10), 0), "read1": (lambda file: file.read1(), 0),
             "readinto": (lambda file: file.readinto(bytearray(70_000)), 0), "readline": (lambda file: file.readline(), 0),
@@ -706,7 +700,7 @@ class PythonFilesTest(BindingsCase):
                 agefile.open(io.BytesIO(data[:end]), file_key=KEY, random_access=True)
             except agefile.AgeError as fault:
                 self.see(f"a file cut at {end}", (fault.number, fault.place) == want, fault)
-        with bindings.limited(60), agefile.open(io.BytesIO(self.sealed(b"abc\nd")), file_key=KEY) as file:
+        with limited(60), agefile.open(io.BytesIO(self.sealed(b"abc\nd")), file_key=KEY) as file:
             found = [file.readline(it) for it in (0, 1, 0, 2, 5, 1, 1)]
             self.see("short lines", found == [b"", b"a", b"", b"bc", b"\n", b"d", b""], found)
 

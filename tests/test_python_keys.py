@@ -13,8 +13,8 @@ import subprocess
 import sys
 import unittest.mock
 
-from tests import bindings, test_python
-from tests.bindings import PYTHON, BindingsCase, flipped
+from tests import test_python
+from tests.bindings import PYTHON, BindingsCase, agefile, flipped, setUpModule
 from tests.case import needs
 from tests.test_python import AGE, fault_of
 from tools import terminal
@@ -24,11 +24,6 @@ needs_cryptography = unittest.skipUnless(HAS_CRYPTOGRAPHY, "needs cryptography")
 
 LOW_ORDER = (0, 1, 2**255 - 20, 2**255 - 19, 2**255 - 18, 325606250916557431795983626356110631294008115727848805560023387167927233504,
              39382357235489614581723060781553021112529911719440698176882885853963445705823)
-
-
-def setUpModule():
-    global agefile
-    agefile = bindings.module()
 
 
 def bech32_of(prefix, held):

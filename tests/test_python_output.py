@@ -10,8 +10,7 @@ import sys
 import time
 import unittest.mock
 
-from tests import bindings
-from tests.bindings import BLOCK, KEY, PYTHON, BindingsCase, flipped, plain_of, raised
+from tests.bindings import BLOCK, KEY, PYTHON, BindingsCase, agefile, flipped, plain_of, raised, setUpModule
 
 LENGTH = 300_000
 WORKERS = ["decrypt", "--pass", "pw", "--workers", "2"]
@@ -38,12 +37,6 @@ def named(path, how, *words, **more):
 os.open = named
 """
 RUNS = "import runpy\nrunpy.run_module('agefile', run_name='__main__')\n"
-
-
-def setUpModule():
-    global agefile
-    agefile = bindings.module()
-    import agefile._output
 
 
 class OutputTest(BindingsCase):

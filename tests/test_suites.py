@@ -11,8 +11,7 @@ import unittest
 import unittest.mock
 import warnings
 
-from tests import bindings
-from tests.bindings import flipped
+from tests.bindings import agefile, setUpModule
 from tests.case import Case
 
 # How many random calls are compared.
@@ -31,11 +30,6 @@ LEFT_OUT = {
 }
 # What only a file that can be sought in can be opened for.
 UNSEEKABLE = "seekable"
-
-
-def setUpModule():
-    global agefile
-    agefile = bindings.module()
 
 
 def opened(any_place, name=None, mode="r", _=None, fileobj=None, **more):

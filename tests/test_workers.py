@@ -10,19 +10,12 @@ import sys
 import threading
 import time
 
-from tests import bindings
-from tests.bindings import BLOCK, KEY, LENGTHS, PYTHON, BindingsCase, flipped, limited, plain_of, python_with, raised
+from tests.bindings import BLOCK, KEY, LENGTHS, PYTHON, BindingsCase, agefile, flipped, limited, plain_of, python_with, raised, setUpModule
 from tests.test_bindings import sample_of
 from tests.test_python import fault_of
 from tools.workspace import LIBRARY
 
 LENGTH = 9 * 65_536 + 1_000
-
-
-def setUpModule():
-    global agefile
-    agefile = bindings.module()
-    import agefile._workers
 
 
 class WorkersTest(BindingsCase):

@@ -57,17 +57,29 @@ class Libraries:
     def is_proved(self, crate):
         """Whether a library is proved; proves it if it isn't yet, and shows what is said if that fails."""
         if crate.name not in self.proved:
-            os.makedirs(f"{crate.folder}/out", exist_ok=True)
             self.proved[crate.name] = all(map(self.is_proved, crate.below())) and self.is_given(crate)
         return self.proved[crate.name]
 
+    def is_kept(self, crate):
+        """Whether a library is proved, or a run kept it, this moment too: then it is taken. Nothing is proved for that."""
+        if crate.name not in self.proved and all(map(self.is_kept, crate.below())) and self.takes(crate):
+            self.proved[crate.name] = True
+        return self.proved.get(crate.name, False)
+
+    def takes(self, crate):
+        """Takes the library if a run kept it: whether one did."""
+        os.makedirs(f"{crate.folder}/out", exist_ok=True)
+        if not self.kept.give(crate, False, self.kept.key(crate)):
+            return False
+        self.kept.is_built(crate)
+        self.given.add(crate.name)
+        return True
+
     def is_given(self, crate):
         """Whether an earlier run kept the library, or it is proved now, and then kept."""
-        key = self.kept.key(crate)
-        if self.kept.give(crate, False, key):
-            self.kept.is_built(crate)
-            self.given.add(crate.name)
+        if self.takes(crate):
             return True
+        key = self.kept.key(crate)
         with tempfile.TemporaryFile("w+", errors="replace") as crate.out:
             if crate.ci(["--jobs", str(len(os.sched_getaffinity(0)))], False):
                 crate.out.seek(0)

@@ -1,10 +1,8 @@
 """What `rt` of a kit lacks that keeps nothing of what it proved, under the names that a newer one has. What its `rt ci` proved in this
 checkout is kept in crates/NAME/out/kept by `check`, for the C library and for edits; all else it proves anew."""
-import contextlib
 import hashlib
 import os
 import shutil
-import tempfile
 
 from tools.workspace import CRATES
 
@@ -17,14 +15,7 @@ def complete(rt):
     def crates_of(root):
         return sorted(rt.rtlib.crates_below(root), key=lambda it: len(it.below()))
 
-    def seeded(crate, flags):
-        room = tempfile.mkdtemp(prefix="age-seed-")
-        if not rt.checked(crate, {}, flags, f"{room}/seed").returncode:
-            return room
-        shutil.rmtree(room)
-        return None
-
-    rt.copy_crates, rt.crates_of, rt.seeded, rt.linked, rt.ending, rt.Kept = copy_crates, crates_of, seeded, shutil.copytree, contextlib.nullcontext, Kept
+    rt.copy_crates, rt.crates_of, rt.linked, rt.Kept = copy_crates, crates_of, shutil.copytree, Kept
     rt.stamp_of = lambda crate, seen: Kept([]).key(crate)
 
 

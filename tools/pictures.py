@@ -203,31 +203,34 @@ def power_picture():
 # What each crate is for, in two short lines.
 WORDS = {
     "age_kdf": ("HMAC, HKDF,", "PBKDF2"), "age_cipher": ("ChaCha20-Poly1305", "is RFC 8439's"), "age_stanza": ("one header, or", "one first fault"),
-    "age_chunk": ("chunks, nonces,", "the box's law"), "age_io": ("source, sink, meter", ""),
+    "age_chunk": ("chunks, nonces,", "the box's law"), "age_io": ("source, sink, meter", ""), "age_options": ("what is asked of OUT", ""),
     "age_scrypt": ("the RFC's key, and", "its count of steps"), "age_stream": ("THE HEADLINE:", "a prefix, or all"),
     "age_keys": ("which key opens", "a header; its MAC"),
     "age_fault": ("one list of faults", ""), "age_intake": ("what engines read,", "and the first fault"),
     "age_position": ("where a run stands,", "and can go on"), "age_sealing": ("the age file", "of a text"), "age_inspection": ("what a file holds", ""),
     "age_opening": ("the headline for", "runs, also resumed"), "age_c": ("the headline for", "callers in C"), "age_machine": ("OUT and positions,", "call by call"),
-    "age_calls": ("what calls leave", "on a disk"),
+    "age_calls": ("what calls leave", "on a disk"), "age_names": ("where names lead", "(tested)"), "age_host_in": ("a file that is read", ""),
+    "age_host_out": ("a file that is", "written"), "age_prepared": ("what is to be", "replaced (tested)"),
     "age_file": ("all engines,", "there and back"), "age_fileset": ("what became of", "a command's files"), "age_cli_args": ("what the words", "ask for"),
-    "age_messages": ("what people read", "(tested)"), "age_disk": ("the machine's files", "(partly tested)"), "age_command": ("what the commands", "share"),
-    "age_drill": ("drills: the headline", "shown"), "age_hints": ("advice after a run", "(tested)"), "age_cli": ("what status 0 means", "(the clause zero)"), "age_tool": ("main", ""),
+    "age_messages": ("what people read", "(tested)"), "age_disk": ("the machine's files:", "what is in use"), "age_command": ("what the commands", "share"),
+    "age_outputs": ("what is done", "with OUT"), "age_drill": ("drills: the headline", "shown"), "age_hints": ("advice after a run", "(tested)"), "age_cli": ("what status 0 means", "(the clause zero)"), "age_tool": ("main", ""),
 }
 # The way of a chunk, by crate: what happens there to it.
 WAY = [
-    ("age_disk", "bytes of IN are read;"), ("age_opening", "they are handed on;"), ("age_stream", "a block is collected;"), ("age_keys", "it gets its key and nonce;"),
-    ("age_cipher", "its tag is checked, and only then is it decrypted;"), ("age_fault", "all of the text is written,"), ("age_machine", "by calls that leave OUT on the disk."),
+    ("age_host_in", "bytes of IN are read;"), ("age_opening", "they are handed on;"), ("age_stream", "a block is collected;"), ("age_keys", "it gets its key and nonce;"),
+    ("age_cipher", "its tag is checked, and only then is it decrypted;"), ("age_io", "all of the text is written,"), ("age_machine", "by calls that leave OUT on the disk."),
 ]
 CARRY = ("age_stream", "age_opening", "age_c", "age_cli", "age_machine")
 # How much of a crate is tested and not proved, as it is drawn.
-TESTED = {"age_hints": 1, "age_messages": 1, "age_disk": 0.4, "age_machine": 0.2}
-# Each crate's column, so that the way passes behind no other, except for a corner.
+TESTED = {"age_hints": 1, "age_messages": 1, "age_names": 0.9, "age_prepared": 0.7, "age_host_in": 0.3, "age_host_out": 0.2, "age_disk": 0.2, "age_machine": 0.2}
+# Each crate's column, so that the way passes behind no other, except for a corner; and how many columns there are.
 COLUMN = {
-    "age_hints": 0, "age_drill": 1, "age_cli": 2, "age_tool": 3, "age_disk": 1, "age_command": 2, "age_messages": 3, "age_cli_args": 0, "age_fileset": 2, "age_file": 3,
-    "age_c": 4, "age_calls": 0, "age_opening": 1, "age_sealing": 2, "age_machine": 4, "age_inspection": 3, "age_intake": 0, "age_keys": 2, "age_position": 3,
-    "age_scrypt": 0, "age_stream": 1, "age_fault": 4, "age_stanza": 3, "age_kdf": 0, "age_chunk": 1, "age_cipher": 2, "age_io": 4,
+    "age_hints": 0, "age_drill": 1, "age_cli": 2, "age_outputs": 3, "age_tool": 4, "age_disk": 5, "age_host_in": 1, "age_command": 2, "age_messages": 3,
+    "age_prepared": 5, "age_cli_args": 0, "age_fileset": 2, "age_file": 3, "age_host_out": 4, "age_c": 5, "age_calls": 0, "age_opening": 1, "age_sealing": 2,
+    "age_inspection": 3, "age_machine": 4, "age_intake": 0, "age_keys": 2, "age_position": 3, "age_names": 5, "age_scrypt": 0, "age_stream": 1, "age_stanza": 3,
+    "age_fault": 5, "age_kdf": 0, "age_chunk": 1, "age_cipher": 2, "age_io": 4, "age_options": 5,
 }
+COLUMNS = 6
 
 
 def layers():
@@ -244,7 +247,7 @@ def layers():
 def crates_picture():
     *below, tests = layers()
     wide, high, step, side, gap = 138, 54, 74, 90, 16
-    width, top = side + 5 * (wide + gap) + 40, 50
+    width, top = side + COLUMNS * (wide + gap) + 40, 50
     place, parts = {}, []
     for depth, names in enumerate(reversed(below)):
         y = top + depth * step
@@ -269,8 +272,9 @@ def crates_picture():
         parts.append(f'<circle cx="{x}" cy="{y}" r="10" fill="#0969da"/>')
         parts.append(text(x, y + 4, str(number), size=12, fill="#ffffff", weight="bold"))
     y = top + len(below) * step
-    parts.append(box(side, y, 5 * wide + 4 * gap, 34, "#eaeef2", PALE, 'rx="4"'))
-    parts.append(text(side + (5 * wide + 4 * gap) // 2, y + 22, "the kit (checker, compiler, std, sha2, clap, ..), glibc, Linux, the processor"))
+    whole = COLUMNS * (wide + gap) - gap
+    parts.append(box(side, y, whole, 34, "#eaeef2", PALE, 'rx="4"'))
+    parts.append(text(side + whole // 2, y + 22, "the kit (checker, compiler, std, sha2, clap, ..), glibc, Linux, the processor"))
     parts.append(text(20, y + 22, "trusted", "start", 12, PALE))
     y += 62
     for x, fill, stroke, weight, words in (
