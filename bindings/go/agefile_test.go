@@ -23,78 +23,74 @@ func textOf(n int) []byte {
 	return text
 }
 
-func sealed(t *testing.T, text []byte) []byte {
-	t.Helper()
-	var out bytes.Buffer
-	w, err := Create(&out, []byte("pw"), 1)
+// well ends the tests at a call that fails, and may not.
+func well(err error) {
 	if err != nil {
-		t.Fatal(err)
+		panic(err)
 	}
-	if _, err := w.Write(text); err != nil {
-		t.Fatal(err)
-	}
-	if err := w.Close(); err != nil {
-		t.Fatal(err)
-	}
+}
+
+// must is what such a call returns.
+func must[T any](value T, err error) T {
+	well(err)
+	return value
+}
+
+func created(out io.Writer) *Writer { return must(Create(out, []byte("pw"), 1)) }
+
+func sealed(text []byte) []byte {
+	var out bytes.Buffer
+	w := created(&out)
+	must(w.Write(text))
+	well(w.Close())
 	return out.Bytes()
 }
 
 func pw() Key { return Passphrase([]byte("pw"), MaxWork) }
 
-func opened(t *testing.T, data []byte) *File {
-	t.Helper()
-	file, err := OpenAt(bytes.NewReader(data), int64(len(data)), pw())
-	if err != nil {
-		t.Fatal(err)
-	}
-	return file
-}
+func open(file io.Reader) *Reader { return must(Open(file, pw())) }
 
-// A file that age 1.1.1 made.
-func TestFiles(t *testing.T) {
-	file, err := os.Open("../tests/age/passphrase.age")
+func opened(data []byte) *File { return must(OpenAt(bytes.NewReader(data), int64(len(data)), pw())) }
+
+// ofAge is a file that age 1.1.1 made.
+func ofAge(t *testing.T, name string) []byte {
+	t.Helper()
+	data, err := os.ReadFile("../tests/age/" + name)
 	if errors.Is(err, os.ErrNotExist) {
 		t.Skip("this folder stands alone")
 	}
+	return must(data, err)
+}
+
+// reads says if a file isn't opened by a key, or has another text.
+func reads(t *testing.T, file io.Reader, key Key, text string) {
+	t.Helper()
+	reader, err := Open(file, key)
 	if err != nil {
-		t.Fatal(err)
+		t.Error(err)
+	} else if got, err := io.ReadAll(reader); err != nil || string(got) != text {
+		t.Errorf("%q, %v", got, err)
 	}
-	defer file.Close()
-	reader, err := Open(file, Passphrase([]byte("correct horse"), MaxWork))
-	if err != nil {
-		t.Fatal(err)
-	}
-	text, err := io.ReadAll(reader)
-	if err != nil || string(text) != "hello, passphrase\n" {
-		t.Fatalf("%q, %v", text, err)
-	}
+}
+
+func TestFiles(t *testing.T) {
+	reads(t, bytes.NewReader(ofAge(t, "passphrase.age")), Passphrase([]byte("correct horse"), MaxWork), "hello, passphrase\n")
 }
 
 // A file that age 1.1.1 made for a recipient: the secret is the one of its stanza and of the
 // identity in key.txt beside it.
 func TestSharedSecret(t *testing.T) {
-	data, err := os.ReadFile("../tests/age/one.age")
-	if errors.Is(err, os.ErrNotExist) {
-		t.Skip("this folder stands alone")
-	}
-	if err != nil {
-		t.Fatal(err)
-	}
+	data := ofAge(t, "one.age")
 	secret, _ := hex.DecodeString("a63e711bbe766ac02492dac2ddac009640a5dec3407e1d76637592c111245643")
 	recipient, _ := hex.DecodeString("ebaa24287c1e692527056fc5ea4806639e8c56c9257e953b6dc556e8be34d20f")
 	header, file, err := ReadHeader(bytes.NewReader(data))
-	if err != nil {
-		t.Fatal(err)
-	}
+	well(err)
 	stanza := header.Stanzas[0]
 	if len(header.Stanzas) != 1 || header.Work != 0 || stanza.Type != "X25519" || len(stanza.Body) != 32 ||
 		stanza.Args[0] != "Y4OC5dPKQNGTlZbR6ZAEl/zzlXpPdeDUc++aVmZwUho" {
 		t.Errorf("%+v", header)
 	}
-	reader, err := Open(file, SharedSecret(secret, recipient))
-	if err != nil {
-		t.Fatal(err)
-	}
+	reader := must(Open(file, SharedSecret(secret, recipient)))
 	key := make([]byte, 16)
 	for i := range key {
 		key[i] = byte(reader.reader.file_key[i])
@@ -105,21 +101,14 @@ func TestSharedSecret(t *testing.T) {
 	// (the header that age wrote, before another text)
 	stanzas := data[22 : header.Len-48]
 	again := bytes.Buffer{}
-	w, err := CreateKey(&again, key, stanzas)
-	if err != nil {
-		t.Fatal(err)
-	}
+	w := must(CreateKey(&again, key, stanzas))
 	if _, err := io.WriteString(w, "again"); err != nil || w.Close() != nil {
 		t.Error(err)
 	}
 	if !bytes.Equal(again.Bytes()[:header.Len], data[:header.Len]) {
 		t.Errorf("%q", again.Bytes()[:header.Len])
 	}
-	if reader, err := Open(&again, SharedSecret(secret, recipient)); err != nil {
-		t.Error(err)
-	} else if text, err := io.ReadAll(reader); err != nil || string(text) != "again" {
-		t.Errorf("%q, %v", text, err)
-	}
+	reads(t, &again, SharedSecret(secret, recipient), "again")
 	for number, words := range map[uint32][2][]byte{
 		NumberMisused: {key[:15], stanzas}, NumberBadStanzaLine: {key, stanzas[1:]},
 	} {
@@ -135,21 +124,15 @@ func TestSharedSecret(t *testing.T) {
 }
 
 func TestReadHeader(t *testing.T) {
-	data := sealed(t, []byte("a text"))
+	data := sealed([]byte("a text"))
 	header, file, err := ReadHeader(bytes.NewReader(data))
-	if err != nil {
-		t.Fatal(err)
-	}
+	well(err)
 	stanza := header.Stanzas[0]
 	if header.Work != 1 || len(header.Stanzas) != 1 || stanza.Type != "scrypt" ||
 		len(stanza.Args) != 2 || stanza.Args[1] != "1" || len(stanza.Body) != 32 {
 		t.Errorf("%+v", header)
 	}
-	if reader, err := Open(file, pw()); err != nil {
-		t.Error(err)
-	} else if text, err := io.ReadAll(reader); err != nil || string(text) != "a text" {
-		t.Errorf("%q, %v", text, err)
-	}
+	reads(t, file, pw(), "a text")
 
 	of := func(count int) string {
 		return "age-encryption.org/v1\n" + strings.Repeat("-> a bc !~\nAQID\n", count) + "--- " +
@@ -157,9 +140,7 @@ func TestReadHeader(t *testing.T) {
 	}
 	many := of(300)
 	header, file, err = ReadHeader(iotest.OneByteReader(strings.NewReader(many)))
-	if err != nil {
-		t.Fatal(err)
-	}
+	well(err)
 	if stanza := header.Stanzas[299]; header.Len != len(many) || header.Work != 0 ||
 		len(header.Stanzas) != 300 || stanza.Type != "a" ||
 		strings.Join(stanza.Args, ",") != "bc,!~" || string(stanza.Body) != "\x01\x02\x03" {
@@ -188,7 +169,7 @@ func TestReadHeader(t *testing.T) {
 func TestReader(t *testing.T) {
 	for _, n := range lengths {
 		text := textOf(n)
-		data := sealed(t, text)
+		data := sealed(text)
 		readers := map[string]io.Reader{
 			"whole": bytes.NewReader(data), "half": iotest.HalfReader(bytes.NewReader(data)),
 			"with its end": iotest.DataErrReader(bytes.NewReader(data)),
@@ -205,16 +186,13 @@ func TestReader(t *testing.T) {
 				t.Error(n, name, err)
 			}
 		}
-		reader, err := Open(bytes.NewReader(data), pw())
-		if err != nil {
-			t.Fatal(err)
-		}
+		reader := open(bytes.NewReader(data))
 		var out bytes.Buffer
 		count, err := io.Copy(&out, reader)
 		if err != nil || count != int64(n) || !bytes.Equal(out.Bytes(), text) {
 			t.Error(n, "copied", count, err)
 		}
-		if err := iotest.TestReader(opened(t, data), text); err != nil {
+		if err := iotest.TestReader(opened(data), text); err != nil {
 			t.Error(n, "at any place", err)
 		}
 	}
@@ -225,27 +203,17 @@ func TestWriterInPieces(t *testing.T) {
 		for _, size := range []int{999, 65536, 70000} {
 			text := textOf(n)
 			var out bytes.Buffer
-			w, err := Create(&out, []byte("pw"), 1)
-			if err != nil {
-				t.Fatal(err)
-			}
+			w := created(&out)
 			for rest := text; len(rest) > 0; {
 				count := size
 				if count > len(rest) {
 					count = len(rest)
 				}
-				if _, err := w.Write(rest[:count]); err != nil {
-					t.Fatal(err)
-				}
+				must(w.Write(rest[:count]))
 				rest = rest[count:]
 			}
-			if err := w.Close(); err != nil {
-				t.Fatal(err)
-			}
-			reader, err := Open(&out, pw())
-			if err != nil {
-				t.Fatal(err)
-			}
+			well(w.Close())
+			reader := open(&out)
 			if got, err := io.ReadAll(reader); err != nil || !bytes.Equal(got, text) {
 				t.Error(n, size, len(got), err)
 			}
@@ -255,13 +223,8 @@ func TestWriterInPieces(t *testing.T) {
 
 func TestWriterFails(t *testing.T) {
 	var out bytes.Buffer
-	w, err := Create(&out, []byte("pw"), 1)
-	if err != nil {
-		t.Fatal(err)
-	}
-	if _, err := w.Write(textOf(70000)); err != nil {
-		t.Fatal(err)
-	}
+	w := created(&out)
+	must(w.Write(textOf(70000)))
 	w.Abandon()
 	if _, err := w.Write([]byte("x")); err == nil {
 		t.Error("an abandoned file is written on")
@@ -269,17 +232,11 @@ func TestWriterFails(t *testing.T) {
 	if err := w.Close(); err == nil {
 		t.Error("an abandoned file is closed")
 	}
-	reader, err := Open(&out, pw())
-	if err != nil {
-		t.Fatal(err)
-	}
+	reader := open(&out)
 	if _, err := io.ReadAll(reader); !errors.Is(err, ErrTruncated) {
 		t.Error("an abandoned file:", err)
 	}
-	w, err = Create(iotest.TruncateWriter(io.Discard, 1<<40), []byte("pw"), 1)
-	if err != nil {
-		t.Fatal(err)
-	}
+	w = must(Create(iotest.TruncateWriter(io.Discard, 1<<40), []byte("pw"), 1))
 	w.out = failing{}
 	if _, err := w.Write(textOf(70000)); !errors.Is(err, io.ErrClosedPipe) {
 		t.Error("a write that fails:", err)
@@ -299,8 +256,8 @@ type failing struct{}
 func (failing) Write([]byte) (int, error) { return 0, io.ErrClosedPipe }
 
 func TestKinds(t *testing.T) {
-	data := sealed(t, textOf(70000))
-	full := sealed(t, textOf(65536))
+	data := sealed(textOf(70000))
+	full := sealed(textOf(65536))
 	changed := append([]byte{}, data...)
 	changed[len(data)-1] ^= 1
 	begin := len(full) - 65552
@@ -358,15 +315,15 @@ func faultOf(data []byte, key Key, at bool) error {
 func TestEarlyAnswer(t *testing.T) {
 	source, sink := io.Pipe()
 	defer sink.Close()
-	go func() { _, _ = sink.Write(sealed(t, []byte("text"))) }()
+	go func() { _, _ = sink.Write(sealed([]byte("text"))) }()
 	if _, err := Open(source, Passphrase([]byte("other"), MaxWork)); !errors.Is(err, ErrWrongKey) {
 		t.Error(err)
 	}
 }
 
 // long is the file of an empty text with a header of some 600,000 bytes.
-func long(t *testing.T) []byte {
-	version, rest, _ := bytes.Cut(sealed(t, nil), []byte("\n"))
+func long() []byte {
+	version, rest, _ := bytes.Cut(sealed(nil), []byte("\n"))
 	stanzas := bytes.Repeat([]byte("-> --- ---\nAAAA\n"), 40_000)
 	return bytes.Join([][]byte{version, append(stanzas, rest...)}, []byte("\n"))
 }
@@ -374,7 +331,7 @@ func long(t *testing.T) []byte {
 // A header that comes in small pieces isn't tried at each of them, and is answered once it is there.
 // A try takes some milliseconds, so that one at each piece would take many minutes.
 func TestSlowHeader(t *testing.T) {
-	slow := iotest.OneByteReader(bytes.NewReader(long(t)))
+	slow := iotest.OneByteReader(bytes.NewReader(long()))
 	begun := time.Now()
 	var fault *Fault
 	_, err := Open(io.MultiReader(slow, iotest.ErrReader(io.ErrClosedPipe)), pw())
@@ -389,11 +346,8 @@ func TestSlowHeader(t *testing.T) {
 // A read that fails is reported as it is, and the text can be read on.
 func TestReadOn(t *testing.T) {
 	text := textOf(200000)
-	file := &stumbling{data: sealed(t, text)}
-	reader, err := Open(file, pw())
-	if err != nil {
-		t.Fatal(err)
-	}
+	file := &stumbling{data: sealed(text)}
+	reader := open(file)
 	var got []byte
 	into := make([]byte, 70000)
 	for stumbled := 0; ; {
@@ -441,8 +395,8 @@ func (s *stumbling) Read(into []byte) (int, error) {
 // Goroutines share a file, and two files share their source.
 func TestShared(t *testing.T) {
 	text := textOf(600000)
-	data := sealed(t, text)
-	files := []*File{opened(t, data), opened(t, data)}
+	data := sealed(text)
+	files := []*File{opened(data), opened(data)}
 	var group sync.WaitGroup
 	for g := 0; g < 8; g++ {
 		group.Add(1)
@@ -469,10 +423,10 @@ func TestShared(t *testing.T) {
 // What is damaged is refused where it is, and the rest can be read.
 func TestDamageAtAPlace(t *testing.T) {
 	text := textOf(200000)
-	data := sealed(t, text)
+	data := sealed(text)
 	begin := len(data) - 200000 - 4*16
 	data[begin+65552+100] ^= 1
-	file := opened(t, data)
+	file := opened(data)
 	into := make([]byte, 10)
 	for _, it := range []struct {
 		at    int64
@@ -500,14 +454,11 @@ func TestDamageAtAPlace(t *testing.T) {
 // A file that shrinks after it was opened: a place that is gone is an error, and no end.
 func TestShrinks(t *testing.T) {
 	text := textOf(200000)
-	data := sealed(t, text)
+	data := sealed(text)
 	third := len(data) - 200000 - 4*16 + 3*65552 // where the chunk after the place that is read begins
 	for _, end := range []int{0, 100, 65552, 140000, third - 1, third, len(data) - 1, len(data)} {
 		file := &shrinking{data}
-		at, err := OpenAt(file, int64(len(data)), pw())
-		if err != nil {
-			t.Fatal(err)
-		}
+		at := must(OpenAt(file, int64(len(data)), pw()))
 		file.data = data[:end]
 		into := make([]byte, 10)
 		n, err := at.ReadAt(into, 150000)
@@ -526,8 +477,8 @@ func (s *shrinking) ReadAt(into []byte, off int64) (int, error) {
 
 // What it means comes first.
 func TestMessages(t *testing.T) {
-	data := sealed(t, textOf(200000))
-	full := sealed(t, textOf(65536))
+	data := sealed(textOf(200000))
+	full := sealed(textOf(65536))
 	for _, it := range []struct {
 		data []byte
 		key  Key
@@ -572,13 +523,11 @@ func TestMessages(t *testing.T) {
 // All of the text before a damaged chunk is returned, and then the fault.
 func TestBeforeAFault(t *testing.T) {
 	text := textOf(200000)
-	data := sealed(t, text)
+	data := sealed(text)
 	data[len(data)-200000-4*16+2*65552+100] ^= 1
-	reader, err := Open(bytes.NewReader(data), pw())
-	if err != nil {
-		t.Fatal(err)
-	}
+	reader := open(bytes.NewReader(data))
 	var got []byte
+	var err error
 	for into := make([]byte, 1<<20); err == nil; {
 		var n int
 		n, err = reader.Read(into)
@@ -590,7 +539,7 @@ func TestBeforeAFault(t *testing.T) {
 		t.Error(len(got), err)
 	}
 	into := make([]byte, 1<<20)
-	n, err := opened(t, data).ReadAt(into, 1000)
+	n, err := opened(data).ReadAt(into, 1000)
 	if !errors.Is(err, ErrDamaged) || !bytes.Equal(into[:n], text[1000:131072]) {
 		t.Error("at a place:", n, err)
 	}
@@ -626,14 +575,11 @@ func TestFailedCopy(t *testing.T) {
 
 // No file key is left in a reader that has ended, nor in a writer that is closed or abandoned.
 func TestKeysAreOverwritten(t *testing.T) {
-	data := sealed(t, textOf(70000))
+	data := sealed(textOf(70000))
 	changed := append([]byte{}, data...)
 	changed[len(data)-1] ^= 1
 	for _, it := range [][]byte{data, changed} {
-		reader, err := Open(bytes.NewReader(it), pw())
-		if err != nil {
-			t.Fatal(err)
-		}
+		reader := open(bytes.NewReader(it))
 		if reader.reader == (Reader{}).reader {
 			t.Error("no key to read with")
 		}
@@ -646,13 +592,8 @@ func TestKeysAreOverwritten(t *testing.T) {
 		}
 	}
 	for _, end := range []func(w *Writer){(*Writer).Abandon, func(w *Writer) { _ = w.Close() }} {
-		w, err := Create(io.Discard, []byte("pw"), 1)
-		if err != nil {
-			t.Fatal(err)
-		}
-		if _, err := w.Write([]byte("text")); err != nil {
-			t.Fatal(err)
-		}
+		w := created(io.Discard)
+		must(w.Write([]byte("text")))
 		if end(w); w.stream != (Writer{}).stream {
 			t.Error("a writer's key is left")
 		}
@@ -666,7 +607,7 @@ func TestKeysAreOverwritten(t *testing.T) {
 func TestWrongSizes(t *testing.T) {
 	for _, n := range lengths {
 		text := textOf(n)
-		data := sealed(t, text)
+		data := sealed(text)
 		for off := int64(-20); off <= 70000; off += 1 + 30*(off/20) {
 			file, err := OpenAt(bytes.NewReader(data), int64(len(data))+off, pw())
 			if err != nil {
@@ -698,7 +639,7 @@ func TestNoProgress(t *testing.T) {
 	if _, err := Open(idle{}, pw()); !errors.Is(err, io.ErrNoProgress) {
 		t.Error("a header", err)
 	}
-	data := sealed(t, textOf(70000))
+	data := sealed(textOf(70000))
 	for _, end := range []int{30, len(data) - 100} {
 		r, err := Open(io.MultiReader(bytes.NewReader(data[:end]), idle{}), pw())
 		if err == nil {
@@ -712,19 +653,11 @@ func TestNoProgress(t *testing.T) {
 
 // No verb prints a key or a text.
 func TestPrinted(t *testing.T) {
-	data := sealed(t, textOf(1000))
-	reader, err := Open(bytes.NewReader(data), pw())
-	if err != nil {
-		t.Fatal(err)
-	}
-	if _, err := reader.Read(make([]byte, 10)); err != nil {
-		t.Fatal(err)
-	}
-	writer, err := Create(io.Discard, []byte("pw"), 1)
-	if err != nil {
-		t.Fatal(err)
-	}
-	for _, it := range []any{reader, opened(t, data), writer} {
+	data := sealed(textOf(1000))
+	reader := open(bytes.NewReader(data))
+	must(reader.Read(make([]byte, 10)))
+	writer := created(io.Discard)
+	for _, it := range []any{reader, opened(data), writer} {
 		for _, verb := range []string{"%v", "%+v", "%#v", "%s", "%d", "%x", "%q"} {
 			if said := fmt.Sprintf(verb, it); len(said) > 20 || !strings.HasPrefix(said, "agefile.") {
 				t.Errorf("%s of a %T: %.60s", verb, it, said)
@@ -760,7 +693,7 @@ func TestZeroValues(t *testing.T) {
 func TestSalvage(t *testing.T) {
 	for _, n := range lengths {
 		text := textOf(n)
-		data := sealed(t, text)
+		data := sealed(text)
 		chunks := (n + 65535) / 65536
 		if chunks == 0 {
 			chunks = 1
@@ -806,10 +739,10 @@ func TestSalvage(t *testing.T) {
 		}
 	}
 	var out bytes.Buffer
-	if _, err := Salvage(&out, bytes.NewReader(sealed(t, textOf(9))), Passphrase([]byte("other"), MaxWork)); !errors.Is(err, ErrWrongKey) || out.Len() > 0 {
+	if _, err := Salvage(&out, bytes.NewReader(sealed(textOf(9))), Passphrase([]byte("other"), MaxWork)); !errors.Is(err, ErrWrongKey) || out.Len() > 0 {
 		t.Error("another passphrase", err)
 	}
-	full := append(sealed(t, textOf(65536)), 0)
+	full := append(sealed(textOf(65536)), 0)
 	found, err := Salvage(&out, bytes.NewReader(full), pw())
 	if err != nil || !found.Followed || !found.Whole() || !bytes.Equal(out.Bytes(), textOf(65536)) {
 		t.Errorf("a byte after the end: %+v, %v", found, err)
@@ -819,19 +752,17 @@ func TestSalvage(t *testing.T) {
 // io.Copy of a File, from any place on, and up to a damaged chunk.
 func TestCopyOfFile(t *testing.T) {
 	text := textOf(200000)
-	data := sealed(t, text)
+	data := sealed(text)
 	for _, at := range []int64{0, 1, 65536, 131071, 200000} {
-		file := opened(t, data)
-		if _, err := file.Seek(at, io.SeekStart); err != nil {
-			t.Fatal(err)
-		}
+		file := opened(data)
+		must(file.Seek(at, io.SeekStart))
 		var out bytes.Buffer
 		n, err := io.Copy(&out, file)
 		if err != nil || n != 200000-at || !bytes.Equal(out.Bytes(), text[at:]) {
 			t.Error(at, n, err)
 		}
 	}
-	file := opened(t, data)
+	file := opened(data)
 	data[len(data)-70000] ^= 1 // chunk 1 or 2
 	var out bytes.Buffer
 	if _, err := io.Copy(&out, file); !errors.Is(err, ErrDamaged) || !bytes.Equal(out.Bytes(), text[:out.Len()]) || out.Len()%65536 != 0 {

@@ -29,8 +29,8 @@ func records(text io.Reader) (int, error) {
 // from its beginning, nor one that became shorter after it was opened at any place.
 func TestCutsAreNoEnds(t *testing.T) {
 	text := textOf(200_000)
-	data := sealed(t, text)
-	if n, err := records(open(t, bytes.NewReader(data))); n != len(text) || err != nil {
+	data := sealed(text)
+	if n, err := records(open(bytes.NewReader(data))); n != len(text) || err != nil {
 		t.Error(n, err)
 	}
 	begin, truncated := len(data)-len(text)-4*16, 0
@@ -38,7 +38,7 @@ func TestCutsAreNoEnds(t *testing.T) {
 		if at := (cut - begin) % 65_552; at > 40 && at < 65_500 && at%997 != 0 {
 			continue
 		}
-		_, err := records(open(t, bytes.NewReader(data[:cut])))
+		_, err := records(open(bytes.NewReader(data[:cut])))
 		if err == nil || errors.Is(err, io.ErrUnexpectedEOF) {
 			t.Error("cut at", cut, err)
 		}
@@ -46,10 +46,7 @@ func TestCutsAreNoEnds(t *testing.T) {
 			truncated++
 		}
 		under := &shrinking{data}
-		file, err := OpenAt(under, int64(len(data)), pw())
-		if err != nil {
-			t.Fatal(err)
-		}
+		file := must(OpenAt(under, int64(len(data)), pw()))
 		under.data = data[:cut]
 		if _, err := records(file); err == nil || errors.Is(err, io.ErrUnexpectedEOF) {
 			t.Error("became shorter,", cut, err)
@@ -63,14 +60,6 @@ func TestCutsAreNoEnds(t *testing.T) {
 			t.Error("a header that is cut at", cut, err)
 		}
 	}
-}
-
-func open(t *testing.T, file io.Reader) *Reader {
-	reader, err := Open(file, pw())
-	if err != nil {
-		t.Fatal(err)
-	}
-	return reader
 }
 
 // cutBody is what a response is whose body was cut off.
@@ -94,7 +83,7 @@ func (c cutBody) ReadAt(room []byte, at int64) (int, error) {
 
 // Nor does one whose source says of itself that it was cut.
 func TestSourcesThatAreCut(t *testing.T) {
-	data := sealed(t, textOf(200_000))
+	data := sealed(textOf(200_000))
 	for _, cut := range []int{60, len(data) - 70_000, len(data) - 1} {
 		var fault *Fault
 		reader, err := Open(cutBody{bytes.NewReader(data[:cut])}, pw())
@@ -118,7 +107,7 @@ func TestSourcesThatAreCut(t *testing.T) {
 
 // How many goroutines may be asked for.
 func TestNumbersOfWorkers(t *testing.T) {
-	data := sealed(t, textOf(200_000))
+	data := sealed(textOf(200_000))
 	for _, n := range []int{math.MinInt, -1, 0, MaxWorkers + 1, 1 << 50, math.MaxInt} {
 		if _, err := DecryptTo(make(memory, 200_000), bytes.NewReader(data), int64(len(data)), pw(), n); err == nil {
 			t.Error(n, "workers")
@@ -128,7 +117,7 @@ func TestNumbersOfWorkers(t *testing.T) {
 
 // What an open reader holds: a block and the text of one, and little more.
 func TestMemoryOfReaders(t *testing.T) {
-	data, readers := sealed(t, textOf(200_000)), make([]*Reader, 50)
+	data, readers := sealed(textOf(200_000)), make([]*Reader, 50)
 	held := func() uint64 {
 		var stats runtime.MemStats
 		runtime.GC()
@@ -137,10 +126,8 @@ func TestMemoryOfReaders(t *testing.T) {
 	}
 	before := held()
 	for i := range readers {
-		readers[i] = open(t, bytes.NewReader(data))
-		if _, err := readers[i].Read(make([]byte, 100)); err != nil {
-			t.Fatal(err)
-		}
+		readers[i] = open(bytes.NewReader(data))
+		must(readers[i].Read(make([]byte, 100)))
 	}
 	if each := (held() - before) / uint64(len(readers)); each > 145<<10 {
 		t.Error("a reader holds", each, "bytes")

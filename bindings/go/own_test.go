@@ -121,11 +121,8 @@ func TestShortWrites(t *testing.T) {
 // stays in it.
 func TestBriefWrites(t *testing.T) {
 	text := textOf(100_000)
-	data := sealed(t, text)
-	r, err := Open(bytes.NewReader(data), pw())
-	if err != nil {
-		t.Fatal(err)
-	}
+	data := sealed(text)
+	r := open(bytes.NewReader(data))
 	var rest bytes.Buffer
 	if n, err := r.WriteTo(brief{}); n != 65_535 || err != io.ErrShortWrite {
 		t.Error("a Reader:", n, err)
@@ -133,7 +130,7 @@ func TestBriefWrites(t *testing.T) {
 	if _, err := r.WriteTo(&rest); err != nil || !bytes.Equal(rest.Bytes(), text[65_535:]) {
 		t.Error("the rest of a Reader:", rest.Len(), err)
 	}
-	if n, err := opened(t, data).WriteTo(brief{}); n != 65_535 || err != io.ErrShortWrite {
+	if n, err := opened(data).WriteTo(brief{}); n != 65_535 || err != io.ErrShortWrite {
 		t.Error("a File:", n, err)
 	}
 	if _, err := Salvage(brief{}, bytes.NewReader(data), pw()); err != io.ErrShortWrite {
@@ -142,10 +139,7 @@ func TestBriefWrites(t *testing.T) {
 	if _, err := Create(brief{}, []byte("pw"), 1); err != io.ErrShortWrite {
 		t.Error("a header:", err)
 	}
-	w, err := Create(io.Discard, []byte("pw"), 1)
-	if err != nil {
-		t.Fatal(err)
-	}
+	w := created(io.Discard)
 	w.out = brief{}
 	if first, again := w.Close(), w.Close(); first != io.ErrShortWrite || again != io.ErrShortWrite {
 		t.Error("the last chunk:", first, again)
@@ -154,7 +148,7 @@ func TestBriefWrites(t *testing.T) {
 
 // A source that fails, in the header, before a chunk, in one or after the last, isn't a cut file.
 func TestSalvageFails(t *testing.T) {
-	data := sealed(t, textOf(131_072))
+	data := sealed(textOf(131_072))
 	for _, end := range []int{30, len(data) - 65_552, len(data) - 100, len(data)} {
 		file := io.MultiReader(bytes.NewReader(data[:end]), iotest.ErrReader(io.ErrClosedPipe))
 		if _, err := Salvage(io.Discard, file, pw()); err != io.ErrClosedPipe {
@@ -193,7 +187,7 @@ func max(a, b int64) int64 {
 // A ReadAt that fails isn't damage: in the header, in the last chunk, and in one that is read later.
 func TestReadAtFails(t *testing.T) {
 	text := textOf(200_000)
-	data := sealed(t, text)
+	data := sealed(text)
 	size := int64(len(data))
 	for _, from := range []int64{0, 30, size - 100} {
 		if _, err := OpenAt(&broken{bytes.NewReader(data), from}, size, pw()); err != io.ErrClosedPipe {
@@ -201,10 +195,7 @@ func TestReadAtFails(t *testing.T) {
 		}
 	}
 	under := &broken{bytes.NewReader(data), size}
-	file, err := OpenAt(under, size, pw())
-	if err != nil {
-		t.Fatal(err)
-	}
+	file := must(OpenAt(under, size, pw()))
 	under.from = size - 10_000 // in chunk 2
 	for _, n := range []int{200_000, 190_000} {
 		got := make([]byte, n)
@@ -218,7 +209,7 @@ func TestReadAtFails(t *testing.T) {
 func TestIotest(t *testing.T) {
 	for _, n := range lengths {
 		text := textOf(n)
-		data := sealed(t, text)
+		data := sealed(text)
 		for name, wrap := range map[string]func(io.Reader) io.Reader{
 			"plain": func(r io.Reader) io.Reader { return r }, "half": iotest.HalfReader, "dataerr": iotest.DataErrReader,
 			"one": iotest.OneByteReader, "timeout": iotest.TimeoutReader,
@@ -240,7 +231,7 @@ func TestIotest(t *testing.T) {
 				t.Errorf("%d bytes, %s: %v", n, name, err)
 			}
 		}
-		if err := iotest.TestReader(opened(t, data), text); err != nil {
+		if err := iotest.TestReader(opened(data), text); err != nil {
 			t.Errorf("a File of %d bytes: %v", n, err)
 		}
 	}
@@ -250,10 +241,7 @@ func TestIotest(t *testing.T) {
 func TestOnce(t *testing.T) {
 	for _, n := range lengths {
 		text := textOf(n)
-		data, err := Encrypt(text, []byte("pw"), 1)
-		if err != nil {
-			t.Fatal(err)
-		}
+		data := must(Encrypt(text, []byte("pw"), 1))
 		if got, err := Decrypt(data, pw()); err != nil || !bytes.Equal(got, text) {
 			t.Errorf("%d bytes: %v", n, err)
 		}
@@ -325,13 +313,10 @@ func second[T any](_ T, err error) error { return err }
 // A file that has become shorter: each read ends.
 func TestShorter(t *testing.T) {
 	text := textOf(200_000)
-	data := sealed(t, text)
+	data := sealed(text)
 	for _, end := range []int{0, 300, len(data) - 70_000, len(data) - 1} {
 		under := &shrinking{data}
-		file, err := OpenAt(under, int64(len(data)), pw())
-		if err != nil {
-			t.Fatal(err)
-		}
+		file := must(OpenAt(under, int64(len(data)), pw()))
 		under.data = data[:end]
 		got := make([]byte, len(text))
 		if n, err := file.ReadAt(got, 0); err == nil || err == io.EOF || !bytes.Equal(got[:n], text[:n]) {
@@ -352,22 +337,16 @@ func (n miscounts) ReadAt(room []byte, _ int64) (int, error) { return int(n), ni
 
 // A count that no Write may return is an error, and not a file that is whole; nor is it a panic.
 func TestCountsOutOfRange(t *testing.T) {
-	data := sealed(t, textOf(200_000))
+	data := sealed(textOf(200_000))
 	for _, n := range []miscounts{-1, 1 << 20} {
 		if w, err := Create(n, []byte("pw"), 1); err == nil {
 			t.Errorf("a writer %v whose sink returns %d", w, n)
 		}
-		text, err := Open(bytes.NewReader(data), Passphrase([]byte("pw"), 1))
-		if err != nil {
-			t.Fatal(err)
-		}
+		text := must(Open(bytes.NewReader(data), Passphrase([]byte("pw"), 1)))
 		if _, err := text.WriteTo(n); err == nil {
 			t.Errorf("WriteTo, and the sink returned %d", n)
 		}
-		at, err := OpenAt(bytes.NewReader(data), int64(len(data)), Passphrase([]byte("pw"), 1))
-		if err != nil {
-			t.Fatal(err)
-		}
+		at := must(OpenAt(bytes.NewReader(data), int64(len(data)), Passphrase([]byte("pw"), 1)))
 		if _, err := at.WriteTo(n); err == nil {
 			t.Errorf("WriteTo of a File, and the sink returned %d", n)
 		}

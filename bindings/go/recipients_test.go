@@ -106,13 +106,9 @@ func TestRecipients(t *testing.T) {
 		keys       [][]Identity
 	}{{[]string{public(text)}, [][]Identity{key}}, {[]string{public(otherText), public(text)}, [][]Identity{key, other}}} {
 		var out bytes.Buffer
-		w, err := CreateX25519(&out, exchange, newChacha, it.recipients...)
-		if err != nil {
-			t.Fatal(err)
-		}
-		if _, err := w.Write([]byte("a text")); err != nil || w.Close() != nil {
-			t.Fatal(err)
-		}
+		w := must(CreateX25519(&out, exchange, newChacha, it.recipients...))
+		must(w.Write([]byte("a text")))
+		well(w.Close())
 		for _, key := range it.keys {
 			if got, err := Decrypt(out.Bytes(), X25519(exchange, key...)); err != nil || string(got) != "a text" {
 				t.Errorf("%q, %v", got, err)

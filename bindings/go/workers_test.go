@@ -34,7 +34,7 @@ func (brief) Write(p []byte) (int, error) {
 func TestDecryptTo(t *testing.T) {
 	for _, n := range append(lengths, 9*65_536+1_000) {
 		text := textOf(n)
-		data := sealed(t, text)
+		data := sealed(text)
 		for _, workers := range []int{1, 2, 3, 7, 64} {
 			out := make(memory, n)
 			size, err := DecryptTo(out, bytes.NewReader(data), int64(len(data)), pw(), workers)
@@ -48,7 +48,7 @@ func TestDecryptTo(t *testing.T) {
 // The fault of the first chunk that has one, whoever finds it; and sinks that fail.
 func TestDecryptToFaults(t *testing.T) {
 	const n = 9*65_536 + 1_000
-	data := sealed(t, textOf(n))
+	data := sealed(textOf(n))
 	begin := len(data) - n - 10*16
 	for _, chunks := range [][]int{{0}, {8}, {3, 4}, {7, 2}, {6, 5, 1}, {9}} {
 		bad, first := append([]byte{}, data...), int64(chunks[0])
@@ -97,7 +97,7 @@ func (p pausing) ReadAt(into []byte, at int64) (int, error) {
 // A part goes on if one after it failed before: the fault of the first is reported.
 func TestDecryptToGoesOn(t *testing.T) {
 	const n = 40 * 65_536
-	data := sealed(t, textOf(n))
+	data := sealed(textOf(n))
 	begin := len(data) - n - 40*16
 	for _, it := range []int{18, 21} {
 		data[begin+it*65_552+5] ^= 1
@@ -124,7 +124,7 @@ func (h halting) WriteAt(p []byte, at int64) (int, error) {
 
 // A part stops if one before it failed.
 func TestDecryptToStops(t *testing.T) {
-	data, writes := sealed(t, make([]byte, 160*65_536)), int32(0)
+	data, writes := sealed(make([]byte, 160*65_536)), int32(0)
 	_, err := DecryptTo(halting{&writes}, bytes.NewReader(data), int64(len(data)), pw(), 2)
 	if err != io.ErrClosedPipe || writes > 2 {
 		t.Error(err, writes)

@@ -56,18 +56,8 @@ func exchange(secret, point []byte) ([]byte, error) {
 
 func keysOf(t *testing.T, name string) (string, []Identity) {
 	t.Helper()
-	text, err := os.ReadFile("../tests/age/" + name)
-	if errors.Is(err, os.ErrNotExist) {
-		t.Skip("this folder stands alone")
-	}
-	if err != nil {
-		t.Fatal(err)
-	}
-	identities, err := ParseIdentities(string(text))
-	if err != nil {
-		t.Fatal(err)
-	}
-	return string(text), identities
+	text := string(ofAge(t, name))
+	return text, must(ParseIdentities(text))
 }
 
 // Files of age for keys of age-keygen, and what their keys are.
@@ -89,10 +79,7 @@ func TestX25519(t *testing.T) {
 		{"two.age", X25519(exchange, other...), "hello, both\n"}, {"other.age", X25519(exchange, append(key, other...)...), "hello, other\n"},
 		{"one.age", X25519(exchange, other...), "13"}, {"passphrase.age", X25519(exchange, key...), "12"}, {"one.age", X25519(exchange), "13"}, {"one.age", X25519(exchange, Identity{}), "13"},
 	} {
-		data, err := os.ReadFile("../tests/age/" + it.name)
-		if err != nil {
-			t.Fatal(err)
-		}
+		data := must(os.ReadFile("../tests/age/" + it.name))
 		got, err := Decrypt(data, it.key)
 		var fault *Fault
 		if errors.As(err, &fault) {

@@ -11,15 +11,10 @@ fn places() -> Vec<PathBuf> {
         Some(named) => vec![named.into()],
         None => {
             let here = std::env::var_os("CARGO_MANIFEST_DIR").unwrap_or_default();
-            ["../../out", "../../../../lib"]
-                .map(|it| Path::new(&here).join(it))
-                .into()
+            ["../../out", "../../../../lib"].map(|it| Path::new(&here).join(it)).into()
         }
     };
-    folders
-        .into_iter()
-        .map(|it| it.join("libage_c.a"))
-        .collect()
+    folders.into_iter().map(|it| it.join("libage_c.a")).collect()
 }
 
 /// The folders where pkg-config says that the library is, if it knows the library. A folder that
@@ -28,17 +23,12 @@ fn installed() -> Option<Vec<String>> {
     if std::env::var_os("AGE_C_DIR").is_some() {
         return None;
     }
-    let asked = Command::new("pkg-config")
-        .args(["--libs-only-L", "age_c"])
-        .output()
-        .ok()?;
+    let asked = Command::new("pkg-config").args(["--libs-only-L", "age_c"]).output().ok()?;
     if !asked.status.success() {
         return None;
     }
     let said = String::from_utf8_lossy(&asked.stdout);
-    let folders = said
-        .split_whitespace()
-        .filter_map(|it| it.strip_prefix("-L"));
+    let folders = said.split_whitespace().filter_map(|it| it.strip_prefix("-L"));
     Some(folders.map(String::from).collect())
 }
 

@@ -81,12 +81,7 @@ pub struct AgeCWriteStream {
 
 impl Default for AgeCStream {
     fn default() -> AgeCStream {
-        AgeCStream {
-            reader: AgeCReader::default(),
-            held: 0,
-            unused: 0,
-            block: [0; AGE_C_BLOCK],
-        }
+        AgeCStream { reader: AgeCReader::default(), held: 0, unused: 0, block: [0; AGE_C_BLOCK] }
     }
 }
 

@@ -7,9 +7,7 @@ use std::io::{self, Write};
 use std::process::ExitCode;
 
 fn decrypt() -> Result<(), Box<dyn Error>> {
-    let name = std::env::args_os()
-        .nth(1)
-        .ok_or("usage: decrypt PASSFILE <IN >OUT")?;
+    let name = std::env::args_os().nth(1).ok_or("usage: decrypt PASSFILE <IN >OUT")?;
     let mut pass = std::fs::read(name)?;
     if pass.last() == Some(&b'\n') {
         pass.pop();

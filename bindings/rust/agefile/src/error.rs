@@ -50,28 +50,17 @@ pub struct AgeError {
 impl AgeError {
     /// A fault of a header, or of a call that has no chunk.
     pub(crate) fn of_header(number: u32, by_file_key: bool) -> AgeError {
-        AgeError {
-            number,
-            chunk: None,
-            argument: None,
-            by_file_key,
-        }
+        AgeError { number, chunk: None, argument: None, by_file_key }
     }
 
     /// The fault of a file that ends in this chunk, or before it.
     pub(crate) fn truncated(chunk: u64) -> AgeError {
-        AgeError {
-            chunk: Some(chunk),
-            ..AgeError::of_header(20, false)
-        }
+        AgeError { chunk: Some(chunk), ..AgeError::of_header(20, false) }
     }
 
     /// With 255, the fault of this argument.
     pub(crate) fn about(self, argument: Option<&'static str>) -> AgeError {
-        AgeError {
-            argument: argument.filter(|_| self.number == AGE_C_MISUSED),
-            ..self
-        }
+        AgeError { argument: argument.filter(|_| self.number == AGE_C_MISUSED), ..self }
     }
 
     /// The fault of a block. 21 is about what follows the last one.

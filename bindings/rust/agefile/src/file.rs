@@ -19,22 +19,11 @@ pub(crate) fn open_block(
     block: &[u8],
     text: &mut [u8],
 ) -> Result<usize, AgeError> {
-    let call = if block.len() == AGE_C_BLOCK {
-        age_c_block
-    } else {
-        age_c_end
-    };
+    let call = if block.len() == AGE_C_BLOCK { age_c_block } else { age_c_end };
     let mut written = 0;
     // SAFETY: each slice is as long as it says, and none is null; nothing overlaps.
     let answer = unsafe {
-        call(
-            reader,
-            block.as_ptr(),
-            block.len(),
-            text.as_mut_ptr(),
-            text.len(),
-            &mut written,
-        )
+        call(reader, block.as_ptr(), block.len(), text.as_mut_ptr(), text.len(), &mut written)
     };
     match answer {
         0 => Ok(written),

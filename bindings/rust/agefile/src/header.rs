@@ -87,10 +87,7 @@ impl Header {
             )
         };
         let places = &places[..told];
-        self.stanzas = places
-            .iter()
-            .map(|it| Stanza::at(it, front, &bodies))
-            .collect();
+        self.stanzas = places.iter().map(|it| Stanza::at(it, front, &bodies)).collect();
         answer
     }
 }

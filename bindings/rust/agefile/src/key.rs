@@ -82,10 +82,7 @@ impl fmt::Debug for Key<'_> {
 impl<'a> Key<'a> {
     /// A passphrase, with any work factor.
     pub fn passphrase(passphrase: &'a [u8]) -> Key<'a> {
-        Key::Passphrase {
-            passphrase,
-            max_work: MAX_WORK,
-        }
+        Key::Passphrase { passphrase, max_work: MAX_WORK }
     }
 
     pub(crate) fn is_file_key(&self) -> bool {
@@ -96,10 +93,7 @@ impl<'a> Key<'a> {
     pub(crate) fn wrong_argument(&self) -> Option<&'static str> {
         let told = |wrong: bool, text| wrong.then_some(text);
         match *self {
-            Key::Passphrase {
-                passphrase,
-                max_work,
-            } => wrong_passphrase(passphrase)
+            Key::Passphrase { passphrase, max_work } => wrong_passphrase(passphrase)
                 .or(told(!WORK.contains(&max_work), "max_work must be 1 to 22")),
             Key::FileKey(key) => told(key.len() != 16, "the file key must have 16 bytes"),
             Key::Shared { secret, recipient } => {
@@ -114,10 +108,7 @@ impl<'a> Key<'a> {
     pub(crate) fn open(&self, front: &[u8], reader: &mut AgeCReader) -> u32 {
         // SAFETY: each slice is as long as it says, and none is null; nothing overlaps.
         match *self {
-            Key::Passphrase {
-                passphrase,
-                max_work,
-            } => unsafe {
+            Key::Passphrase { passphrase, max_work } => unsafe {
                 age_c_open_passphrase(
                     front.as_ptr(),
                     front.len(),
@@ -131,10 +122,9 @@ impl<'a> Key<'a> {
                 age_c_open_key(front.as_ptr(), front.len(), key.as_ptr(), key.len(), reader)
             },
             Key::Shared { secret, recipient } => open_shared(front, secret, recipient, reader),
-            Key::X25519 {
-                exchange,
-                identities,
-            } => x25519::open(exchange, identities, front, reader),
+            Key::X25519 { exchange, identities } => {
+                x25519::open(exchange, identities, front, reader)
+            }
         }
     }
 }

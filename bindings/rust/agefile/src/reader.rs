@@ -79,11 +79,7 @@ pub struct Opening<'a, R> {
 impl<'a, R: Read> Opening<'a, R> {
     /// A file of which nothing was read.
     pub fn new(file: R, key: Key<'a>) -> Opening<'a, R> {
-        Opening {
-            file,
-            key,
-            front: Vec::new(),
-        }
+        Opening { file, key, front: Vec::new() }
     }
 
     /// Reads on, and opens the header. If the file fails, as with [`ErrorKind::WouldBlock`], what
@@ -101,9 +97,7 @@ impl<'a, R: Read> Opening<'a, R> {
 impl<R> fmt::Debug for Opening<'_, R> {
     /// Shows no key.
     fn fmt(&self, f: &mut fmt::Formatter<'_>) -> fmt::Result {
-        f.debug_struct("Opening")
-            .field("read", &self.front.len())
-            .finish_non_exhaustive()
+        f.debug_struct("Opening").field("read", &self.front.len()).finish_non_exhaustive()
     }
 }
 

@@ -81,8 +81,6 @@ fn stanza_for(
     let mut none = State::<AgeCReader>::default();
     match open_shared(&alone, &*secret, &point, &mut none) {
         0 => Ok(stanza),
-        _ => Err(refused(
-            "`exchange` or `wrap` computes something else".into(),
-        )),
+        _ => Err(refused("`exchange` or `wrap` computes something else".into())),
     }
 }

@@ -46,11 +46,9 @@ pub fn decrypt_to<R: Read + Seek>(
     let failed = AtomicU64::new(u64::MAX); // where the first part begins that failed
     let copies = |begin: u64| {
         let part = begin..len.min(begin + step);
-        let done = source()
-            .and_then(|file| AgeFile::open(file, key))
-            .and_then(|file| {
-                copy_part(file, part, &out, || failed.load(Ordering::Relaxed) < begin)
-            });
+        let done = source().and_then(|file| AgeFile::open(file, key)).and_then(|file| {
+            copy_part(file, part, &out, || failed.load(Ordering::Relaxed) < begin)
+        });
         if done.is_err() {
             failed.fetch_min(begin, Ordering::Relaxed);
         }

@@ -129,12 +129,7 @@ impl<W: Write> AgeWriter<W> {
             return Err(AgeError::of_header(answer, false).about(wrong).into());
         }
         out.write_all(&front[..written])?;
-        Ok(AgeWriter {
-            out,
-            stream,
-            block: vec![0; AGE_C_BLOCK],
-            failed: None,
-        })
+        Ok(AgeWriter { out, stream, block: vec![0; AGE_C_BLOCK], failed: None })
     }
 
     /// What is written to.

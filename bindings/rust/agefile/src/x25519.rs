@@ -94,13 +94,7 @@ fn bech32(prefix: &str, text: &str) -> Option<[u8; 32]> {
 
 /// One step of Bech32's checksum.
 fn checksum(sum: usize, value: usize) -> usize {
-    const TERMS: [usize; 5] = [
-        0x3b6a_57b2,
-        0x2650_8e6d,
-        0x1ea1_19fa,
-        0x3d42_33dd,
-        0x2a14_62b3,
-    ];
+    const TERMS: [usize; 5] = [0x3b6a_57b2, 0x2650_8e6d, 0x1ea1_19fa, 0x3d42_33dd, 0x2a14_62b3];
     let (top, next) = (sum >> 25, (sum & 0x1ff_ffff) << 5 ^ value);
     let terms = TERMS.iter().enumerate();
     terms.fold(next, |sum, (bit, term)| sum ^ (term * (top >> bit & 1)))
@@ -117,10 +111,7 @@ fn share_of(text: &str) -> Option<[u8; 32]> {
 
 /// Base64 without padding.
 pub(crate) fn base64(held: &[u8]) -> String {
-    let bit = |at: usize| {
-        held.get(at / 8)
-            .map_or(0, |it| usize::from(*it) >> (7 - at % 8) & 1)
-    };
+    let bit = |at: usize| held.get(at / 8).map_or(0, |it| usize::from(*it) >> (7 - at % 8) & 1);
     let letter = |at| char::from(BASE64[(0..6).fold(0, |sum, it| sum << 1 | bit(6 * at + it))]);
     (0..(8 * held.len()).div_ceil(6)).map(letter).collect()
 }

@@ -7,18 +7,13 @@ use std::rc::Rc;
 
 const LENGTHS: [usize; 7] = [0, 1, 65_535, 65_536, 65_537, 131_072, 200_000];
 const BLOCK: usize = 65_552;
-const PW: Key = Key::Passphrase {
-    passphrase: b"pw",
-    max_work: 22,
-};
+const PW: Key = Key::Passphrase { passphrase: b"pw", max_work: 22 };
 
 /// Bytes that look random, and are the same each time.
 fn text_of(len: usize) -> Vec<u8> {
     let mut state = len as u64 + 1;
     let mut next = || {
-        state = state
-            .wrapping_mul(6364136223846793005)
-            .wrapping_add(1442695040888963407);
+        state = state.wrapping_mul(6364136223846793005).wrapping_add(1442695040888963407);
         (state >> 33) as u8
     };
     (0..len).map(|_| next()).collect()
@@ -56,17 +51,11 @@ fn reads_what_it_writes() {
 
 #[test]
 fn reads_a_file_of_age() {
-    let path = concat!(
-        env!("CARGO_MANIFEST_DIR"),
-        "/../../tests/age/passphrase.age"
-    );
+    let path = concat!(env!("CARGO_MANIFEST_DIR"), "/../../tests/age/passphrase.age");
     let Ok(data) = std::fs::read(path) else {
         return; // this folder stands alone
     };
-    assert_eq!(
-        text_in(&data, Key::passphrase(b"correct horse")).unwrap(),
-        b"hello, passphrase\n"
-    );
+    assert_eq!(text_in(&data, Key::passphrase(b"correct horse")).unwrap(), b"hello, passphrase\n");
 }
 
 /// The bytes of hexadecimal digits.
@@ -125,10 +114,7 @@ fn says_what_a_header_says() {
     let (header, file) = Header::read(&data[..]).unwrap();
     assert_eq!((header.work, header.stanzas.len()), (1, 1));
     let stanza = &header.stanzas[0];
-    assert_eq!(
-        (stanza.kind.as_str(), stanza.args[1].as_str()),
-        ("scrypt", "1")
-    );
+    assert_eq!((stanza.kind.as_str(), stanza.args[1].as_str()), ("scrypt", "1"));
     assert_eq!((stanza.args.len(), stanza.body.len()), (2, 32));
     let mut text = String::new();
     let mut reader = AgeReader::open(file, PW).unwrap();
@@ -136,22 +122,14 @@ fn says_what_a_header_says() {
     assert_eq!(text, "a text");
 
     let end = format!("--- {}\n", "A".repeat(43));
-    let of = |count| {
-        format!(
-            "age-encryption.org/v1\n{}{end}",
-            "-> a bc !~\nAQID\n".repeat(count)
-        )
-    };
+    let of = |count| format!("age-encryption.org/v1\n{}{end}", "-> a bc !~\nAQID\n".repeat(count));
     let data = of(300);
     // (the source gives a byte at a time, and no nonce follows)
     let (header, mut file) = Header::read(Bytewise(data.as_bytes())).unwrap();
     assert_eq!((header.len, header.work), (data.len(), 0));
     assert_eq!(header.stanzas.len(), 300);
     let stanza = &header.stanzas[299];
-    assert_eq!(
-        (stanza.kind.as_str(), &stanza.body[..]),
-        ("a", &[1, 2, 3][..])
-    );
+    assert_eq!((stanza.kind.as_str(), &stanza.body[..]), ("a", &[1, 2, 3][..]));
     assert_eq!(stanza.args, ["bc", "!~"]);
     let mut whole = String::new();
     file.read_to_string(&mut whole).unwrap();
@@ -184,11 +162,8 @@ impl Read for Bytewise<'_> {
 #[test]
 fn reads_lines() {
     let data = sealed(b"one\ntwo\n");
-    let lines: Vec<_> = AgeReader::open(&data[..], PW)
-        .unwrap()
-        .lines()
-        .map(Result::unwrap)
-        .collect();
+    let lines: Vec<_> =
+        AgeReader::open(&data[..], PW).unwrap().lines().map(Result::unwrap).collect();
     assert_eq!(lines, ["one", "two"]);
 }
 
@@ -200,40 +175,17 @@ fn says_what_is_wrong() {
     *changed.last_mut().unwrap() ^= 1;
     let none = Key::passphrase(b"");
     let other = Key::passphrase(b"other");
-    let (key, shared) = (
-        Key::FileKey(&[0; 16]),
-        Key::Shared {
-            secret: &[0; 32],
-            recipient: &[0; 32],
-        },
-    );
+    let (key, shared) =
+        (Key::FileKey(&[0; 16]), Key::Shared { secret: &[0; 32], recipient: &[0; 32] });
     let invalid = ErrorKind::InvalidData;
     for (what, data, key, kind, number) in [
-        (
-            "another passphrase",
-            &data[..],
-            other,
-            ErrorKind::InvalidData,
-            13,
-        ),
+        ("another passphrase", &data[..], other, ErrorKind::InvalidData, 13),
         ("another file key", &data, key, ErrorKind::InvalidData, 14),
-        (
-            "another kind of key",
-            &data,
-            shared,
-            ErrorKind::InvalidData,
-            12,
-        ),
+        ("another kind of key", &data, shared, ErrorKind::InvalidData, 12),
         ("a cut header", &data[..50], PW, invalid, 254),
         ("no payload", &data[..begin], PW, invalid, 20),
         ("a missing chunk", &data[..begin + BLOCK], PW, invalid, 20),
-        (
-            "the first bytes of a chunk",
-            &data[..begin + BLOCK + 9],
-            PW,
-            invalid,
-            18,
-        ),
+        ("the first bytes of a chunk", &data[..begin + BLOCK + 9], PW, invalid, 18),
         ("a changed byte", &changed, PW, ErrorKind::InvalidData, 17),
         ("no age file", b"x\n", PW, ErrorKind::InvalidData, 1),
         ("no passphrase", &data, none, ErrorKind::InvalidInput, 255),
@@ -242,25 +194,15 @@ fn says_what_is_wrong() {
         let fault = AgeError::of(&error).unwrap();
         assert_eq!((error.kind(), fault.number), (kind, number), "{what}");
         assert_eq!(fault.is_wrong_key(), matches!(number, 12..=14), "{what}");
-        assert_eq!(
-            fault.is_truncated(),
-            matches!(number, 18 | 20 | 254),
-            "{what}"
-        );
+        assert_eq!(fault.is_truncated(), matches!(number, 18 | 20 | 254), "{what}");
         assert_eq!(fault.is_damaged(), number == 17, "{what}");
         // (a file that lacks its last chunk has the length of a whole one: then the chunk before
         // it is refused)
         let fault = AgeError::of(&text_at(data, key).unwrap_err()).unwrap();
-        assert!(
-            fault.number == number || number == 20 && fault.number == 17,
-            "{what}: {fault}"
-        );
+        assert!(fault.number == number || number == 20 && fault.number == 17, "{what}: {fault}");
     }
     let error = text_in(&[&full[..], b"0"].concat(), PW).unwrap_err();
-    assert_eq!(
-        error.to_string(),
-        "something was appended to the file (21 Trailing)"
-    );
+    assert_eq!(error.to_string(), "something was appended to the file (21 Trailing)");
     assert!(AgeError::of(&error).unwrap().is_damaged());
 }
 
@@ -268,15 +210,9 @@ fn says_what_is_wrong() {
 fn refuses_every_cut() {
     let text = text_of(70_000);
     let data = sealed(&text);
-    for end in (0..data.len())
-        .step_by(997)
-        .chain(data.len() - 3..data.len())
-    {
+    for end in (0..data.len()).step_by(997).chain(data.len() - 3..data.len()) {
         assert!(text_in(&data[..end], PW).is_err(), "{end}");
-        assert!(
-            AgeFile::open(Cursor::new(&data[..end]), PW).is_err(),
-            "{end}"
-        );
+        assert!(AgeFile::open(Cursor::new(&data[..end]), PW).is_err(), "{end}");
     }
 }
 
@@ -327,9 +263,7 @@ impl Read for Silent<'_> {
 fn answers_a_header_that_is_there() {
     let data = sealed(b"text");
     assert!(AgeReader::open(Silent(&data[..data.len() - 3]), PW).is_ok());
-    let fault = AgeReader::open(Silent(&data), Key::passphrase(b"other"))
-        .map(|_| ())
-        .unwrap_err();
+    let fault = AgeReader::open(Silent(&data), Key::passphrase(b"other")).map(|_| ()).unwrap_err();
     assert!(AgeError::of(&fault).unwrap().is_wrong_key());
 }
 
@@ -377,10 +311,7 @@ fn reads_at_any_place() {
             let most = random % 90_000;
             let (mut got, mut want) = (Vec::new(), Vec::new());
             file.by_ref().take(most).read_to_end(&mut got).unwrap();
-            Read::by_ref(&mut memory)
-                .take(most)
-                .read_to_end(&mut want)
-                .unwrap();
+            Read::by_ref(&mut memory).take(most).read_to_end(&mut want).unwrap();
             assert!(got == want, "{len} {to:?} {most}");
         }
     }
@@ -393,21 +324,16 @@ fn goes_on_after_a_fault() {
     let begin = data.len() - 200_000 - 4 * 16;
     data[begin + BLOCK + 100] ^= 1;
     let mut file = AgeFile::open(Cursor::new(&data), PW).unwrap();
-    for (place, wrong) in [
-        (0, false),
-        (70_000, true),
-        (140_000, false),
-        (65_536, true),
-        (199_990, false),
-    ] {
+    for (place, wrong) in
+        [(0, false), (70_000, true), (140_000, false), (65_536, true), (199_990, false)]
+    {
         let mut into = [0; 10];
         file.seek(SeekFrom::Start(place)).unwrap();
         match file.read_exact(&mut into) {
             Ok(()) => assert!(!wrong && into == text[place as usize..][..10]),
-            Err(error) => assert!(
-                wrong && AgeError::of(&error).unwrap().chunk == Some(1),
-                "{place}"
-            ),
+            Err(error) => {
+                assert!(wrong && AgeError::of(&error).unwrap().chunk == Some(1), "{place}")
+            }
         }
     }
     assert!(file.seek(SeekFrom::Current(-300_000)).is_err());
@@ -448,11 +374,7 @@ fn shares_a_file_that_shrinks() {
             assert!(into[..] == text[place as usize..][..70_000]);
         }
     }
-    under
-        .0
-        .borrow_mut()
-        .get_mut()
-        .truncate(begin + BLOCK + 1_000);
+    under.0.borrow_mut().get_mut().truncate(begin + BLOCK + 1_000);
     one.seek(SeekFrom::Start(0)).unwrap();
     one.read_exact(&mut into[..65_536]).unwrap();
     assert!(into[..65_536] == text[..65_536]);
@@ -491,15 +413,8 @@ impl Write for Full {
 #[test]
 fn a_file_that_failed_is_not_finished() {
     let mut writer = AgeWriter::create(Full(70_000), b"pw", 1).unwrap();
-    assert_eq!(
-        writer.write_all(&text_of(200_000)).unwrap_err().kind(),
-        ErrorKind::WriteZero
-    );
-    for later in [
-        writer.write_all(b"x"),
-        writer.flush(),
-        writer.finish().map(|_| ()),
-    ] {
+    assert_eq!(writer.write_all(&text_of(200_000)).unwrap_err().kind(), ErrorKind::WriteZero);
+    for later in [writer.write_all(b"x"), writer.flush(), writer.finish().map(|_| ())] {
         let error = later.unwrap_err();
         assert_eq!(error.kind(), ErrorKind::WriteZero);
         let cause = "because an earlier write failed: failed to write whole buffer";
@@ -558,10 +473,7 @@ fn says_what_it_means_first() {
 #[test]
 fn shows_no_key_and_no_text() {
     let data = sealed(b"horse");
-    let pass = Key::Passphrase {
-        passphrase: b"pw-horse",
-        max_work: 22,
-    };
+    let pass = Key::Passphrase { passphrase: b"pw-horse", max_work: 22 };
     let mut writer = AgeWriter::create(Vec::new(), b"pw-horse", 1).unwrap();
     writer.write_all(b"horse").unwrap();
     let error = AgeReader::open(&data[..], pass).unwrap_err();
@@ -586,9 +498,7 @@ fn gives_back_what_it_was_given() {
     writer.write_all(&text).unwrap();
     assert!(writer.get_ref().len() > BLOCK);
     let cut = writer.into_inner();
-    assert!(AgeError::of(&text_in(&cut, PW).unwrap_err())
-        .unwrap()
-        .is_truncated());
+    assert!(AgeError::of(&text_in(&cut, PW).unwrap_err()).unwrap().is_truncated());
 
     let data = sealed(&text);
     let mut reader = AgeReader::open(Cursor::new(&data), PW).unwrap();

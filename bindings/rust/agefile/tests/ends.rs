@@ -36,12 +36,7 @@ struct Source<'a> {
 
 impl<'a> Source<'a> {
     fn new(data: &'a [u8], end: &'a Cell<usize>, says_so: bool) -> Source<'a> {
-        Source {
-            data,
-            end,
-            at: 0,
-            says_so,
-        }
+        Source { data, end, at: 0, says_so }
     }
 }
 
@@ -78,10 +73,7 @@ fn cut_places(data: &[u8]) -> impl Iterator<Item = usize> + '_ {
 #[test]
 fn cuts_are_no_ends() {
     let data = file_of_records();
-    assert_eq!(
-        records(AgeReader::open(&data[..], key()).unwrap()).unwrap(),
-        LEN / 8
-    );
+    assert_eq!(records(AgeReader::open(&data[..], key()).unwrap()).unwrap(), LEN / 8);
     let mut truncated = 0;
     for cut in cut_places(&data) {
         for says_so in [false, true] {

@@ -13,11 +13,7 @@ use std::sync::atomic::{AtomicUsize, Ordering};
 
 /// What age made, beside this folder; nothing if it stands alone.
 fn of_age(name: &str) -> Option<Vec<u8>> {
-    std::fs::read(format!(
-        "{}/../../tests/age/{name}",
-        env!("CARGO_MANIFEST_DIR")
-    ))
-    .ok()
+    std::fs::read(format!("{}/../../tests/age/{name}", env!("CARGO_MANIFEST_DIR"))).ok()
 }
 
 fn keys() -> Option<(String, Vec<Identity>)> {
@@ -37,10 +33,7 @@ fn public_of(text: &str) -> &str {
 }
 
 fn key_of(identities: &[Identity]) -> Key<'_> {
-    Key::X25519 {
-        exchange: &x25519,
-        identities,
-    }
+    Key::X25519 { exchange: &x25519, identities }
 }
 
 fn bytes_of(digits: &str) -> [u8; 32] {
@@ -73,10 +66,7 @@ fn reads_files_for_keys() {
     assert_eq!(number(decrypt(&data[..90], key)), 254);
     assert_eq!(number(decrypt(&data, key_of(&[]))), 13);
     assert_eq!(number(decrypt(&data, key_of(&others))), 13);
-    let zero = Key::X25519 {
-        exchange: &|_, _| [0; 32],
-        identities: &identities,
-    };
+    let zero = Key::X25519 { exchange: &|_, _| [0; 32], identities: &identities };
     assert_eq!(number(decrypt(&data, zero)), 13);
     assert_eq!(format!("{key:?} {identities:?}"), "Key::X25519 [Identity]");
 }
@@ -158,10 +148,7 @@ fn gives_the_share_of_a_stanza() {
         seen.lock().unwrap().push(*point);
         [5; 32]
     };
-    let key = Key::X25519 {
-        exchange: &exchange,
-        identities: &identities,
-    };
+    let key = Key::X25519 { exchange: &exchange, identities: &identities };
     assert_eq!(number(decrypt(&data, key)), 13);
     assert_eq!(seen.lock().unwrap()[1], bytes_of(SHARE));
 }
@@ -186,12 +173,7 @@ fn refuses_what_is_no_key() {
         assert!(Identity::parse(bad).is_err(), "{bad}");
         assert!(parse_recipient(bad).is_err(), "{bad}");
     }
-    assert_eq!(
-        Identity::parse(&format!("{}\r\n\n{text}", word.to_lowercase()))
-            .unwrap()
-            .len(),
-        2
-    );
+    assert_eq!(Identity::parse(&format!("{}\r\n\n{text}", word.to_lowercase())).unwrap().len(), 2);
 }
 
 /// A stranger's header costs a bounded number of tries.
@@ -212,23 +194,17 @@ fn stops_after_many_tries() {
         tries.fetch_add(1, Ordering::Relaxed);
         [5; 32]
     };
-    let two = [identities, Identity::parse(&text).unwrap()]
-        .into_iter()
-        .flatten()
-        .collect::<Vec<_>>();
-    let key = Key::X25519 {
-        exchange: &exchange,
-        identities: &two,
-    };
+    let two =
+        [identities, Identity::parse(&text).unwrap()].into_iter().flatten().collect::<Vec<_>>();
+    let key = Key::X25519 { exchange: &exchange, identities: &two };
     assert_eq!(number(decrypt(data.as_bytes(), key)), 13);
     assert_eq!(tries.load(Ordering::Relaxed), MAX_TRIES + 2);
 }
 
 #[test]
 fn reopens_without_a_key() {
-    let text: Vec<u8> = (0..200_000u32)
-        .map(|it| (it.wrapping_mul(2_654_435_761) >> 13) as u8)
-        .collect();
+    let text: Vec<u8> =
+        (0..200_000u32).map(|it| (it.wrapping_mul(2_654_435_761) >> 13) as u8).collect();
     let sealed = |text: &[u8]| encrypt(text, b"pw", 1).unwrap();
     let (data, another) = (sealed(&text), sealed(b"another"));
     let file = AgeFile::open(Cursor::new(&data[..]), Key::passphrase(b"pw")).unwrap();
@@ -266,18 +242,12 @@ fn files_in_memory() {
 #[test]
 fn names_the_argument_that_is_wrong() {
     let (data, long) = (encrypt(b"text", b"pw", 1).unwrap(), vec![b'w'; 65_537]);
-    let under = |passphrase, max_work| Key::Passphrase {
-        passphrase,
-        max_work,
-    };
+    let under = |passphrase, max_work| Key::Passphrase { passphrase, max_work };
     let shared = |secret, recipient| Key::Shared { secret, recipient };
     let (short, right) = (&[1; 31][..], &[1; 32][..]);
     for (key, argument) in [
         (under(b"", 22), "the passphrase must have 1 to 65,536 bytes"),
-        (
-            under(&long, 0),
-            "the passphrase must have 1 to 65,536 bytes",
-        ),
+        (under(&long, 0), "the passphrase must have 1 to 65,536 bytes"),
         (under(&long[1..], 0), "max_work must be 1 to 22"),
         (under(b"pw", 23), "max_work must be 1 to 22"),
         (Key::FileKey(&[7; 15]), "the file key must have 16 bytes"),

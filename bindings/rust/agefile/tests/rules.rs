@@ -40,10 +40,7 @@ fn see_reader(mut file: impl BufRead, text: &[u8]) {
         let most = [1, 100, 65_536, 70_000][turn % 4];
         let n = file.read(&mut room[..most]).unwrap();
         assert!(room[n..].iter().all(|&it| it == 0xaa));
-        assert_eq!(
-            (n == 0, &room[..n]),
-            (seen.is_empty(), &seen[..n.min(seen.len())])
-        );
+        assert_eq!((n == 0, &room[..n]), (seen.is_empty(), &seen[..n.min(seen.len())]));
         got.extend_from_slice(&room[..n]);
         room[..n].fill(0xaa);
         if n == 0 {
@@ -70,10 +67,7 @@ fn readers() {
         let data = encrypt(&text, b"pw", 1).unwrap();
         for size in [1, 9_999, 1 << 20] {
             if size > 1 || len < 70_000 {
-                see_reader(
-                    AgeReader::open(Pieces(&data[..], size, false), key()).unwrap(),
-                    &text,
-                );
+                see_reader(AgeReader::open(Pieces(&data[..], size, false), key()).unwrap(), &text);
             }
         }
         see_reader(AgeFile::open(Cursor::new(&data[..]), key()).unwrap(), &text);
@@ -101,10 +95,7 @@ fn seeks() {
         assert_eq!(got.map_err(|it| it.kind()), want.map_err(|it| it.kind()));
         let n = memory.read(&mut other).unwrap();
         file.read_exact(&mut one[..n]).unwrap();
-        assert_eq!(
-            (&one[..n], file.stream_position().unwrap()),
-            (&other[..n], memory.position())
-        );
+        assert_eq!((&one[..n], file.stream_position().unwrap()), (&other[..n], memory.position()));
     }
 }
 

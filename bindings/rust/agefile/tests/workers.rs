@@ -58,14 +58,9 @@ fn reports_the_first_fault() {
     let chunks: [&[usize]; 7] = [&[0], &[8], &[3, 4], &[7, 2], &[6, 5, 1], &[9], &[9, 4]];
     for chunks in chunks {
         let mut bad = data.clone();
-        chunks
-            .iter()
-            .for_each(|it| bad[begin + it * BLOCK + 5] ^= 1);
-        let first = *chunks
-            .iter()
-            .max()
-            .filter(|&&it| it == 9)
-            .unwrap_or(chunks.iter().min().unwrap());
+        chunks.iter().for_each(|it| bad[begin + it * BLOCK + 5] ^= 1);
+        let first =
+            *chunks.iter().max().filter(|&&it| it == 9).unwrap_or(chunks.iter().min().unwrap());
         for workers in [1, 2, 5] {
             let source = || Ok(Cursor::new(&bad));
             let error = decrypt_to(|_, _| Ok(()), source, key(), workers).unwrap_err();
@@ -115,9 +110,7 @@ fn reports_what_fails() {
 fn goes_on_before_a_fault() {
     let mut data = encrypt(&text_of(LENGTH), b"pw", 1).unwrap();
     let begin = data.len() - LENGTH - 10 * 16;
-    [1, 6]
-        .iter()
-        .for_each(|it| data[begin + it * BLOCK + 5] ^= 1);
+    [1, 6].iter().for_each(|it| data[begin + it * BLOCK + 5] ^= 1);
     let out = |_: &[u8], at| {
         if at == 0 {
             std::thread::sleep(std::time::Duration::from_millis(300));
