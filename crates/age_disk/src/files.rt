@@ -306,13 +306,21 @@ impl<'r, 'w> HostFiles<'r, 'w> {
         }
     }
 
-    /// Keeps a file that was prepared.
-    fn admit_prepared(&mut self, prepared: Prepared<'w>) -> Result<(), OpenFault>
+    /// Keeps a file that was prepared, unless it is one of those that are open, or standard error.
+    fn admit_prepared(
+        &mut self,
+        prepared: Prepared<'w>,
+        is_for_faults: bool,
+    ) -> Result<(), OpenFault>
         ensures kept { (self.new.log ≡ self.old.log) × (self.new.ended ≡ self.old.ended)
             × (self.new.saved ≡ self.old.saved) }
+        ensures apart { (one : FileId) → prepared.entry.seen ≡ Some one
+            → Contains self.old.open.items one → result ≡ Err SameFile }
+        ensures only { result ≡ Err SameFile → (is_for_faults ≡ true)
+            ⊎ IsSomeAnd prepared.entry.seen (Contains self.old.open.items) }
         ensures faults { IfErr result (OpenFails Write) }
     {
-        self.claim_prepared(&prepared, is_for_faults(self.rt, prepared.seen))?;
+        self.claim_prepared(&prepared, is_for_faults)?;
         match self.prepared.push(prepared) {
             Ok(()) => Ok(()),
             Err(_) => Err(OpenFault::Fault(FileFault::Memory)),
@@ -432,7 +440,10 @@ impl<'r, 'w> FileSet<'w> for HostFiles<'r, 'w> {
     ) -> Result<(), OpenFault> {
         self.log.note(Doing::Prepare(name, spared));
         let admitted = match self.prepare_named(alloc, name, spared, durability) {
-            Ok(prepared) => self.admit_prepared(prepared),
+            Ok(prepared) => {
+                let is_for_faults = is_for_faults(self.rt, prepared.seen);
+                self.admit_prepared(prepared, is_for_faults)
+            }
             Err(error) => Err(self.refusal(name, error)),
         };
         if let Err(fault) = admitted {
