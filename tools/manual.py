@@ -6,7 +6,7 @@ import textwrap
 from tools.workspace import TOP
 
 SOURCE, PAGE = TOP / "docs" / "FAULTS.md", TOP / "docs" / "age_tool-faults.7"
-ROWS = TOP / "crates" / "age_tool" / "src" / "faults.rt"
+ROWS = TOP / "crates" / "age_hints" / "src" / "faults.rt"
 HEAD = """.\\" Made from docs/FAULTS.md by checks/documents --write.
 .TH AGE_TOOL-FAULTS 7 2026-11-30 "age_tool" "Faults"
 .SH NAME

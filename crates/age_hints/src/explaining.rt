@@ -2,12 +2,10 @@
 
 use crate::heard::Heard;
 use crate::hints::Reported;
+use crate::line::{Fill, say};
 use age_cli_args::Request;
 use age_io::Sink;
-use age_messages::{
-    Action, Amount, Escaped, Failure, Leading, Quoted, Roles, RunFailures, Work, has_name,
-};
-use std::fmt::{self, Formatter};
+use age_messages::{Action, Amount, Escaped, Failure, Leading, Roles, RunFailures, Work, has_name};
 use std::fs;
 use std::io::{self, Eprint, IsTerminal};
 use std::os::unix::fs::FileTypeExt;
@@ -50,30 +48,32 @@ fn explain_end(rt: &HostRuntime, line: &str, second: Option<&str>, failures: &Ru
 /// Says what a word means here, if it means something else to other programs.
 fn explain_words_taken(rt: &HostRuntime, failures: &RunFailures<'_>) {
     if has_name("-", failures.asked) {
-        let _ = eprintln!(rt;
-            "age_tool: - is a file of that name: the standard streams are /dev/stdin and \
-             /dev/stdout"
+        say(
+            rt,
+            "- is a file of that name: the standard streams are /dev/stdin and /dev/stdout",
+            &[],
         );
     }
     if failures.has_idle_limit() {
-        let _ = eprintln!(rt; "age_tool: --max-log does nothing without --pass");
+        say(rt, "--max-log does nothing without --pass", &[]);
     }
 }
 
 /// Says what may surprise in a file that was read or written.
 fn explain_files(rt: &HostRuntime, failures: &RunFailures<'_>) {
     if let Some(name) = failures.cut_off.get() {
-        let name = Leading(name.as_bytes());
-        let _ = eprintln!(rt; "age_tool: {name}: it shrank while it was being read");
+        let name = Fill::Leading(name);
+        say(rt, "@: it shrank while it was being read", &[name]);
     }
     if let Some(name) = failures.moved.get() {
-        let name = Escaped(name.as_bytes());
-        let _ = eprintln!(rt; "age_tool: OUT was moved: {name} is another file now, or gone");
+        let name = Fill::Escaped(name);
+        say(rt, "OUT was moved: @ is another file now, or gone", &[name]);
     }
     if let Some(name) = failures.unwaited.get() {
-        let name = Leading(name.as_bytes());
-        let _ = eprintln!(rt;
-            "age_tool: {name}: the file system can't sync it: it may not be on the disk yet"
+        say(
+            rt,
+            "@: the file system can't sync it: it may not be on the disk yet",
+            &[Fill::Leading(name)],
         );
     }
 }
@@ -83,9 +83,10 @@ fn explain_typing(rt: &HostRuntime, failures: &RunFailures<'_>) {
     if let Some(Request::Encrypt(asked)) = failures.asked
         && let Some(what) = failures.typing.get().untypable()
     {
-        let name = Escaped(asked.pass.as_bytes());
-        let _ = eprintln!(rt;
-            "age_tool: the passphrase in {name} has {what}, which can't be typed when age asks for it"
+        say(
+            rt,
+            "the passphrase in @ has @, which can't be typed when age asks for it",
+            &[Fill::Escaped(asked.pass), Fill::Text(what)],
         );
     }
 }
@@ -96,12 +97,12 @@ fn tell_work(rt: &HostRuntime, failures: &RunFailures<'_>) {
     if rt.stderr().is_terminal()
         && let Some(work) = failures.last_read.get().head.work_alone()
     {
-        let _ = eprintln!(rt; "age_tool: {work}");
+        say(rt, "@", &[Fill::Work(work)]);
     }
 }
 
 /// Says what the machine answered, if that caused a fault.
-fn tell_failure(rt: &HostRuntime, number: u8, failure: Option<Failure<'_>>, more: &str) {
+fn tell_failure<'x>(rt: &HostRuntime, number: u8, failure: Option<Failure<'x>>, more: &'x str) {
     if let Some(failure) = failure
         && failure.action.fault_number() == number
     {
@@ -109,23 +110,9 @@ fn tell_failure(rt: &HostRuntime, number: u8, failure: Option<Failure<'_>>, more
     }
 }
 
-/// The file that a line is about, if any, with which the line begins.
-#[derive(Clone, Copy)]
-struct About<'w>(Option<&'w str>);
-
-impl<'w> fmt::Display for About<'w> {
-    fn fmt<W: fmt::Write>(&self, f: &mut Formatter<W>) -> fmt::Result {
-        match self.0 {
-            None => Ok(()),
-            Some(name) if name.is_empty() => f.write_str("standard input: "),
-            Some(name) => write!(f, "{}: ", Leading(name.as_bytes())),
-        }
-    }
-}
-
 /// The file that a fault is about, if no failure of the machine names it.
-fn file_of<'w>(number: u8, failures: &RunFailures<'w>) -> About<'w> {
-    About(match number {
+fn file_of<'w>(number: u8, failures: &RunFailures<'w>) -> Fill<'w> {
+    Fill::File(match number {
         1..=22 | 24 | 29 => Some(failures.last_read.get().name),
         28 if failures.last_read.get().head.work().is_some() => {
             Some(failures.last_read.get().name)
@@ -141,25 +128,59 @@ fn explain_fault(rt: &HostRuntime, fault: Reported<'_>, failures: &RunFailures<'
     let number = fault.number;
     let more = more_of_failure(number, failures);
     tell_failure(rt, number, failures.first.get(), more);
-    let (name, last) = (file_of(number, failures), failures.last_read.get());
-    let said = if number == 8 && last.bytes == 0 {
-        "it is empty: check where it comes from"
+    let file = file_of(number, failures);
+    match work_of(number, failures) {
+        Some(work) => explain_work(rt, number, file, work),
+        None if number == 8 && failures.last_read.get().bytes == 0 => {
+            explain_file(
+                rt,
+                number,
+                file,
+                "it is empty: check where it comes from",
+                "",
+            );
+        }
+        None => explain_file(rt, number, file, fault.sentence(), fault.place),
+    }
+}
+
+/// Says what is wrong with a file, and what to do, in a sentence that may name the place.
+fn explain_file<'x>(
+    rt: &HostRuntime,
+    number: u8,
+    file: Fill<'x>,
+    sentence: &'x str,
+    place: &'x str,
+) {
+    if sentence.is_empty() {
+        return;
+    }
+    let number = Fill::Number(number as u64);
+    let (what, to_do) = sentence.split_once('@').unwrap_or((sentence, ""));
+    let place = if what.len() < sentence.len() {
+        place
     } else {
-        fault.sentence()
+        ""
     };
-    if let Some(work) = last.head.work()
-        && number == 11
-    {
-        explain_work(rt, name, work);
-    } else if let Some(work) = work_asked(failures)
-        && number == 28
-    {
-        let _ = eprintln!(rt; "age_tool: {name}out of memory: {work} (age_tool help 28)");
-    } else if let Some((what, to_do)) = said.split_once('@') {
-        let place = fault.place;
-        let _ = eprintln!(rt; "age_tool: {name}{what}{place}{to_do} (age_tool help {number})");
-    } else if !said.is_empty() {
-        let _ = eprintln!(rt; "age_tool: {name}{said} (age_tool help {number})");
+    say(
+        rt,
+        "@@@@ (age_tool help @)",
+        &[
+            file,
+            Fill::Text(what),
+            Fill::Text(place),
+            Fill::Text(to_do),
+            number,
+        ],
+    );
+}
+
+/// The work factor that the sentence of a fault names, if it does.
+fn work_of(number: u8, failures: &RunFailures<'_>) -> Option<Work> {
+    match number {
+        11 => failures.last_read.get().head.work(),
+        28 => work_asked(failures),
+        _ => None,
     }
 }
 
@@ -173,56 +194,73 @@ fn work_asked(failures: &RunFailures<'_>) -> Option<Work> {
     }
 }
 
-/// Says which limit would do, if one would, for a file whose work factor is above the limit.
-fn explain_work(rt: &HostRuntime, name: About<'_>, work: Work) {
-    let _ = match work {
-        Work::Allowed(log) => eprintln!(rt;
-            "age_tool: {name}{work}; if you trust the file, retry with --max-log {log} (age_tool help 11)"
+/// Says which memory a passphrase takes that isn't to be had; or which limit would do, if one would,
+/// for a file whose work factor is above the limit.
+fn explain_work(rt: &HostRuntime, number: u8, file: Fill<'_>, work: Work) {
+    let said = Fill::Work(work);
+    match work {
+        _ if number == 28 => say(rt, "@out of memory: @ (age_tool help 28)", &[file, said]),
+        Work::Allowed(log) => say(
+            rt,
+            "@@; if you trust the file, retry with --max-log @ (age_tool help 11)",
+            &[file, said, Fill::Number(log as u64)],
         ),
-        Work::TooHigh => eprintln!(rt; "age_tool: {name}{work} (age_tool help 11)"),
-    };
+        Work::TooHigh => say(rt, "@@ (age_tool help 11)", &[file, said]),
+    }
 }
 
-/// What a command that resumes takes over from this one: what opens the file, and IN. A file key
-/// isn't shown, and standard input can't be named.
-#[derive(Clone, Copy)]
-struct Again<'r, 'w>(&'r RunFailures<'w>);
+/// What opens the file in a command that resumes: an option of this one, and its value. A file key
+/// isn't shown.
+fn key_again<'w>(failures: &RunFailures<'w>) -> (&'static str, Fill<'w>) {
+    if let Some(name) = failures.named_by("--pass") {
+        ("--pass", Fill::Quoted(name))
+    } else if let Some(name) = failures.named_by("--shared") {
+        ("--shared", Fill::Quoted(name))
+    } else {
+        ("--file-key", Fill::Text("HEX"))
+    }
+}
 
-impl<'r, 'w> fmt::Display for Again<'r, 'w> {
-    fn fmt<W: fmt::Write>(&self, f: &mut Formatter<W>) -> fmt::Result {
-        for option in ["--pass", "--shared"] {
-            if let Some(name) = self.0.named_by(option) {
-                write!(f, "{option} {} ", Quoted(name))?;
-            }
-        }
-        if self.0.named_by("--file-key").is_some() {
-            f.write_str("--file-key HEX ")?;
-        }
-        match self.0.named_by("IN") {
-            Some(name) if name != "/dev/stdin" => fmt::Display::fmt(&Quoted(name), f),
-            _ => f.write_str("IN"),
-        }
+/// The input of a command that resumes. Standard input can't be named.
+fn input_again<'w>(failures: &RunFailures<'w>) -> Fill<'w> {
+    match failures.named_by("IN") {
+        Some(name) if name != "/dev/stdin" => Fill::Quoted(name),
+        _ => Fill::Text("IN"),
     }
 }
 
 /// Says how to resume from a position that was saved, by a command for a shell.
-fn tell_command(rt: &HostRuntime, saved: &str, old: &str, again: Again<'_, '_>) {
-    let name = Escaped(saved.as_bytes());
-    let (saved, old) = (Quoted(saved), Quoted(old));
-    let _ = eprintln!(rt;
-        "age_tool: position saved in {name}; to go on from there: \
-         age_tool resume --position {saved} --old {old} {again} NEW"
+fn tell_command<'w>(rt: &HostRuntime, saved: &'w str, old: &'w str, failures: &RunFailures<'w>) {
+    let (option, key) = key_again(failures);
+    let input = input_again(failures);
+    say(
+        rt,
+        "position saved in @; to go on from there: age_tool resume --position @ --old @ @ @ @ NEW",
+        &[
+            Fill::Escaped(saved),
+            Fill::Quoted(saved),
+            Fill::Quoted(old),
+            Fill::Text(option),
+            key,
+            input,
+        ],
     );
-    let _ = eprintln!(rt;
-        "age_tool: resume reads only the rest of IN; if IN is on a fast disk, decrypting again is quicker"
+    say(
+        rt,
+        "resume reads only the rest of IN; if IN is on a fast disk, decrypting again is quicker",
+        &[],
     );
 }
 
 /// Says how to put a position that couldn't be saved into another file.
 fn tell_unsaved(rt: &HostRuntime, failures: &RunFailures<'_>) {
     if let Some(text) = failures.unsaved_text.get() {
-        let line = text.line();
-        let _ = eprintln!(rt; "age_tool: to save the position elsewhere: echo '{line}' > FILE");
+        let line = Fill::Text(text.line());
+        say(
+            rt,
+            "to save the position elsewhere: echo '@' > FILE",
+            &[line],
+        );
     }
 }
 
@@ -242,17 +280,18 @@ fn tell_position(rt: &HostRuntime, failures: &RunFailures<'_>) {
         let output = failures.output.get();
         if output == "/dev/stdout" {
             // (The program can't say where that went.)
-            tell_command(rt, saved, "OLD", Again(failures));
+            tell_command(rt, saved, "OLD", failures);
         } else if is_kept(rt, output) {
-            tell_command(rt, saved, output, Again(failures));
+            tell_command(rt, saved, output, failures);
         } else {
-            let (name, output) = (Escaped(saved.as_bytes()), Escaped(output.as_bytes()));
-            let _ = eprintln!(rt;
-                "age_tool: position saved in {name}, but resume needs the output, which went to {output}"
+            say(
+                rt,
+                "position saved in @, but resume needs the output, which went to @",
+                &[Fill::Escaped(saved), Fill::Escaped(output)],
             );
         }
     } else if failures.named_by("--save").is_some() && failures.unsaved.get().is_none() {
-        let _ = eprintln!(rt; "age_tool: no position was saved");
+        say(rt, "no position was saved", &[]);
     }
 }
 
@@ -298,9 +337,7 @@ fn explain_refusal(rt: &HostRuntime, line: &str, failures: &RunFailures<'_>) {
     let last = failures.last_read.get();
     match line.strip_prefix("age_tool: ").unwrap_or("") {
         "same file named twice" => tell_twice(rt, failures),
-        "bad file key" => {
-            let _ = eprintln!(rt; "age_tool: --file-key takes 32 hexadecimal digits");
-        }
+        "bad file key" => say(rt, "--file-key takes 32 hexadecimal digits", &[]),
         "bad passphrase file" => tell_wrong(rt, last, wrong_passphrase(last.bytes)),
         "bad shared file" => explain_length(rt, last, 64),
         "bad random file" => explain_length(rt, last, 48),
@@ -319,29 +356,32 @@ fn tell_twice(rt: &HostRuntime, failures: &RunFailures<'_>) {
     let Some((name, other)) = failures.twice.get() else {
         return;
     };
-    let asked = failures.asked;
-    let (roles, one) = (Roles { asked, name }, Leading(name.as_bytes()));
-    let _ = match other.map(|it| Escaped(it.as_bytes())) {
-        Some(same) if other == Some(name) => {
-            eprintln!(rt; "age_tool: {roles} are the same file: {same}")
+    let (asked, one) = (failures.asked, Fill::Leading(name));
+    match other {
+        Some(same) if same == name => {
+            let (roles, same) = (Roles { asked, name }, Escaped(same.as_bytes()));
+            let _ = eprintln!(rt; "age_tool: {roles} are the same file: {same}");
         }
-        Some(other) => eprintln!(rt; "age_tool: {one} and {other} are the same file"),
-        None => eprintln!(rt; "age_tool: {one} is another file of this command too"),
-    };
+        Some(other) => say(
+            rt,
+            "@ and @ are the same file",
+            &[one, Fill::Escaped(other)],
+        ),
+        None => say(rt, "@ is another file of this command too", &[one]),
+    }
 }
 
 /// Says what is wrong with a file that was read.
-fn tell_wrong(rt: &HostRuntime, file: Amount<'_>, what: &str) {
-    let name = Leading(file.name.as_bytes());
-    let _ = eprintln!(rt; "age_tool: {name}: {what}");
+fn tell_wrong<'x>(rt: &HostRuntime, file: Amount<'x>, what: &'x str) {
+    say(rt, "@: @", &[Fill::Leading(file.name), Fill::Text(what)]);
 }
 
 /// Says which line of a script was refused, or that one of several options must be given.
 fn explain_words_left(rt: &HostRuntime, said: &str, failures: &RunFailures<'_>) {
     if let Some(number) = said.strip_prefix("bad script line ") {
-        let name = Leading(failures.named_by("SCRIPT").unwrap_or("").as_bytes());
+        let script = Leading(failures.named_by("SCRIPT").unwrap_or("").as_bytes());
         let _ = eprintln!(rt;
-            "age_tool: {name}:{number}: no line of a script, or it reaches past the payload's end"
+            "age_tool: {script}:{number}: no line of a script, or it reaches past the payload's end"
         );
     } else if said.starts_with("give one of ") {
         let said = if failures.has_key() {
@@ -349,7 +389,7 @@ fn explain_words_left(rt: &HostRuntime, said: &str, failures: &RunFailures<'_>) 
         } else {
             "none of them was given; --pass takes the name of a file that holds the passphrase"
         };
-        let _ = eprintln!(rt; "age_tool: {said}");
+        say(rt, said, &[]);
     }
 }
 
@@ -364,10 +404,11 @@ fn wrong_passphrase(bytes: u64) -> &'static str {
 
 /// Says what is wrong with a file of a wanted length. It was read until it was too long.
 fn explain_length(rt: &HostRuntime, last: Amount<'_>, wanted: u64) {
-    let (name, bytes) = (Leading(last.name.as_bytes()), last.bytes);
-    let _ = if bytes > wanted {
-        eprintln!(rt; "age_tool: {name}: it holds more than {wanted} bytes")
+    let (name, wanted_len) = (Fill::Leading(last.name), Fill::Number(wanted));
+    if last.bytes > wanted {
+        say(rt, "@: it holds more than @ bytes", &[name, wanted_len]);
     } else {
-        eprintln!(rt; "age_tool: {name}: it holds {bytes} of {wanted} bytes")
-    };
+        let parts = [name, Fill::Number(last.bytes), wanted_len];
+        say(rt, "@: it holds @ of @ bytes", &parts);
+    }
 }

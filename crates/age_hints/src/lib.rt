@@ -8,10 +8,14 @@
 #![tactic(auto)]
 
 mod explaining;
+mod faults;
 mod heard;
+mod help;
 mod hints;
+mod line;
 mod refusal;
 
 pub use explaining::explain;
 pub use heard::Heard;
+pub use help::row_asked;
 pub use refusal::Refusals;

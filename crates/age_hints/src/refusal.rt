@@ -5,6 +5,83 @@ use clap::Error;
 use clap::error::ErrorKind;
 use std::alloc::{AllocError, Global};
 
+/// Words of other programs, and what to give instead of them.
+type Hints = &'static [(&'static [&'static str], &'static str)];
+
+const COMMAND_HINTS: Hints = &[
+    (
+        &["verify", "test", "check"],
+        "age_tool decrypt --pass FILE IN /dev/null checks all of IN",
+    ),
+    (
+        &["list", "ls", "info", "show"],
+        "age_tool inspect FILE shows its header",
+    ),
+    (
+        &["extract", "open", "restore"],
+        "age_tool decrypt --pass FILE IN OUT decrypts",
+    ),
+    (&["keygen"], "age_tool makes no keys; age-keygen does"),
+    (&["version"], "the version is shown by age_tool --version"),
+];
+
+const OPTION_HINTS: Hints = &[
+    (
+        &["-d", "--decrypt"],
+        "age_tool decrypt --pass FILE IN OUT decrypts",
+    ),
+    (
+        &["-e", "--encrypt", "-c", "--symmetric"],
+        "age_tool encrypt --pass FILE IN OUT encrypts",
+    ),
+    (
+        &["-p", "--passphrase"],
+        "the passphrase is read from a file: --pass FILE",
+    ),
+    (
+        &["-o", "--output"],
+        "OUT is the last word, without an option",
+    ),
+    (
+        &["-i", "--identity"],
+        "for a key file (a release's Python module): python3 -m agefile decrypt --identity FILE IN OUT",
+    ),
+    (
+        &["-r", "--recipient"],
+        "for a recipient (a release's Python module): python3 -m agefile encrypt --recipient KEY IN OUT",
+    ),
+    (
+        &["-R", "--recipients-file"],
+        "for recipients (a release's Python module): python3 -m agefile encrypt --recipients-file FILE IN OUT",
+    ),
+    (
+        &["-a", "--armor"],
+        "age_tool doesn't do armor: leave it out",
+    ),
+    (
+        &["-f", "--force", "--overwrite", "--yes"],
+        "without --no-clobber an existing OUT is overwritten",
+    ),
+    (
+        &["-v", "--verbose"],
+        "--progress shows how far a run is, and age_tool --version the version",
+    ),
+    (
+        &["-q", "--quiet"],
+        "leave it out: without --progress a run that succeeds says little",
+    ),
+];
+
+/// What such a table says of a word.
+fn hint_among(hints: Hints, word: &str) -> Option<&'static str> {
+    for (words, hint) in hints {
+        if words.iter().any(|it| *it == word) {
+            return Some(*hint);
+        }
+    }
+    None
+}
+
 /// What people read about words with which the parser fails: help, the version, or why they are
 /// refused. In a refusal, what can't be shown of a word is shown by its code, as in `age_messages`,
 /// an option or a command of another program gets a hint, and the first line is in the words of
@@ -80,8 +157,7 @@ fn codes_of(alloc: Global, word: &str) -> Result<String, AllocError> {
 }
 
 /// The text with a hint instead of the parser's tip, if it is about an option or a command that isn't
-/// ours; and with what opens a file among the arguments that are missing. (The parser proposes a name
-/// that begins with a dash.)
+/// ours; and with what opens a file among the arguments that are missing.
 fn with_hint(alloc: Global, words: &[&str], text: String) -> Result<String, AllocError> {
     let (Some((first, rest)), Some((_, usage))) = (
         text.as_str().split_once("\n\n"),
@@ -89,25 +165,37 @@ fn with_hint(alloc: Global, words: &[&str], text: String) -> Result<String, Allo
     ) else {
         return Ok(text);
     };
+    match hint_after(first, rest, usage, words) {
+        Some((before, hint, after)) => {
+            format!(in alloc; "{first}{before}{hint}{after}\n\nUsage: {usage}")
+        }
+        None => Ok(text),
+    }
+}
+
+/// What follows the parser's first lines in place of its tip: a hint, with the words around it. (The
+/// parser proposes a name that begins with a dash.)
+fn hint_after<'t>(
+    first: &'t str,
+    rest: &str,
+    usage: &str,
+    words: &[&str],
+) -> Option<(&'static str, &'t str, &'static str)> {
     if first.starts_with("error: the following required arguments were not provided:")
         && let Some(missing) = missing_choice(usage, words)
     {
-        return format!(in alloc; "{first}\n  {missing}\n\nUsage: {usage}");
+        return Some(("\n  ", missing, ""));
     }
-    let has_tip = rest.starts_with("  tip: ");
-    if let Some(hint) = unrecognized(first).and_then(|word| command_hint_of(word, has_tip)) {
-        return format!(in alloc; "{first}\n\n  tip: {hint}\n\nUsage: {usage}");
+    if let Some(word) = unrecognized(first) {
+        let hint = command_hint_of(word, rest.starts_with("  tip: "))?;
+        return Some(("\n\n  tip: ", hint, ""));
     }
-    let Some(word) = unexpected(first) else {
-        return Ok(text);
-    };
-    match hint_of(word) {
-        Some(hint) => format!(in alloc; "{first}\n\n  tip: {hint}\n\nUsage: {usage}"),
-        None if rest.starts_with("  tip: to pass '") => format!(in alloc;
-            "{first}\n\n  tip: for a file of that name, write './{word}'\n\nUsage: {usage}"
-        ),
-        None => Ok(text),
+    let word = unexpected(first)?;
+    if let Some(hint) = hint_of(word) {
+        return Some(("\n\n  tip: ", hint, ""));
     }
+    let is_name = rest.starts_with("  tip: to pass '");
+    is_name.then_some(("\n\n  tip: for a file of that name, write './", word, "'"))
 }
 
 /// The options of which one is missing, where a command needs one of several: the parser doesn't
@@ -150,17 +238,11 @@ fn unrecognized(first: &str) -> Option<&str> {
 /// What to give instead of a command that other programs have; or else which commands there are, if
 /// the parser gives no tip.
 fn command_hint_of(word: &str, has_tip: bool) -> Option<&'static str> {
-    match word {
-        "verify" | "test" | "check" => {
-            Some("age_tool decrypt --pass FILE IN /dev/null checks all of IN")
-        }
-        "list" | "ls" | "info" | "show" => Some("age_tool inspect FILE shows its header"),
-        "extract" | "open" | "restore" => Some("age_tool decrypt --pass FILE IN OUT decrypts"),
-        "keygen" => Some("age_tool makes no keys; age-keygen does"),
-        "version" => Some("the version is shown by age_tool --version"),
-        _ if has_tip => None,
-        _ => Some("the commands are encrypt, decrypt, resume, inspect, drill and help"),
+    let hint = hint_among(COMMAND_HINTS, word);
+    if hint.is_none() && !has_tip {
+        return Some("the commands are encrypt, decrypt, resume, inspect, drill and help");
     }
+    hint
 }
 
 /// The word that the parser's text says is unexpected.
@@ -173,39 +255,8 @@ fn unexpected(text: &str) -> Option<&str> {
 
 /// What to give instead of an option of `age` or `gpg`.
 fn hint_of(word: &str) -> Option<&'static str> {
-    match word {
-        "-d" | "--decrypt" => Some("age_tool decrypt --pass FILE IN OUT decrypts"),
-        "-e" | "--encrypt" | "-c" | "--symmetric" => {
-            Some("age_tool encrypt --pass FILE IN OUT encrypts")
-        }
-        "-p" | "--passphrase" => Some("the passphrase is read from a file: --pass FILE"),
-        "-o" | "--output" => Some("OUT is the last word, without an option"),
-        "-i" | "--identity" => {
-            Some(
-                "for a key file (a release's Python module): python3 -m agefile decrypt --identity FILE IN OUT",
-            )
-        }
-        "-r" | "--recipient" => {
-            Some(
-                "for a recipient (a release's Python module): python3 -m agefile encrypt --recipient KEY IN OUT",
-            )
-        }
-        "-R" | "--recipients-file" => {
-            Some(
-                "for recipients (a release's Python module): python3 -m agefile encrypt --recipients-file FILE IN OUT",
-            )
-        }
-        "-a" | "--armor" => Some("age_tool doesn't do armor: leave it out"),
-        "-f" | "--force" | "--overwrite" | "--yes" => {
-            Some("without --no-clobber an existing OUT is overwritten")
-        }
-        "-v" | "--verbose" => {
-            Some("--progress shows how far a run is, and age_tool --version the version")
-        }
-        "-q" | "--quiet" => {
-            Some("leave it out: without --progress a run that succeeds says little")
-        }
-        _ if !word.starts_with('-') => Some("a command takes one IN and one OUT at a time"),
-        _ => None,
+    if !word.starts_with('-') {
+        return Some("a command takes one IN and one OUT at a time");
     }
+    hint_among(OPTION_HINTS, word)
 }

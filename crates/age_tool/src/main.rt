@@ -3,13 +3,10 @@
 //! status that it returns. It answers `help N` and `help NAME`, about a fault, itself.
 #![tactic(auto)]
 
-mod faults;
-
-use crate::faults::row_of;
 use age_cli::run;
 use age_cli_args::read_request;
 use age_disk::{HostFiles, HostOut, Watched};
-use age_hints::{Heard, Refusals, explain};
+use age_hints::{Heard, Refusals, explain, row_asked};
 use age_io::{Reading, Writing};
 use age_messages::{LineStyle, ProgressLine, RunFailures, announce_reading, explain_words};
 use clap::error::ErrorKind;
@@ -49,31 +46,6 @@ fn progress_style(rt: &HostRuntime) -> LineStyle {
     } else {
         LineStyle::Separate
     }
-}
-
-/// What the words ask for if they are `help N` or `help NAME`: what this fault means.
-fn row_asked(words: &[&str]) -> Option<&'static str> {
-    if words.len() != 2 || words[0] != "help" {
-        return None;
-    }
-    let word = words[1];
-    if let Ok(number) = word.parse() {
-        return row_of(number);
-    }
-    for number in 1..=u8::MAX {
-        let row = row_of(number)?;
-        if name_in(row) == Some(word) {
-            return Some(row);
-        }
-    }
-    None
-}
-
-/// The name of the fault that a row is about: it follows the number in the first line.
-fn name_in(row: &str) -> Option<&str> {
-    let (first, _) = row.split_once('\n')?;
-    let (_, name) = first.split_once(' ')?;
-    Some(name)
 }
 
 /// Prints what a fault means.
