@@ -4,6 +4,7 @@ import shutil
 import subprocess
 import sys
 import time
+import types
 import unittest.mock
 
 from tests.case import Case, needs
@@ -148,6 +149,52 @@ class CheckoutTest(Case):
                 it = made(1, at)
                 self.see(f"{name}: in the checkout", it.keep(self.path("it")).parent == self.path("here") and it.found(), it.places)
                 shutil.rmtree(self.path("here"))
+
+    def test_kept_first(self):
+        """What an earlier run proved is taken before the rest is planned; what stands on a changed crate isn't, nor are tests that don't exist."""
+        calls, plans, crates = [], [], [types.SimpleNamespace(name=it, has_tests=lambda it=it: it in "bc") for it in "abcd"]
+
+        class Kept:
+            def __init__(kept, crates, anew=False):
+                kept.at, kept.anew = self.room, anew
+
+            def key(self, crate):
+                return crate.name
+
+            def place(self, crate, tests, key):
+                return f"{self.at}/{'tests' if tests else 'proof'}-{key}"
+
+        def in_lanes(tasks):
+            plans.append({key: waits for key, (waits, *_) in tasks.items()})
+            given = {}
+            for key, (*_, call) in tasks.items():
+                given[key] = call(given, 4)
+            return given
+
+        def task(*key, waits=()):
+            def call(given, jobs):
+                calls.append((*key, jobs, *(given[it] for it in waits)))
+                return key
+            return key, ([*waits], 1, 1, call)
+
+        for it in ("proof-a", "proof-b", "tests-b", "proof-d"):
+            self.path(it).mkdir()
+        rt = types.SimpleNamespace(Kept=Kept, in_lanes=in_lanes)
+        libraries.kept_first(rt)
+        below = {"a": [], "b": [("a", "proof")], "c": [("b", "proof")], "d": [("b", "proof"), ("c", "proof")]}
+        tasks = dict(task(name, kind, waits=waits) for name, waits in below.items() for kind in ("proof", "tests"))
+        tasks |= [task("a", "edits", 0, waits=[("a", "proof"), ("a", "tests")])]
+        for anew in (False, True):
+            calls.clear()
+            rt.Kept(crates, anew)
+            given = rt.in_lanes(tasks)
+            self.see(f"all have ended, {anew=}", given.keys() == tasks.keys() and given["a", "tests"] is True and given["c", "tests"], given)
+            if not anew:
+                taken = [("a", "proof", 1), ("b", "proof", 1, ("a", "proof")), ("b", "tests", 1, ("a", "proof"))]
+                self.see("what is kept comes first", calls[:3] == taken, calls)
+        left = {("c", "proof"): [], ("c", "tests"): [], ("d", "proof"): [("c", "proof")], ("a", "edits", 0): []}
+        self.see("the rest waits for what is left", plans[0] == left, plans[0])
+        self.see("anew, nothing is taken", [*plans[1]] == [it for it in tasks if it not in (("a", "tests"), ("d", "tests"))], plans[1])
 
     def test_variables(self):
         """`check` tests what it proved, and not what a variable names."""

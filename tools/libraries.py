@@ -5,6 +5,7 @@ usage: python3 -m tools.libraries CRATE     prints the path of a static library,
        python3 -m tools.libraries --all     proves the workspace in which it is called, as `rt ci` does, in less time
        python3 -m tools.libraries --build   the same for a program that is to be used, which only LLVM compiles
 """
+import collections
 import concurrent.futures
 import contextlib
 import functools
@@ -216,6 +217,38 @@ def kept_as_made(rt, keep):
     return kept_too
 
 
+def kept_first(rt):
+    """Lets a run of `rt ci` take what an earlier one proved before it plans the rest. A proof gets the processors that no other waits for,
+    and what is only taken would count as one that does, as would the tests of a crate that has none."""
+    begun, in_lanes = [], rt.in_lanes
+
+    class Kept(rt.Kept):
+        def __init__(self, crates, *words):
+            super().__init__(crates, *words)
+            begun.append((self, {it.name: it for it in crates}))
+
+    def is_kept(kept, crate, tests):
+        return kept.at and not kept.anew and os.path.isdir(kept.place(crate, tests, kept.key(crate)))
+
+    def planned(tasks):
+        (kept, crates), done = begun[-1], {}
+        for key, (waits, _, _, call) in tasks.items():
+            crate, tests = crates[key[0]], key[1] == "tests"
+            if tests and not crate.has_tests():
+                done[key] = True
+            elif key[1] in ("proof", "tests") and all(map(done.get, waits)) and is_kept(kept, crate, tests):
+                done[key] = call(done, 1)
+
+        def over_done(call):
+            return lambda given, jobs: call(collections.ChainMap(given, done), jobs)
+
+        left = {key: ([it for it in waits if it not in done], lines, needs, over_done(call))
+                for key, (waits, lines, needs, call) in tasks.items() if key not in done}
+        return {**done, **in_lanes(left)}
+
+    rt.Kept, rt.in_lanes = Kept, planned
+
+
 def prove_all(makes_program):
     """`rt ci` in less time: with both compilers of the program at work at once, with the static library made as it is proved, and planned
     with two thirds of the memory, which is twice what most crates were seen to take, so that on a small machine few would be proved side
@@ -229,6 +262,7 @@ def prove_all(makes_program):
         rt.Kept.keep = kept_as_made(rt, rt.Kept.keep)
         if makes_program:
             rt.Kept.give = given_as_made(rt, rt.Kept.give)
+        kept_first(rt)
     return rt.main(["ci"])
 
 
