@@ -97,6 +97,21 @@ class DiskTest(FilesCase):
         self.expect(1, chunk_fault(2), "decrypt --pass pass --save nowhere cut /dev/null")
         self.remove("nowhere")
 
+    def test_terminal_beside_a_device(self):
+        """The terminal, whichever that is, isn't taken for a device that is none: what is said is that there is no terminal here."""
+        for major, minor in ((9, 128), (10, 183), (1, 11)):
+            self.remove("device")
+            try:
+                os.mknod(self.path("device"), stat.S_IFCHR | 0o600, os.makedev(major, minor))
+            except PermissionError:
+                return self.leave_out("a character device", "none can be made")
+            name = f"the terminal and device {major}:{minor}"
+            said = b"age_tool: 26 Read\n" + reason("open /dev/tty", errno.ENXIO)
+            self.expect(1, said, "decrypt --pass /dev/tty device new", name, start_new_session=True)
+        self.remove("device")
+        os.mknod(self.path("device"), stat.S_IFCHR | 0o600, os.makedev(4, 64))
+        self.expect(2, twice("/dev/tty", "device"), "decrypt --pass /dev/tty device new", "the terminal and another", start_new_session=True)
+
     def device(self, name, held):
         """A block device over a file until the test ends. The test is left out if there is none."""
         self.write(name, held + bytes(-len(held) % 4096))
@@ -119,6 +134,10 @@ class DiskTest(FilesCase):
             self.expect(2, twice(to, age), ["encrypt", "--pass", "pass", "--log", "4", age, to])
             self.expect(2, twice(to, age), ["decrypt", "--pass", "pass", "--save", to, age, "new"])
         self.see("the device that is read is kept", pathlib.Path(age).read_bytes() == image and not self.is_there("new"))
+        said = WRITE + reason(f"write {other}", "it exists, and --no-clobber was given")
+        self.expect(1, said, ["decrypt", "--no-clobber", "--pass", "pass", "--save", other, "cut", "new"], "a device isn't replaced")
+        with open(other, "rb") as device:
+            self.see("a device isn't replaced: it", not any(device.read(4096)) and not self.is_there("new"))
         self.expect(0, b"", ["decrypt", "--pass", "pass", "age", other], "OUT is a block device")
         with open(other, "rb") as device:
             self.see("OUT is a block device: its bytes", device.read(len(PLAIN)) == PLAIN)

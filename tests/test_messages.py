@@ -117,6 +117,7 @@ REFUSED = (
     ("encrypt --pass pass --random wrong plain back", "bad random file", "wrong: it holds 12 of 48 bytes"),
     ("drill --pass pass script plain.age", "bad script line 2", "script:2: no line of a script, or it reaches past the payload's end"),
     ("drill --clear 1script plain", "bad script line 1", "./1script:1: no line of a script, or it reaches past the payload's end"),
+    ("drill --clear \uff11script plain", "bad script line 1", "./\uff11script:1: no line of a script, or it reaches past the payload's end"),
     ("drill --clear long none", "script too long", "long: it has more than 1,000 lines or 1,048,576 bytes"),
     ("drill --clear script huge", "payload too long", "huge: its payload has more than 16,777,216 bytes"),
     ("encrypt --pass pass plain ./plain", TWICE, "./plain and plain are the same file"),
@@ -182,7 +183,8 @@ class MessagesTest(Case):
         """No file changes."""
         for name, held in (("newline", b"\n"), ("letters", 65_537 * b"x"), ("script", b"end\nstop\n"), ("long", 1_001 * b"end\n"), ("huge", bytes(16_777_217))):
             self.write(name, held)
-        self.write("1script", b"end")
+        for name in ("1script", "\uff11script", " script"):
+            self.write(name, b"end")
         os.mkfifo(self.path("fifo"))
         files = [it for it in self.room.iterdir() if it.is_file()]
         before = [it.read_bytes() for it in files]
@@ -191,6 +193,8 @@ class MessagesTest(Case):
             said = f"age_tool: {line}\nage_tool: {said}\n".encode()
             self.see(words, (ended.returncode, ended.stderr + ended.advice) == (2, said), ended.stderr, ended.advice)
         ended = self.tool("encrypt", "--no-sync", "--pass", "pass", "", "")
+        said = self.tool("drill", "--clear", " script", "plain").stderr
+        self.see("a name that begins with a blank", said.splitlines()[1].startswith(b"age_tool: ./ script:1: no line of a script"), said)
         self.see("two empty names", ended.stderr == f'age_tool: {TWICE}\nage_tool: IN and OUT are the same file: ""\n'.encode(), ended.stderr)
         self.see("no file changes", [it.read_bytes() for it in files] == before and not self.is_there("back"))
 

@@ -456,6 +456,18 @@ class ProgramTest(Case):
         with open(self.path("cut.age"), "rb") as cut:
             ended = self.decrypt("--save=position", "/dev/stdin", "part", stdin=cut)
         self.see("standard input has no name", ended.advice.endswith(command % b"--pass pass IN"), ended.advice)
+        with open(self.path("cut.age"), "rb") as cut:
+            ended = self.decrypt("--save=position", "/dev/fd/0", "part", stdin=cut)
+        self.see("nor has a descriptor", ended.advice.endswith(command % b"--pass pass IN"), ended.advice)
+        with open(self.path("pass"), "rb") as word:
+            ended = self.tool(*"decrypt --pass /proc/self/fd/0 --save position cut.age part".split(), stdin=word)
+        self.see("the passphrase of a descriptor", ended.advice.endswith(command % b"--pass FILE cut.age"), ended.advice)
+        ended = self.decrypt("--save", "/dev/null", "cut.age", "part")
+        told = said.replace(b"saved in position", b"saved in /dev/null").replace(b"--position position", b"--position POSITION")
+        self.see("a position that a device took", ended.advice.endswith(told), ended.advice)
+        with open(self.path("copy"), "wb") as out:
+            ended = self.decrypt("--save=position", "cut.age", "/dev/fd/1", stdout=out)
+        self.see("whose old output is that of a descriptor", ended.advice.endswith(said.replace(b"part", b"OLD")), ended.advice)
         self.remove("position")
         ended = self.decrypt("--save=position", "cut.age", "/dev/stdout")
         self.see("whose old output is elsewhere", ended.advice.endswith(said.replace(b"part", b"OLD")), ended.advice)

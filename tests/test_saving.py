@@ -123,6 +123,16 @@ class SavingTest(FilesCase):
         self.expect(1, chunk_fault(2), "decrypt --pass pass --save saved cut new", "a later run with the file of --save")
 
     @needs("cc")
+    def test_replaced_before_its_lock(self):
+        """A file of `--save` that another run replaces just before this one locks it is that run's."""
+        self.write("saved", b"an old position")
+        self.write("another", b"that run's position")
+        name = "the file of --save is replaced before it is locked"
+        self.expect(1, unwritten("saved", LOCKED), "decrypt --pass pass --save saved cut new", name, {"REPLACED": 1})
+        self.see(f"{name}: nothing was begun", not self.is_there("new") and self.read("saved") == b"that run's position")
+        self.see(f"{name}: nothing is left beside it", not list(self.room.glob("saved.new-*")))
+
+    @needs("cc")
     def test_two_new_saves(self):
         """Of two runs that save into one file that wasn't there, the second to stop is refused, and the first one's position stays."""
         for name, failing in (("two new positions", {}), ("two new positions without links", {"LINK": errno.EPERM})):

@@ -11,7 +11,7 @@
  *
  * SWAP: `folder` leads to `other` before that write to a place in a file. PIPED: before that open of `saved` to be written a pipe takes
  * its place. TURNED: as `cut` is opened, `saved` becomes a link to that. GONE: `out` is removed before it is opened to be written.
- * LOST: it is, before a file is locked. TRIGGER names a file that gets a 1 before the first sync. SYNCED names one that gets a line for each file that is synced.
+ * LOST: it is, before a file is locked. REPLACED: `another` takes the place of `saved` then. TRIGGER names a file that gets a 1 before the first sync. SYNCED names one that gets a line for each file that is synced.
  *
  * RECORD names a file that gets each call that succeeded and changes what a regular file holds or which names a folder has, waits for
  * the disk, locks, or closes what could be written to. A line has the name of the call and its arguments, with tabs between them: an inode where a file is meant, and a path
@@ -242,6 +242,7 @@ int ftruncate(int fd, off_t length) {
 int ftruncate64(int fd, off_t length) { return ftruncate(fd, length); }
 int flock(int fd, int how) {
     if (getenv("LOST")) NEXT(unlink)("out");
+    if (getenv("REPLACED")) NEXT(renameat2)(AT_FDCWD, "another", AT_FDCWD, "saved", 0);
     int ended = fails("FLOCK") ? -1 : ((int (*)(int, int))dlsym(RTLD_NEXT, "flock"))(fd, how), why = errno;
     ino_t file = regular(fd);
     if (file && (ended == 0 || why != EWOULDBLOCK)) note(ended == 0 ? "lock\t%lu\n" : "unlockable\t%lu\n", file);

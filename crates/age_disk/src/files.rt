@@ -300,7 +300,7 @@ impl<'r, 'w> HostFiles<'r, 'w> {
             self.failures.note_twice(prepared.name(), other);
             return Err(OpenFault::SameFile);
         }
-        match prepared.claim() {
+        match prepared.claim(self.rt) {
             Ok(()) => Ok(()),
             Err(error) => Err(self.refusal(prepared.name(), error)),
         }
@@ -344,7 +344,7 @@ fn prepared_now<'n>(
     durability: Durability,
 ) -> io::Result<Prepared<'n>> {
     let prepared = Prepared::new(alloc, rt, name, None, durability)?;
-    prepared.claim()?;
+    prepared.claim(rt)?;
     Ok(prepared)
 }
 

@@ -213,36 +213,37 @@ fn explain_work(rt: &HostRuntime, number: u8, file: Fill<'_>, work: Work) {
 /// isn't shown.
 fn key_again<'w>(failures: &RunFailures<'w>) -> (&'static str, Fill<'w>) {
     if let Some(name) = failures.named_by("--pass") {
-        ("--pass", Fill::Quoted(name))
+        ("--pass", Fill::Again(name, "FILE"))
     } else if let Some(name) = failures.named_by("--shared") {
-        ("--shared", Fill::Quoted(name))
+        ("--shared", Fill::Again(name, "FILE"))
     } else {
         ("--file-key", Fill::Text("HEX"))
     }
 }
 
-/// The input of a command that resumes. Standard input can't be named.
-fn input_again<'w>(failures: &RunFailures<'w>) -> Fill<'w> {
-    match failures.named_by("IN") {
-        Some(name) if name != "/dev/stdin" => Fill::Quoted(name),
-        _ => Fill::Text("IN"),
+/// The file of the position in a command that resumes. A pipe or a device doesn't hold it.
+fn position_again<'w>(rt: &HostRuntime, saved: &'w str) -> Fill<'w> {
+    if is_kept(rt, saved) {
+        Fill::Again(saved, "POSITION")
+    } else {
+        Fill::Text("POSITION")
     }
 }
 
-/// Says how to resume from a position that was saved, by a command for a shell.
+/// Says how to resume from a position that was saved, by a command for a shell. What the shell
+/// can't open later has a word in its place.
 fn tell_command<'w>(rt: &HostRuntime, saved: &'w str, old: &'w str, failures: &RunFailures<'w>) {
     let (option, key) = key_again(failures);
-    let input = input_again(failures);
     say(
         rt,
         "position saved in @; to go on from there: age_tool resume --position @ --old @ @ @ @ NEW",
         &[
             Fill::Escaped(saved),
-            Fill::Quoted(saved),
-            Fill::Quoted(old),
+            position_again(rt, saved),
+            Fill::Again(old, "OLD"),
             Fill::Text(option),
             key,
-            input,
+            Fill::Again(failures.named_by("IN").unwrap_or("IN"), "IN"),
         ],
     );
     say(
@@ -278,10 +279,8 @@ fn is_kept(rt: &HostRuntime, name: &str) -> bool {
 fn tell_position(rt: &HostRuntime, failures: &RunFailures<'_>) {
     if let Some(saved) = failures.saved.get() {
         let output = failures.output.get();
-        if output == "/dev/stdout" {
-            // (The program can't say where that went.)
-            tell_command(rt, saved, "OLD", failures);
-        } else if is_kept(rt, output) {
+        // (The program can't say where standard output went.)
+        if output == "/dev/stdout" || is_kept(rt, output) {
             tell_command(rt, saved, output, failures);
         } else {
             say(

@@ -18,6 +18,8 @@ pub(crate) enum Fill<'a> {
     Escaped(&'a str),
     /// A word for a shell.
     Quoted(&'a str),
+    /// The same for a file that a later command can open; else what stands for its name.
+    Again(&'a str, &'static str),
     Number(u64),
     Work(Work),
 }
@@ -34,11 +36,19 @@ impl<'a> Display for Fill<'a> {
             }
             Fill::Leading(name) => Leading(name.as_bytes()).fmt(f),
             Fill::Escaped(name) => Escaped(name.as_bytes()).fmt(f),
-            Fill::Quoted(word) => Quoted(word).fmt(f),
+            Fill::Again(name, stands) if is_of_this_run(name) => f.write_str(stands),
+            Fill::Quoted(word) | Fill::Again(word, _) => Quoted(word).fmt(f),
             Fill::Number(number) => number.fmt(f),
             Fill::Work(work) => work.fmt(f),
         }
     }
+}
+
+/// Whether a name leads to a stream or a descriptor that only this run had.
+fn is_of_this_run(name: &str) -> bool {
+    ["/dev/fd/", "/proc/self/fd/", "/dev/std"]
+        .iter()
+        .any(|it| name.starts_with(*it))
 }
 
 /// A sentence whose places, each an `@`, are filled in, in their order.

@@ -15,11 +15,11 @@ const WORD_MAX: usize = 8192;
 /// From this many bytes on, handling them takes long.
 const LONG: u64 = 64 << 20;
 
-/// Says on standard error which word of the command line isn't UTF-8. One that is longer than any
-/// path isn't shown.
+/// Says on standard error which word of the command line isn't UTF-8; it may be the program's own
+/// path. One that is longer than any path isn't shown.
 pub fn explain_words(rt: &HostRuntime) {
     let mut word = [0; WORD_MAX];
-    for i in 1..=u16::MAX {
+    for i in 0..=u16::MAX {
         match rt.arg(i as usize, &mut word) {
             Ok(n) if show_unread(rt, &word[..n]) => return,
             Err(FillError::NotPresent) => return,

@@ -39,14 +39,16 @@ fn is_cut(word: &[u8]) -> bool {
     count > SHOWN_MAX
 }
 
-/// A word at the beginning of a line, as `Escaped` shows it. A name that begins with a digit gets
-/// `./`, so that no line that begins with a name looks like a fault's.
+/// A word at the beginning of a line, as `Escaped` shows it. A name that begins with a digit of any
+/// script, or with a blank, gets `./`, so that no line that begins with a name looks like a fault's.
 #[derive(Clone, Copy)]
 pub struct Leading<'a>(pub &'a [u8]);
 
 impl<'a> fmt::Display for Leading<'a> {
     fn fmt<W: fmt::Write>(&self, f: &mut Formatter<W>) -> fmt::Result {
-        if self.0.first().is_some_and(u8::is_ascii_digit) {
+        let text = self.0.utf8_chunks().next();
+        let first = text.and_then(|it| it.valid().chars().next());
+        if first.is_some_and(|it| it.is_numeric() || it.is_whitespace()) {
             f.write_str("./")?;
         }
         fmt::Display::fmt(&Escaped(self.0), f)

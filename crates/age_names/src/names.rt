@@ -252,8 +252,12 @@ impl StreamId {
     /// Whether two are one stream, as far as the system shows.
     pub fn is_same(self, other: StreamId) -> bool {
         match (self, other) {
-            (StreamId::Device(CONTROLLING_TERMINAL), StreamId::Device(_))
-            | (StreamId::Device(_), StreamId::Device(CONTROLLING_TERMINAL)) => true,
+            (StreamId::Device(CONTROLLING_TERMINAL), StreamId::Device(device))
+            | (StreamId::Device(device), StreamId::Device(CONTROLLING_TERMINAL)) => {
+                // (By their major numbers memory, tapes and devices without a kind of their own, as a
+                // generator of random bytes, are no terminals.)
+                !matches!(device >> 8 & 0xfff, 1 | 9 | 10)
+            }
             _ => self == other,
         }
     }

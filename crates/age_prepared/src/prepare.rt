@@ -104,12 +104,18 @@ impl<'n> Prepared<'n> {
         Ok(())
     }
 
-    /// Takes the file that was found for this run alone. Fails if another run has it.
-    pub fn claim(&self) -> io::Result<()> {
-        if let Found::File(file) = &self.found {
-            lock(file)?;
+    /// Takes the file that was found for this run alone. Fails if another run has it, or put a file of
+    /// its own in its place before it was locked: this lock wouldn't hold that one.
+    pub fn claim(&self, rt: &HostRuntime) -> io::Result<()> {
+        let Found::File(file) = &self.found else {
+            return Ok(());
+        };
+        lock(file)?;
+        if id_in(rt, &self.resolved)? == FileId::of(&file.metadata()?) {
+            Ok(())
+        } else {
+            Err(io::Error::from(io::ErrorKind::ResourceBusy))
         }
-        Ok(())
     }
 
     /// The file that was found, which this run has claimed, if it is this one.
@@ -282,10 +288,16 @@ fn check_found(
     }
 }
 
-/// Whether a regular file that isn't empty has this name, other than the one that is spared.
+/// Whether a block device has this name, or a regular file that isn't empty, other than the one that
+/// is spared.
 pub fn is_of_use(rt: &HostRuntime, name: &str, spared: Option<FileId>) -> io::Result<bool> {
     match led_to(rt, name)? {
-        Some(found) => Ok(found.is_file() && found.len() > 0 && FileId::of(&found) != spared),
+        Some(found) => Ok(holds_bytes(&found) && FileId::of(&found) != spared),
         None => Ok(false),
     }
+}
+
+/// Whether a file has bytes that would be written over.
+fn holds_bytes(found: &Metadata) -> bool {
+    found.file_type().is_block_device() || found.is_file() && found.len() > 0
 }
