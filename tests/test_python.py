@@ -341,6 +341,10 @@ class PythonTest(BindingsCase):
         ):
             run = self.command(*words)
             self.see(f"-m agefile {words} names the file", (run.returncode, run.stderr.decode()) == (1, f"agefile: {said}\n"), run.stderr)
+        run = self.command("test", "--pass", "pw", "made.age", "a\x1b[2J\rb")
+        self.see("a name that is one too many", run.returncode == 2 and rb"a\x1b[2J\rb" in run.stderr and b"\x1b" not in run.stderr, run.stderr)
+        run = self.command("decrypt", "--workers", "2", "--pass", "pw", "made.age", "none/out")
+        self.see("a folder that doesn't exist", (run.returncode, run.stderr) == (1, b"agefile: none/out: No such file or directory\n"), run.stderr)
         run = self.command("decrypt", "--pass", "pw", "made.age", "/dev/full")
         self.see("a full disk is said of OUT", (run.returncode, b"/dev/full" in run.stderr) == (1, True), run.stderr)
         data = self.path("made.age").read_bytes()
@@ -390,6 +394,13 @@ class PythonTest(BindingsCase):
             self.write("synced", b"")
             run = self.command(*words.split(), "--pass", "pw", env=shim.loaded(SYNCED=self.path("synced"), **({"FSYNC": error} if error else {})))
             self.see(f"{words}: {want}", [run.returncode, *map(os.path.basename, self.read("synced").decode().split())] == want, run.stderr)
+
+        with open(self.path("copy"), "wb") as out:
+            self.write("synced", b"")
+            words = [sys.executable, "-B", "-m", "agefile", "salvage", "--pass", "pw", "new", "-"]
+            env = {**shim.loaded(SYNCED=self.path("synced")), "PYTHONPATH": str(PYTHON)}
+            run = subprocess.run(words, cwd=self.room, env=env, stdout=out)
+        self.see("salvage to standard output", run.returncode == 0 and self.read("synced").endswith(b"/copy\n"), self.read("synced"))
 
     def slow_command(self, data, *words, size=90_000):
         """The same, with a standard input that doesn't block, and to which the data comes in pieces, some after the program began."""

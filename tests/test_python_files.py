@@ -1,5 +1,5 @@
 """Tries the file objects of the Python module: what they seal, seeks, sources that fail, that don't block or come in pieces, writers that
-nobody closes, what is left after close, threads, and calls from inside a call."""
+nobody closes, and what is left after close."""
 import contextlib
 import copy
 import csv
@@ -9,7 +9,6 @@ import os
 import pickle
 import random
 import shutil
-import signal
 import sys
 import tarfile
 import threading
@@ -112,8 +111,12 @@ class Interruption(BaseException):
     """What a signal's handler raises."""
 
 
-def interrupted_at(turn, folder, call):
-    """Makes a call, and raises at the place of this number, of those in a folder's code where Python runs handlers: where a function
+def interrupt():
+    raise Interruption
+
+
+def interrupted_at(turn, folder, call, handler=interrupt):
+    """Makes a call, and runs a handler at the place of this number, of those in a folder's code where Python runs handlers: where a function
     begins, and where a call that it made returned. Whether there was such a place. (Where the outermost function has returned it is for
     the caller to know.)"""
     left, depth = turn, 0
@@ -126,16 +129,16 @@ def interrupted_at(turn, folder, call):
             left -= 1
             if left == -1:
                 sys.setprofile(None)
-                raise Interruption
+                handler()
 
     sys.setprofile(profile)
     try:
         call()
     except Interruption:
-        return True
+        pass
     finally:
         sys.setprofile(None)
-    return False
+    return left < 0
 
 
 def together(calls):
@@ -154,38 +157,6 @@ def together(calls):
     for it in threads:
         it.join()
     return faults
-
-
-def two_writers(turn):
-    """What is wrong after two threads, or four, wrote to one file and then closed it."""
-    out = io.BytesIO()
-    file = agefile.open(out, "wb", passphrase="pw", work=1)
-    count = 2 + 2 * (turn % 2)
-
-    def writes(number):
-        for _ in range(20):
-            file.write(bytes([number]) * 50_000)
-            file.flush()
-
-    faults = together([lambda number=number: writes(number) for number in range(count)]) + together([file.close] * count)
-    fault, text = by_python(out.getvalue(), passphrase="pw")
-    pieces = [text[at:at + 50_000] for at in range(0, len(text), 50_000)]
-    mixed = sum(len(set(it)) != 1 for it in pieces)
-    wrong = [it for it in range(count) if text.count(it) != 1_000_000]
-    return "" if (faults, fault, mixed, wrong) == ([], (0, None), 0, []) else f"{faults} {fault}, {mixed} mixed pieces, {wrong}"
-
-
-def readers(data, any_place):
-    """The numbers, of 24 bytes each, that four threads read from one file. (Some lie in two chunks.)"""
-    found = []
-    with agefile.open(io.BytesIO(data), file_key=KEY, random_access=any_place) as file:
-        def reads():
-            while piece := file.read(24):
-                found.append(int.from_bytes(piece, "big"))
-                file.tell()
-
-        faults = together([reads] * 4)
-    return faults or sorted(found)
 
 
 class PythonFilesTest(BindingsCase):
@@ -787,53 +758,3 @@ class PythonFilesTest(BindingsCase):
         one, other = (types.SimpleNamespace(read=io.BytesIO(data).read, seek=lambda *_: 0) for _ in range(2))
         self.see("no `tell`", agefile.open(one, file_key=KEY).read() == b"text")
         self.see("no `tell`, at any place", raised(io.UnsupportedOperation, agefile.open, other, file_key=KEY, random_access=True))
-
-
-class ThreadsTest(BindingsCase):
-    """Several threads with one file. They change places as often as Python lets them."""
-
-    def setUp(self):
-        super().setUp()
-        self.addCleanup(sys.setswitchinterval, sys.getswitchinterval())
-        sys.setswitchinterval(1e-6)
-
-    def test_threads(self):
-        """Each call is whole."""
-        for turn in range(12):
-            found = two_writers(turn)
-            self.see(f"threads that write, {turn}", found == "", found)
-        data = self.sealed(b"".join(number.to_bytes(24, "big") for number in range(15_000)))
-        for any_place in (True, False):
-            self.see(f"threads that read, at any place {any_place}", readers(data, any_place) == list(range(15_000)))
-
-    def test_reentered(self):
-        """A call from inside another one on the same file, as a signal's handler may make it, is refused."""
-        class Under(io.BytesIO):
-            inside = None
-
-            def write(self, piece):
-                if self.inside:
-                    self.inside()
-                return super().write(piece)
-
-        under, found = Under(), []
-        file = agefile.open(under, "wb", passphrase="pw", work=1)
-        for call in (lambda: file.write(b"x"), file.flush, file.close, file.abandon):
-            under.inside = lambda call=call: found.append(raised(RuntimeError, call))
-            file.write(b"y" * 65_537)
-        under.inside = None
-        file.close()
-        self.see("a call from inside a write", found == [True] * 4, found)
-        self.see("what was written around such calls", by_python(under.getvalue(), passphrase="pw") == ((0, None), b"y" * 4 * 65_537))
-        under, refused, text = io.BytesIO(), [], 0
-        file = agefile.open(under, "wb", passphrase="pw", work=1)
-        kept = signal.signal(signal.SIGALRM, lambda *_: refused.append(raised(RuntimeError, file.write, b"x")))
-        signal.setitimer(signal.ITIMER_REAL, 0.001, 0.001)
-        while len(refused) < 30:
-            text += file.write(b"z" * 10_000)
-        signal.setitimer(signal.ITIMER_REAL, 0)
-        signal.signal(signal.SIGALRM, kept)
-        file.close()
-        fault, got = by_python(under.getvalue(), passphrase="pw")
-        want = (text, refused.count(False))
-        self.see("a handler of signals that writes", (fault, (got.count(b"z"), got.count(b"x"))) == ((0, None), want), fault, len(got))

@@ -83,6 +83,8 @@ class KeysTest(BindingsCase):
         for name, keys, want in (
             ("one.age", key, b"hello, recipient\n"), ("one.age", [*other, *key], b"hello, recipient\n"), ("two.age", key, b"hello, both\n"),
             ("two.age", other, b"hello, both\n"), ("other.age", other, b"hello, other\n"), ("one.age", other, 13), ("passphrase.age", key, 12),
+            # (for a pair of numbers that anybody can guess, by tests/standard.py)
+            ("anyone.age", key, 13),
         ):
             of_file = "# of age-keygen\n\n" + "\r\n".join(keys) + "\n"
             for given in (keys, iter(keys), of_file, io.StringIO(of_file), [of_file, *keys], *(keys if len(keys) == 1 else [])):
@@ -309,6 +311,29 @@ class KeysTest(BindingsCase):
         run = subprocess.run([sys.executable, "-B", "-c", program, public], cwd=self.room, env=env, capture_output=True, text=True)
         said = run.stderr.splitlines()[-1]
         self.see("without cryptography", said == "ImportError: a file for a recipient needs the package cryptography" and path.read_bytes() == b"kept", said)
+
+    @needs_cryptography
+    def test_recipient_files(self):
+        """Only LF ends a line of a file of recipients, as in age, so that none is hidden in a comment; CR LF does, too. No recipient is passed over."""
+        mine = re.search(r"age1\w+", (AGE / "key.txt").read_text())[0]
+        other = re.search(r"age1\w+", (AGE / "other.txt").read_text())[0]
+        self.write("plain", b"a text")
+        for end in ("\r", "\v", "\f", "\x1c", "\x1d", "\x1e", "\x85", "\u2028", "\u2029"):
+            held = f"# of an old computer {end}{other}\n{mine}\r\n"
+            self.see(f"{end!r}: the keys in a text", agefile.identities_in(held) == [mine])
+            self.write("recipients", held.encode())
+            run = self.command("encrypt", "--recipients-file", "recipients", "plain", "made.age")
+            self.see(f"{end!r}: a recipient in a comment", run.returncode == 0 and self.read("made.age").count(b"-> X25519 ") == 1, run.stderr)
+            self.remove("made.age")
+        self.write("recipients", f"# caf\xe9\n{mine}\n".encode("latin-1"))
+        run = self.command("encrypt", "--recipients-file", "recipients", "plain", "made.age")
+        self.see("a comment that isn't UTF-8", run.returncode == 0 and self.is_there("made.age"), run.stderr)
+        self.remove("made.age")
+        run = self.command("encrypt", "--recipient", "", "--recipient", mine, "plain", "made.age")
+        self.see("an empty recipient", run.returncode == 1 and b"--recipient is empty" in run.stderr and not self.is_there("made.age"), run.stderr)
+        self.write("bad", b"# one\nage1bad\n")
+        run = self.command("encrypt", "--recipients-file", "recipients", "--recipients-file", "bad", "plain", "made.age")
+        self.see("the file of a bad one", run.returncode == 1 and run.stderr.startswith(b"agefile: bad: recipient 1: "), run.stderr)
 
     @needs("age", "age-keygen")
     @needs_cryptography

@@ -1,6 +1,8 @@
 """Tries what `python3 -m agefile` does to OUT: two runs on one file, also beside one of age_tool; a name that is taken while a run goes on; and
 what is left of runs by several threads that are stopped, on a file system that has files without a name, and on one that hasn't."""
+import contextlib
 import errno
+import fcntl
 import io
 import os
 import signal
@@ -120,6 +122,74 @@ class OutputTest(BindingsCase):
                     self.assertEqual(fault.exception.errno, error)
                 self.assertEqual(self.read("held"), b"" if is_taken else b"held")
 
+    def test_other_file_systems(self):
+        """Files without links, as FAT has them; locks of what is open for writing alone, as NFS has; one owner of all files, as both have."""
+        lock, path = fcntl.flock, str(self.path("out"))
+
+        def refused(*words, **more):
+            raise PermissionError(errno.EPERM, os.strerror(errno.EPERM))
+
+        def of_nfs(file, how):
+            if how & fcntl.LOCK_EX and fcntl.fcntl(file, fcntl.F_GETFL) & os.O_ACCMODE == os.O_RDONLY:
+                raise OSError(errno.EBADF, os.strerror(errno.EBADF))
+            return lock(file, how)
+
+        def put(is_new):
+            with agefile._output.replacing(path, is_new) as file:
+                file.write(b"text")
+
+        for what, changes in (
+            ("no links", {"os.link": refused}), ("locks of NFS", {"fcntl.flock": of_nfs}),
+            ("one owner", {"os.geteuid": lambda owner=os.geteuid(): owner + 1, "os.fchmod": refused}),
+        ):
+            self.remove("out")
+            with contextlib.ExitStack() as patched:
+                for name, call in {**changes, "agefile._output._without_name": lambda folder: None}.items():
+                    patched.enter_context(unittest.mock.patch(name, call))
+                put(True)
+                self.see(f"{what}: a new file", self.read("out") == b"text" and not self.is_there("out.agefile-part"), self.names())
+                self.path("out").chmod(0o600)
+                self.see(f"{what}: a name that is taken", raised(FileExistsError, put, True) and self.read("out") == b"text")
+                self.write("out", b"as it was", 0o600)
+                put(False)
+                self.see(f"{what}: a file that is replaced", self.read("out") == b"text" and not self.is_there("out.agefile-part"), self.names())
+
+    def redirected(self, words, redirections, **more):
+        """The same by a shell, which may close streams."""
+        line = f'exec "{sys.executable}" -m agefile {words} {redirections}'
+        return subprocess.run(["sh", "-c", line], cwd=self.room, env={**self.env, **more}, capture_output=True)
+
+    def test_unbuffered(self):
+        """A standard output that isn't buffered takes all, or the run fails."""
+        run = self.redirected("decrypt --pass pw in.age -", "> out", PYTHONUNBUFFERED="1")
+        self.see("it takes all", run.returncode == 0 and self.read("out") == self.text, run.stderr)
+        for words in ("decrypt --pass pw in.age -", "salvage --pass pw in.age -"):
+            line = f'ulimit -f 560; exec "{sys.executable}" -u -m agefile {words} > out'
+            run = subprocess.run(["sh", "-c", line], cwd=self.room, env=self.env, capture_output=True)
+            out = self.read("out")
+            self.see(f"{words}: without room", run.returncode == 1 and 262_144 < len(out) < LENGTH and self.text.startswith(out), len(out), run.stderr)
+        reader, writer = os.pipe()
+        os.set_blocking(writer, False)
+        run = subprocess.Popen([sys.executable, "-u", "-m", "agefile", "decrypt", "--pass", "pw", "in.age", "-"], cwd=self.room, env=self.env, stdout=writer)
+        os.close(writer)
+        with open(reader, "rb") as source:
+            time.sleep(0.5)
+            self.see("a pipe that doesn't block", source.read() == self.text and run.wait() == 0)
+
+    def test_closed_streams(self):
+        """What is closed is said to be, if it is needed; no message gets into the text."""
+        self.write("bad.age", flipped(self.data, -1))
+        for words, redirections, status, length in (
+            ("decrypt --pass pw bad.age -", "> out 2>&-", 1, 262_144), ("salvage --pass pw in.age out", "2>&-", 0, LENGTH),
+            ("salvage --pass pw in.age out", ">&-", 0, LENGTH), ("decrypt --pass pw - out", "<&-", 1, None),
+            ("decrypt --pass pw in.age -", ">&-", 1, None), ("inspect in.age", ">&-", 1, None),
+        ):
+            self.remove("out")
+            run = self.redirected(words, redirections)
+            held = self.read("out") if self.is_there("out") else None
+            right = run.returncode == status and b"Traceback" not in run.stderr and held == (None if length is None else self.text[:length])
+            self.see(f"{words} {redirections}", right, run.returncode, run.stderr)
+
     def test_replaced_meanwhile(self):
         """Who held the lock may have put another file in the place of the one that was opened."""
         self.write("out", b"text")
@@ -186,6 +256,16 @@ class OutputTest(BindingsCase):
             self.see("a name that is taken", (run.returncode, said) == (1, b"agefile: out: File exists\n"), run.returncode, said)
             same = self.read("out") == b"another" and {*self.names()} == {*before, "on", "out"} - {"out.agefile-part"}
             self.see("what is left", same, self.names())
+
+    def test_private(self):
+        """What is to replace a file that others may not read is as private while it is written."""
+        self.write("out", b"as it was", 0o600)
+        run = self.held(NAMED)
+        modes = [stat.S_IMODE(it.stat().st_mode) for it in self.room.glob("out*")]
+        self.write("on", b"")
+        _, said = run.communicate()
+        self.see("while it is written", modes == [0o600, 0o600], *map(oct, modes))
+        self.see("once it is", run.returncode == 0 and self.read("out") == self.text and stat.S_IMODE(self.path("out").stat().st_mode) == 0o600, said)
 
     def stopped(self, program, how):
         """Stops a run by several threads in the middle. Standard error of it."""

@@ -28,6 +28,9 @@ class WorkersTest(BindingsCase):
         self.see("another passphrase", raised(agefile.WrongKey, agefile.decrypt, data, passphrase="other", workers=4))
         for it, kind in ((0, ValueError), (65, ValueError), ("2", TypeError)):
             self.see(f"{it!r} workers", raised(kind, agefile.decrypt, data, file_key=KEY, workers=it))
+        for it in (None, 7, "text", [1, 2]):
+            for workers in (1, 2):
+                self.see(f"{it!r} as data, {workers} workers", raised(TypeError, agefile.decrypt, it, file_key=KEY, workers=workers))
 
     def test_faults(self):
         """The fault of the first chunk that has one, whoever finds it."""
@@ -79,6 +82,9 @@ class WorkersTest(BindingsCase):
         self.see("a sink that fails", raised(OSError, self.copied, data, lambda: io.BytesIO(data), fails))
         self.see("a source that fails", raised(OSError, self.copied, data, fails, lambda *_: None))
         self.see("a source that is shorter", raised(agefile.AgeError, self.copied, data, lambda: io.BytesIO(data[:-BLOCK]), lambda *_: None))
+        shorter = self.sealed(plain_of(LENGTH // 2))
+        with limited(60):
+            self.see("one that a writer with the key made", raised(agefile.Truncated, self.copied, data, lambda: io.BytesIO(shorter), lambda *_: None))
         other = agefile.encrypt(plain_of(LENGTH), passphrase="pw", work=1)
         self.see("a source that is another file", raised(agefile.WrongKey, self.copied, data, lambda: io.BytesIO(other), lambda *_: None))
         wait = threading.Event()

@@ -245,8 +245,10 @@ def open(file: Path | Source | Sink, mode: str = "rb", *, passphrase: str | Buff
         raise ValueError(f"mode is rb, wb, xb, rt, wt or xt, not {mode!r}")
     if not mode.endswith("t") and (encoding, errors, newline) != (None, None, None):
         raise ValueError("encoding, errors and newline are for text alone")
+    mark = b""
     if mode.endswith("t"):
-        io.TextIOWrapper(io.BytesIO(), encoding, errors, newline)  # which says what of these can't be
+        tried = io.TextIOWrapper(io.BytesIO(), encoding, errors, newline)  # which says what of these can't be
+        mark = _MARKS.get(codecs.lookup(tried.encoding).name, b"")  # (that of "locale" has another name, which codecs knows)
     if mode[0] != "r" and random_access:
         raise ValueError("random_access is for reading alone")
     if mode[0] == "r" and recipient is not None:
@@ -269,8 +271,7 @@ def open(file: Path | Source | Sink, mode: str = "rb", *, passphrase: str | Buff
             made = kind(under, passphrase, file_key, shared, max_work, owned, identity)
         else:
             made = AgeWriter(under, beginning, owned)
-            if encoding is not None:
-                made.write(_MARKS.get(codecs.lookup(encoding).name, b""))
+            made.write(mark)
         return _Text(made, encoding, errors, newline) if mode.endswith("t") else made
     except BaseException:
         if owned:

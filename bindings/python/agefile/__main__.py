@@ -10,7 +10,7 @@ import stat
 import sys
 import time
 import warnings
-from typing import Any, Iterator
+from typing import Any, Iterator, NoReturn
 
 import agefile
 from agefile import _keys, _library
@@ -18,8 +18,8 @@ from agefile._arguments import WORK_MAX, secret
 from agefile._inspection import report_of
 from agefile._output import new_name, opened_alone, reach_disk, replacing
 from agefile._position import MOST, Position
-from agefile._recipients import beginning_of
-from agefile._source import filled, some
+from agefile._recipients import beginning_of, points_of
+from agefile._source import filled, put, some
 from agefile._workers import WORKERS_MAX, Places, copy_text, put_at
 
 FACTORS = range(1, WORK_MAX + 1)
@@ -49,6 +49,8 @@ def asked(what: str) -> str:
         with warnings.catch_warnings():
             warnings.simplefilter("error", getpass.GetPassWarning)
             return getpass.getpass(what)
+    except UnicodeDecodeError:  # which would show a byte of it
+        raise ValueError("what was typed isn't in the terminal's encoding: name the passphrase's file by --pass") from None
     except (EOFError, getpass.GetPassWarning):
         raise ValueError("no passphrase was typed: name its file by --pass, or run at a terminal") from None
 
@@ -59,8 +61,15 @@ def pieces(file: Any) -> Iterator[bytes]:
         yield piece
 
 
+def standard(stream: Any, name: str) -> Any:
+    """The bytes of a standard stream, which may be closed."""
+    if stream is None:
+        raise OSError(errno.EBADF, os.strerror(errno.EBADF), name)
+    return stream.buffer
+
+
 def source(name: str) -> Any:
-    return contextlib.nullcontext(sys.stdin.buffer) if name == "-" else open(name, "rb", buffering=0)
+    return contextlib.nullcontext(standard(sys.stdin, "standard input")) if name == "-" else open(name, "rb", buffering=0)
 
 
 def see_apart(words: argparse.Namespace) -> None:
@@ -84,7 +93,7 @@ def see_apart(words: argparse.Namespace) -> None:
 def sink(words: argparse.Namespace) -> Iterator[Any]:
     """What is written to, which has reached the disk at the end."""
     made = None if words.output == "-" else new_name(words.output)
-    held: Any = contextlib.nullcontext(sys.stdout.buffer) if words.output == "-" else opened_alone(words.output, words.no_clobber)
+    held: Any = opened_alone(words.output, words.no_clobber) if words.output != "-" else contextlib.nullcontext(standard(sys.stdout, "standard output"))
     try:
         with held as out:
             yield out
@@ -108,12 +117,18 @@ def encrypt(words: argparse.Namespace) -> None:
 
 def recipients_of(words: argparse.Namespace) -> list[str]:
     """Those of --recipient, and those in the files of --recipients-file."""
+    if not all(map(_keys.identities_in, words.recipients)):  # as by a variable of the shell that isn't set
+        raise ValueError("--recipient is empty: one begins with age1")
     found = list(words.recipients)
     for name in words.files:
-        with open(name, encoding="utf-8") as file:
+        with open(name, encoding="ascii", errors="replace", newline="\n") as file:
             lines = _keys.lines_of("recipient", file)
         if not lines:
             raise ValueError(f"{shown(name)} has no recipient")
+        try:
+            points_of(lines)
+        except ValueError as fault:
+            raise ValueError(f"{shown(name)}: {fault}") from None
         found += lines
     return found
 
@@ -130,7 +145,7 @@ def decrypt(words: argparse.Namespace) -> None:
             piece = file.read1(_library.CHUNK)
             with sink(words) as out:
                 while piece:
-                    out.write(piece)
+                    put(out, piece)  # (an unbuffered standard output, of python3 -u, may take a part of it, or nothing)
                     count += len(piece)
                     piece = file.read1(_library.CHUNK)
     except agefile.AgeError as fault:
@@ -149,7 +164,7 @@ def decrypt_by_workers(words: argparse.Namespace) -> None:
             with replacing(out, words.no_clobber) as made:
                 copy_text(first, lambda: Places(under.fileno()), lambda at, text: put_at(made.fileno(), at, text), words.workers)
         except OSError as fault:
-            if fault.filename == out or fault.filename is None and fault.errno in FULL:
+            if fault.filename == out or fault.filename is None and fault.errno in FULL or fault.errno in (errno.ENOENT, errno.ENOTDIR, errno.EROFS):
                 fault.filename = words.output
             raise
 
@@ -169,19 +184,21 @@ def resume(words: argparse.Namespace) -> None:
             position.see(file, bytes(front))
             with sink(words) as out:
                 for piece in position.old_text(old):
-                    out.write(piece)
+                    put(out, piece)
                 file.seek(position.chunks * _library.CHUNK)
                 while piece := file.read1(_library.CHUNK):
-                    out.write(piece)
+                    put(out, piece)
 
 
 def salvage(words: argparse.Namespace) -> int:
     see_apart(words)
     keys: dict[str, Any] = {"identity": identities_of(words.keys)} if words.keys is not None else {"passphrase": passphrase_of(words), "max_work": words.max_log}
-    out: Any = sys.stdout.buffer if words.output == "-" else words.output
+    out: Any = standard(sys.stdout, "standard output") if words.output == "-" else words.output
     with source(words.input) as file, Progress(file) as progress:
         found = agefile.salvage(file, out, progress=progress.told, mode="xb" if words.no_clobber else "wb", **keys)
-    sys.stdout.buffer.flush()
+    if words.output == "-":
+        out.flush()
+        reach_disk(out)
     for first, after in found.lost:
         print(f"agefile: lost: from byte {first} to before byte {after}", file=sys.stderr)
     if not found.ends and found.size and (not found.lost or found.lost[-1][1] < found.size):
@@ -225,7 +242,10 @@ def test(words: argparse.Namespace) -> None:
 
 def inspect(words: argparse.Namespace) -> None:
     with source(words.input) as file:
-        print(report_of(file), end="", flush=True)
+        report = report_of(file)
+    out = standard(sys.stdout, "standard output")
+    put(out, report.encode())
+    out.flush()
 
 
 def shared(words: argparse.Namespace) -> None:
@@ -236,12 +256,13 @@ def shared(words: argparse.Namespace) -> None:
     answer, pair = _keys.tried(identities_of(words.keys), front, _library.ReaderState())
     if answer != 0:
         raise _library.fault_of(answer)
-    sys.stdout.buffer.write(b"".join(pair))
-    sys.stdout.buffer.flush()
+    out = standard(sys.stdout, "standard output")
+    put(out, b"".join(pair))
+    out.flush()
 
 
 def identities_of(name: str) -> list[str]:
-    with open(name, encoding="ascii", errors="replace") as file:
+    with open(name, encoding="ascii", errors="replace", newline="\n") as file:
         text = file.read()
     if text.startswith(("age-encryption.org/", "-----BEGIN AGE ENCRYPTED FILE-----")):
         raise ValueError(f"{shown(name)} is an encrypted key file: decrypt it first")
@@ -257,9 +278,16 @@ def opened(file: Any, words: argparse.Namespace, random_access: bool = False) ->
     return agefile.open(file, passphrase=passphrase_of(words), max_work=words.max_log, random_access=random_access)
 
 
+class Parser(argparse.ArgumentParser):
+    def error(self, message: str) -> NoReturn:
+        """What is wrong with the arguments. What could control a terminal, as in the name of a file that is one too many, appears as a code."""
+        super().error("".join(it if it.isprintable() else repr(it)[1:-1] for it in message))
+
+
 def words_of() -> argparse.Namespace:
-    top = argparse.ArgumentParser("python3 -m agefile", description="Encrypts, decrypts, inspects, resumes, tests and salvages age files. Only status 0 means that OUT "
-                                  "is whole, and on the disk: after a fault it holds a checked beginning. - is standard input or output.")
+    top = Parser("python3 -m agefile", description="Encrypts, decrypts, inspects, resumes, tests and salvages age files. Only status 0 means that OUT "
+                                  "is whole, and on the disk: after a fault of decrypt it holds a checked beginning, but after one of resume perhaps "
+                                  "an unchecked copy of OLD. - is standard input or output.")
     top.add_argument("--version", action="version", version=f"agefile {agefile.__version__} {agefile.__build__}")
     commands = top.add_subparsers(required=True, metavar="COMMAND")
     for call, what in (
@@ -321,6 +349,8 @@ def said(fault: Exception, words: argparse.Namespace) -> str:
 
 
 def main() -> int:
+    if sys.stderr is None:  # it is closed: print would write to standard output, which may be OUT
+        sys.stderr = open(os.devnull, "w")
     words = words_of()
     try:
         return words.call(words) or 0

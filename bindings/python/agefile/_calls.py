@@ -16,17 +16,20 @@ class OneCall:
     signal handler's, is refused. (Its thread may take the lock again; with another kind of lock it would wait for itself.)"""
 
     def __init__(self) -> None:
-        self.lock, self._busy = threading.RLock(), False
+        self.lock, self.busy = threading.RLock(), False
 
     def make(self, call: Callable[..., T], *words: Any) -> T:
         with self.lock:
-            if self._busy:
+            if self.busy:
                 raise Inside("a call on the file from inside another one")
             try:
-                self._busy = True
-                return call(*words)
-            finally:
                 try:
-                    self._busy = False
-                finally:  # (in Python 3.9 and 3.10 a signal's handler may raise on the line above)
-                    self._busy = False
+                    self.busy = True
+                    return call(*words)
+                finally:
+                    try:
+                        self.busy = False
+                    finally:  # (in Python 3.9 and 3.10 a signal's handler may raise on the line above)
+                        self.busy = False
+            except Inside as fault:  # that of a call inside this one, which a handler let out: this one did change something
+                raise RuntimeError(*fault.args) from fault

@@ -5,9 +5,9 @@ import ctypes
 import io
 from typing import Any
 
-from ._library import BLOCK, CHUNK, PLACED, Bytes, C, fault_of
+from ._library import BLOCK, CHUNK, CUT, PLACED, Bytes, C, again, fault_of
 from ._reader import LOST, AgeReader
-from ._source import filled
+from ._source import end_of, filled, read_by
 
 MOST = 64  # blocks that are read at once, if a call asks for so many: 4 MiB
 KEPT = 16  # blocks whose room is kept from call to call: 1 MiB
@@ -37,12 +37,11 @@ class AgeFile(AgeReader):
     def _measure(self) -> None:
         """Finds the last chunk by the length of the file, and the length of the plaintext by that chunk, which proves it."""
         size, last = ctypes.c_uint64(), ctypes.c_uint64()
-        self._file.seek(0, io.SEEK_END)
-        payload = max(0, self._file.tell() - self._payload_at)
+        payload = max(0, end_of(self._file) - self._payload_at)
         answer = C.age_c_size(self._state, payload + self._state.payload_at, size, last)
         if answer != 0:
             raise fault_of(answer, payload // BLOCK if answer in PLACED else None)
-        self._size, self._last = size.value, last.value
+        self._last = last.value  # (a file may say that it is longer than it is, so that `size` proves nothing)
         self._size = self._last * CHUNK + len(self._text_of(self._last))
 
     def _text_of(self, number: int) -> bytes:
@@ -57,6 +56,9 @@ class AgeFile(AgeReader):
         count = self._room.count.value
         if number == self._last and not ended:
             self._opened(0)
+        if count < min(CHUNK, self._size - number * CHUNK):  # a writer with the key put a shorter file in its place
+            self._fault = fault_of(CUT, number)
+            raise again(self._fault)
         self._fault = None
         return count
 
@@ -79,7 +81,7 @@ class AgeFile(AgeReader):
 
     def _from(self, number: int) -> Any:
         """The file, at a block."""
-        self._file.seek(self._payload_at + number * BLOCK)
+        read_by(self._file.seek, self._payload_at + number * BLOCK)
         return self._file
 
     def _read(self, size: int) -> bytes:

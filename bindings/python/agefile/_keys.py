@@ -17,7 +17,6 @@ WRONG_KEY = 13
 # each.
 TRIES = 16_384
 TRIES_BY_OPENSSL = 64  # each of which takes a process
-NOTHING = bytes([1]) * 32, bytes(32)
 NINE = bytes([9]) + bytes(31)  # the point whose X25519 with a secret is the recipient, or the share
 LETTERS = "qpzry9x8gf2tvdw0s3jn54khce6mua7l"
 KIND = b"X25519 "  # what the arguments of a stanza for a key begin with; the share follows
@@ -68,8 +67,9 @@ def secret_of(identity: str) -> bytes:
 
 
 def identities_in(text: str) -> list[str]:
-    """The keys in the text of a file of age-keygen: one to a line, among empty lines and comments."""
-    lines = [it.strip() for it in text.splitlines()]
+    """The keys in the text of a file of age-keygen: one to a line, among empty lines and comments. (To age, too, only LF ends a line: what
+    splitlines takes for another end could hide a recipient in a comment.)"""
+    lines = [it.strip() for it in text.split("\n")]
     return [it for it in lines if it and not it.startswith("#")]
 
 
@@ -172,8 +172,10 @@ def opening(identities: list[str]) -> Opened:
 
 def tried(identities: list[str], front: bytes, state: ReaderState) -> tuple[int, Pair]:
     """What the bytes that a file begins with answer to these keys, and the pair that was tried last, which opened it if one did.
-    The first pair opens nothing; by it the library says what is wrong with the header, or that it isn't complete."""
-    pair, answer = NOTHING, by_shared(NOTHING, front, state)
+    The first pair is random, so that nobody could have made a stanza that it opens; by it the library says what is wrong with the header,
+    or that it isn't complete."""
+    pair = os.urandom(32), bytes(32)
+    answer = by_shared(pair, front, state)
     if answer == WRONG_KEY:
         for pair, alone in _pairs(identities, bytes(front)):
             # A pair opens no stanza but its own. So a header with only that stanza shows whether the complete header is worth a try;

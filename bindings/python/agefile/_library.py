@@ -11,6 +11,7 @@ CHUNK = 65_536
 BLOCK = 65_552
 FRONT_MAX = 1_048_592
 SEAL_FRONT = 256
+CUT = 20
 MORE = 254
 MISUSED = 255
 PLACED = (17, 18, 19, 20, 22)  # the faults that have a chunk

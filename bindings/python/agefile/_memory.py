@@ -4,7 +4,7 @@ from __future__ import annotations
 import io
 from typing import Iterable
 
-from ._arguments import Buffer
+from ._arguments import Buffer, raw
 from ._file import AgeFile
 from ._reader import AgeReader
 from ._recipients import beginning_of
@@ -25,9 +25,11 @@ def decrypt(data: Buffer, *, passphrase: str | Buffer | None = None, file_key: B
             workers: int = 1) -> bytes:
     """The plaintext of an age file in memory: all of it, or an exception. Several workers are threads that decrypt parts of it."""
     if worker_count(workers) > 1:
-        held = bytes(data)
+        held = raw("data", data)
         with AgeFile(io.BytesIO(held), passphrase, file_key, shared, max_work, identity=identity) as first:
             return _by_workers(first, held, workers)
+    if data is None:  # which io.BytesIO takes for no bytes
+        raise TypeError("data is bytes, not NoneType")
     with AgeReader(io.BytesIO(data), passphrase, file_key, shared, max_work, identity=identity) as file:
         return file.read()
 

@@ -13,6 +13,8 @@ from typing import Any, Iterator
 # What a file system without locks answers. One whose locks fail, such as a network's whose server is down, answers something
 # else.
 _NO_LOCKS = (errno.EINVAL, errno.ENOSYS, errno.EOPNOTSUPP, errno.ENOLCK)
+# What one without hard links answers, as FAT does.
+_NO_LINKS = (errno.EPERM, errno.ENOSYS, errno.EOPNOTSUPP)
 # As the folder of an absolute path: with one, os.link follows a link, such as that of a file without a name.
 _NO_FOLDER = 0
 
@@ -53,8 +55,10 @@ def opened_alone(path: Any, is_new: bool) -> Any:
 
 
 def reach_disk(file: Any, made: Any = None) -> None:
-    """Waits until what was written to a file has reached the disk, if it is a regular one, and so has its name, if it was made at this path."""
-    if stat.S_ISREG(os.fstat(file.fileno()).st_mode):
+    """Waits until what was written to a file has reached the disk, if it is a regular one or a disk, and so has its name, if it was made at this
+    path."""
+    kind = os.fstat(file.fileno()).st_mode
+    if stat.S_ISREG(kind) or stat.S_ISBLK(kind):
         _sync(file.fileno())
         if made is not None:
             folder = os.open(os.path.dirname(os.path.realpath(made)), os.O_RDONLY | os.O_DIRECTORY)
@@ -83,17 +87,18 @@ def replacing(out: str, is_new: bool) -> Iterator[Any]:
         nameless = _without_name(os.path.dirname(out))
         # (one without a name gets this one for a moment: only a file with a name can replace another)
         part = f"{out}.agefile-part" if nameless is None else f"{out}.{os.getpid()}.agefile-part"
-        file = held.enter_context(builtins.open(_left_by_a_run(part) if nameless is None else nameless, "wb", buffering=0))
+        # (what replaces a file that others may not read isn't theirs to read before it does)
+        descriptor = _left_by_a_run(part, 0o666 if mode is None else 0o600) if nameless is None else nameless
+        file = held.enter_context(builtins.open(descriptor, "wb", buffering=0))
         try:
             yield file
-            if mode is not None:
+            if mode not in (None, stat.S_IMODE(os.fstat(file.fileno()).st_mode)):  # (on FAT only the mount's owner may set even the same one)
                 os.fchmod(file.fileno(), mode)
             reach_disk(file)
             if nameless is not None:
                 _name(f"/proc/self/fd/{nameless}", out if is_new else part)
             elif is_new:
-                _name(part, out)
-                os.unlink(part)
+                _rename(part, out)
             if not is_new:
                 os.replace(part, out)
         except BaseException:
@@ -105,8 +110,12 @@ def replacing(out: str, is_new: bool) -> Iterator[Any]:
 
 def _locked(path: str, held: contextlib.ExitStack) -> int | None:
     """Locks the file at a path, if it exists, until the end; returns its mode."""
+    how = os.O_NONBLOCK | os.O_CLOEXEC
     try:
-        old = os.open(path, os.O_RDONLY | os.O_NONBLOCK | os.O_CLOEXEC)
+        try:
+            old = os.open(path, os.O_RDWR | how)  # (NFS locks only what is open for writing)
+        except OSError:
+            old = os.open(path, os.O_RDONLY | how)
     except FileNotFoundError:
         return None
     except PermissionError:  # (it can be replaced all the same)
@@ -133,15 +142,37 @@ def _name(file: str, path: str) -> None:
         raise FileExistsError(fault.errno, fault.strerror, path) from None
 
 
-def _left_by_a_run(part: str) -> int:
-    """The file of that name, which a killed run may have left: this user's, that no run is writing, and empty now."""
-    descriptor = os.open(part, os.O_WRONLY | os.O_CREAT | os.O_NOFOLLOW | os.O_NONBLOCK | os.O_CLOEXEC, 0o666)
+def _rename(part: str, path: str) -> None:
+    """Gives a file another name, if nothing has it yet."""
+    try:
+        _name(part, path)
+    except OSError as fault:
+        if fault.errno not in _NO_LINKS:
+            raise
+        # what has the name for a moment is empty, and this run's
+        os.close(os.open(path, os.O_WRONLY | os.O_CREAT | os.O_EXCL | os.O_CLOEXEC, 0o666))
+        os.replace(part, path)
+    else:
+        os.unlink(part)
+
+
+def _left_by_a_run(part: str, mode: int = 0o666) -> int:
+    """The file of that name: a new one, or one that a killed run left: this user's, that no run is writing, and empty now."""
+    how, is_new = os.O_WRONLY | os.O_NOFOLLOW | os.O_NONBLOCK | os.O_CLOEXEC, True
+    try:
+        descriptor = os.open(part, how | os.O_CREAT | os.O_EXCL, mode)
+    except FileExistsError:
+        descriptor, is_new = os.open(part, how | os.O_CREAT, mode), False  # (it may have gone meanwhile)
     try:
         found = os.fstat(descriptor)
-        if not stat.S_ISREG(found.st_mode) or found.st_uid != os.geteuid() or found.st_nlink != 1:
+        # (a new one may have another owner: NFS gives root's to nobody, and FAT has one for all)
+        if not is_new and (not stat.S_ISREG(found.st_mode) or found.st_uid != os.geteuid() or found.st_nlink != 1):
             raise FileExistsError(errno.EEXIST, "it isn't a file that an earlier run left", part)
         lock(descriptor, part)
         os.ftruncate(descriptor, 0)
+        if stat.S_IMODE(found.st_mode) & ~mode:  # (the killed run's file may have been for everybody)
+            with contextlib.suppress(PermissionError):  # (on FAT)
+                os.fchmod(descriptor, stat.S_IMODE(found.st_mode) & mode)
         return descriptor
     except BaseException:
         os.close(descriptor)

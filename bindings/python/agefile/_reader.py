@@ -189,7 +189,7 @@ class AgeReader(Buffered):
         if not self._can_seek:
             raise again(self._fault or OSError(LOST))
         self._fault = OSError(LOST)
-        self._file.seek(self._payload_at)
+        read_by(self._file.seek, self._payload_at)
         self._to_chunk(0)
         self._rest = bytearray()
         self._next_at, self._ended = 0, False
@@ -220,28 +220,43 @@ class AgeReader(Buffered):
             self._stand(begin + at)
 
     def _reading(self, mark: list[int], call: Any, *words: Any) -> Any:
-        """Makes a call that reads, and notes where it begins. (The caller restores the place after an exception, not this, since one may
-        come when this returns.)"""
+        """Makes a call that reads, and notes where it begins. If it fails, the place is restored before another thread's call, and the
+        note removed. (The caller does so after an exception that comes as this returns.)"""
         with self._calls.lock:
-            held = self._held
-            mark += held.begin, held.text.tell()
-            return self._calls.make(call, *words)
+            if not mark:
+                held = self._held
+                mark += held.begin, held.text.tell()
+            try:
+                return self._calls.make(call, *words)
+            except Inside:
+                raise
+            except BaseException:
+                self._lose(*mark)
+                mark.clear()
+                raise
 
     def read(self, size: int | None = -1, /) -> bytes:
         if type(size) is not int:
             size = -1 if size is None else operator.index(size)
         begin, at = 0, -1
+        mark: list[int] | None = None
         try:
             with self._lock:
                 begin, length, text = self._held
                 at = text.tell()
-                if 0 <= size <= length - at:  # (most reads end here)
-                    return text.read(size)
-                return self._calls.make(self._read, size)
+                if 0 <= size <= length - at and not self._calls.busy:
+                    piece = text.read(size)
+                    if len(piece) == size:  # (most reads end here)
+                        return piece
+                    text.seek(-len(piece), io.SEEK_CUR)  # (a signal handler's read came between)
+                at, mark = -1, []
+                got: bytes = self._reading(mark, self._read, size)
+                return got
         except Inside:
             raise
         except BaseException:
             self._lose(begin, at)
+            self._lose(*(mark or ()))
             raise
 
     def _read(self, size: int) -> bytes:
@@ -339,25 +354,33 @@ class AgeReader(Buffered):
     def readline(self, size: int | None = -1, /) -> bytes:
         if type(size) is not int:
             size = -1 if size is None else operator.index(size)
-        begin, at = 0, -1
+        begin, at, line = 0, -1, b""
+        mark: list[int] | None = None
         try:
             with self._lock:
                 begin, _, text = self._held
                 at = text.tell()
-                line = text.readline(size)
-                if line[-1:] == b"\n":  # (most lines end here)
-                    return line
-                text.seek(at)
-                return self._calls.make(self._read_line, size)
+                if not self._calls.busy:
+                    line = text.readline(size)
+                    if line[-1:] == b"\n":  # (most lines end here)
+                        return line
+                mark, at = [begin, at], -1
+                got: bytes = self._reading(mark, self._read_line, size, sum(mark), line)
+                return got
         except Inside:
             raise
         except BaseException:
             self._lose(begin, at)
+            self._lose(*(mark or ()))
             raise
 
-    def _read_line(self, size: int) -> bytes:
+    def _read_line(self, size: int, place: int, line: bytes) -> bytes:
+        """Reads on after the beginning of a line that began at that place."""
         self._see_read()
-        parts: list[bytes] = []
+        if self._place() != place + len(line):  # a signal handler's read came between
+            raise OSError(LOST)
+        parts = [line]
+        size -= len(line) if size > 0 else 0
         while size != 0 and self._has_more():
             parts.append(self._held.text.readline(size))
             if parts[-1].endswith(b"\n"):
@@ -389,15 +412,26 @@ class AgeReader(Buffered):
             with self._calls.lock:
                 held, lost = self._held, self._lost
                 at = held.text.tell()
-                return self._calls.make(self._seek, offset, whence)
+                try:
+                    return self._calls.make(self._seek, offset, whence)
+                except Inside:
+                    raise
+                except BaseException:  # (before another thread's call)
+                    self._stay(held, at, lost)
+                    at = -1
+                    raise
         except Inside:
             raise
         except BaseException:
-            if at >= 0 and not self.closed:
-                self._lost = lost
-                self._held = held
-                held.text.seek(at)
+            self._stay(held, at, lost)
             raise
+
+    def _stay(self, held: Held, at: int, lost: bool) -> None:
+        """A seek failed: the file is where it was."""
+        if at >= 0 and not self.closed:
+            self._lost = lost
+            self._held = held
+            held.text.seek(at)
 
     def _seek(self, offset: int, whence: int) -> int:
         if not self.seekable():

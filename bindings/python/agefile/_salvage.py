@@ -2,7 +2,6 @@
 from __future__ import annotations
 
 import builtins
-import io
 import os
 from typing import Any, Callable, Iterable, Literal, NamedTuple
 
@@ -10,7 +9,7 @@ from ._arguments import Buffer
 from ._library import BLOCK, CHUNK, C, ReaderState, Room, fault_of, wipe
 from ._output import new_name, opened_alone, reach_disk
 from ._reader import header_of, opening_of
-from ._source import can_seek, filled, put
+from ._source import can_seek, end_of, filled, put, read_by
 
 LAST_SEEN = 2  # the reader's state after the last block, if that is whole
 TAG = 16
@@ -55,9 +54,9 @@ class _Out:
 
     def close(self) -> None:
         if self._owned and self._file is not None:
-            self._file.flush()
-            reach_disk(self._file, self._made)
-            self._file.close()
+            with self._file:  # (which closes it, and lets go of its lock, whatever fails)
+                self._file.flush()
+                reach_disk(self._file, self._made)
 
 
 class _Blocks:
@@ -68,8 +67,7 @@ class _Blocks:
         self._begin = self._end = -1
         if can_seek(file):
             self._begin = file.tell() - len(rest)
-            file.seek(0, io.SEEK_END)
-            self._end = file.tell()
+            self._end = end_of(file)
 
     def read(self, number: int, room: memoryview) -> tuple[int, bool]:
         """How many bytes the file has of a block, and whether they are in the room."""
@@ -81,7 +79,7 @@ class _Blocks:
         at = self._begin + number * BLOCK
         have = max(0, min(BLOCK, self._end - at))
         try:
-            self._file.seek(at)
+            read_by(self._file.seek, at)
             return filled(self._file, room[:have]), True  # (a file that ends sooner than it said ends there)
         except OSError:
             return have, False
@@ -127,9 +125,11 @@ def salvage(file: Any, out: Any, *, passphrase: str | Buffer | None = None, file
     finally:
         wipe(state)
         room.wipe()
-        to.close()
-        if under is not file:
-            under.close()
+        try:
+            to.close()
+        finally:
+            if under is not file:
+                under.close()
 
 
 def _saved(blocks: _Blocks, state: ReaderState, room: Room, out: _Out, progress: Callable[[int], None]) -> Salvage:

@@ -2,6 +2,8 @@
 from __future__ import annotations
 
 import errno
+import io
+import os
 import select
 from typing import Any
 
@@ -12,18 +14,22 @@ def wait(file: Any, event: int = select.POLLIN) -> None:
         descriptor = file.fileno()
     except (AttributeError, OSError):  # io.UnsupportedOperation is an OSError
         raise BlockingIOError(errno.EAGAIN, "the file isn't ready, and has no descriptor to wait for") from None
+    if os.get_blocking(descriptor):  # so that None says nothing, and there is nothing to wait for: it would be called forever
+        raise OSError(f"the file's {'read' if event == select.POLLIN else 'write'}() returned None, though its descriptor blocks")
     poll = select.poll()
     poll.register(descriptor, event)
     poll.poll()
 
 
 def read_by(call: Any, word: Any) -> Any:
-    """What a call of a source returns. A source that was truncated itself, such as a gzip file, raises EOFError, which our caller would
-    take for the end of the text."""
+    """What a call of a source returns. A source that was truncated itself, such as a gzip file, raises EOFError, and one that passes on what an
+    iterator gives may raise StopIteration. Our caller, a `for` among them, would take either for the end of the text."""
     try:
         return call(word)
     except EOFError as fault:
         raise OSError(f"what the file is read from was cut off: {fault}") from fault
+    except StopIteration as fault:
+        raise OSError("what the file is read from raised StopIteration: it has to return b'' at its end") from fault
 
 
 def some(file: Any, most: int) -> Any:
@@ -77,6 +83,13 @@ def filled(file: Any, room: memoryview, have: int = 0) -> int:
     while have < len(room) and (count := some_into(file, room[have:])):
         have += count
     return have
+
+
+def end_of(file: Any) -> int:
+    """Where a file ends, which stands there then. (A gzip file is read to its end for that.)"""
+    read_by(lambda whence: file.seek(0, whence), io.SEEK_END)
+    end: int = file.tell()
+    return end
 
 
 def can_seek(file: Any) -> bool:

@@ -8,7 +8,7 @@ from typing import Any, Callable
 
 from ._arguments import whole_number
 from ._file import AgeFile
-from ._library import CHUNK
+from ._library import CHUNK, CUT, fault_of
 
 WORKERS_MAX = 64
 PIECE = 16 * CHUNK
@@ -69,6 +69,8 @@ def copy_text(first: AgeFile, source: Callable[[], Any], out: Callable[[int, mem
                     file.seek(at)
                     while at < end and not over.is_set() and not any(faults[:number]):
                         count = file.readinto(room[:min(PIECE, end - at)])
+                        if count == 0:  # a writer with the key put a shorter file in its place
+                            raise fault_of(CUT, at // CHUNK)
                         if isinstance(out, memoryview):
                             room = room[count:]
                         else:
