@@ -85,6 +85,10 @@ int main(int argc, char **argv) {
     have = fread(front, 1, sizeof front, stdin);
     uint32_t answer =
         age_c_open_passphrase(front, have, pass, pass_len, AGE_C_WORK_MAX, &reader);
+    if (answer == AGE_C_MORE && ferror(stdin)) {
+        fprintf(stderr, "salvage: a file can't be read or written\n");
+        return 1;
+    }
     if (answer != 0) {
         fprintf(stderr, "salvage: %u %s\n", answer, age_c_fault_name(answer));
         return 1;

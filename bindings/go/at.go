@@ -57,9 +57,14 @@ func (f *File) WriteTo(out io.Writer) (int64, error) {
 	room := make([]byte, C.AGE_C_CHUNK)
 	var all int64
 	for {
-		n, err := f.Read(room)
+		at, err := f.Seek(0, io.SeekCurrent)
+		if err != nil {
+			return all, err
+		}
+		n, err := f.ReadAt(room, at)
 		done, failed := writeAll(out, room[:n])
 		all += int64(done)
+		f.SectionReader.Seek(at+int64(done), io.SeekStart) // what wasn't taken is read again
 		if failed != nil {
 			return all, failed
 		}

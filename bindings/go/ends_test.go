@@ -5,6 +5,7 @@ import (
 	"errors"
 	"io"
 	"math"
+	"net/url"
 	"runtime"
 	"testing"
 )
@@ -102,6 +103,45 @@ func TestSourcesThatAreCut(t *testing.T) {
 	found, err := Salvage(&out, cutBody{bytes.NewReader(data[:len(data)-70_000])}, pw())
 	if err != nil || found.Whole() || out.Len() < 65_536 {
 		t.Error(found, err)
+	}
+	for _, n := range lengths { // cut after the last chunk
+		if found, err := Salvage(io.Discard, cutBody{bytes.NewReader(sealed(textOf(n)))}, pw()); err != nil || !found.Whole() || found.Followed {
+			t.Error(n, "bytes:", found, err)
+		}
+	}
+}
+
+// hungUp is a file whose server hangs up from a place on: net/http's error wraps io.EOF.
+type hungUp struct {
+	*bytes.Reader
+	from int64
+}
+
+func (h *hungUp) ReadAt(room []byte, at int64) (int, error) {
+	if at+int64(len(room)) > h.from {
+		return 0, &url.Error{Op: "Get", URL: "https://host/file", Err: io.EOF}
+	}
+	return h.Reader.ReadAt(room, at)
+}
+
+// Nor does one whose source wraps io.EOF.
+func TestSourcesThatHangUp(t *testing.T) {
+	data := sealed(textOf(200_000))
+	size, from := int64(len(data)), int64(len(data)-100_000)
+	for _, from := range []int64{10, from} {
+		reader, err := Open(io.NewSectionReader(&hungUp{bytes.NewReader(data), from}, 0, size), pw())
+		if err == nil {
+			_, err = records(reader)
+		}
+		if !errors.Is(err, ErrTruncated) || errors.Is(err, io.EOF) {
+			t.Error("a Reader:", from, err)
+		}
+	}
+	under := &hungUp{bytes.NewReader(data), size}
+	file := must(OpenAt(under, size, pw()))
+	under.from = from
+	if n, err := records(file); !errors.Is(err, ErrTruncated) || errors.Is(err, io.EOF) {
+		t.Error("a File:", n, err)
 	}
 }
 

@@ -29,6 +29,9 @@ type Stanza struct {
 // ReadHeader reads the header of a file, and returns it with what reads the file from its
 // beginning.
 func ReadHeader(file io.Reader) (*Header, io.Reader, error) {
+	if file == nil {
+		return nil, nil, errNil
+	}
 	h, r := &Header{}, &Reader{file: file, block: make([]byte, C.AGE_C_BLOCK)}
 	look := func(front []byte, _ *C.age_c_reader) C.uint32_t { return h.look(front) }
 	if err := r.begin(Key{open: look}); err != nil {

@@ -130,8 +130,13 @@ func TestBriefWrites(t *testing.T) {
 	if _, err := r.WriteTo(&rest); err != nil || !bytes.Equal(rest.Bytes(), text[65_535:]) {
 		t.Error("the rest of a Reader:", rest.Len(), err)
 	}
-	if n, err := opened(data).WriteTo(brief{}); n != 65_535 || err != io.ErrShortWrite {
+	file := opened(data)
+	if n, err := file.WriteTo(brief{}); n != 65_535 || err != io.ErrShortWrite {
 		t.Error("a File:", n, err)
+	}
+	rest.Reset()
+	if _, err := file.WriteTo(&rest); err != nil || !bytes.Equal(rest.Bytes(), text[65_535:]) {
+		t.Error("the rest of a File:", rest.Len(), err)
 	}
 	if _, err := Salvage(brief{}, bytes.NewReader(data), pw()); err != io.ErrShortWrite {
 		t.Error("Salvage:", err)
@@ -143,6 +148,64 @@ func TestBriefWrites(t *testing.T) {
 	w.out = brief{}
 	if first, again := w.Close(), w.Close(); first != io.ErrShortWrite || again != io.ErrShortWrite {
 		t.Error("the last chunk:", first, again)
+	}
+}
+
+// panics is a sink whose call of this number panics.
+type panics int
+
+func (p *panics) Write(text []byte) (int, error) {
+	if *p--; *p == 0 {
+		panic("a sink")
+	}
+	return len(text), nil
+}
+
+// A file that lacks what a Write that panicked was given isn't finished.
+func TestSinkThatPanics(t *testing.T) {
+	sink := panics(2)
+	w := created(&sink)
+	func() {
+		defer func() { _ = recover() }()
+		must(w.Write(textOf(70_000)))
+	}()
+	if _, err := w.Write(textOf(70_000)); err == nil {
+		t.Error("it is written on")
+	}
+	if err := w.Close(); err == nil {
+		t.Error("it is closed")
+	}
+	sink = 2
+	text, file := textOf(200_000), opened(sealed(textOf(200_000)))
+	func() {
+		defer func() { _ = recover() }()
+		must(file.WriteTo(&sink))
+	}()
+	var rest bytes.Buffer
+	if _, err := file.WriteTo(&rest); err != nil || !bytes.Equal(rest.Bytes(), text[65_536:]) {
+		t.Error("the rest of a File:", rest.Len(), err)
+	}
+}
+
+// calls counts those of Write.
+type calls int
+
+func (c *calls) Write(text []byte) (int, error) {
+	*c++
+	return len(text), nil
+}
+
+// Write isn't called before some text was authenticated: net/http's sends the status at the first call.
+func TestNothingToWrite(t *testing.T) {
+	damaged := sealed(textOf(100_000))
+	damaged[len(damaged)-100_032] ^= 1
+	for name, data := range map[string][]byte{"chunk 0 is damaged": damaged, "an empty text": sealed(nil)} {
+		var n calls
+		open(bytes.NewReader(data)).WriteTo(&n)
+		opened(data).WriteTo(&n)
+		if n != 0 {
+			t.Errorf("%s: %d calls of Write", name, n)
+		}
 	}
 }
 
@@ -301,6 +364,7 @@ func TestNothing(t *testing.T) {
 	}
 	for what, err := range map[string]error{
 		"Open": second(Open(nil, pw())), "OpenAt": second(OpenAt(nil, 5, pw())), "Create": second(Create(nil, []byte("pw"), 1)),
+		"ReadHeader": func() error { _, _, err := ReadHeader(nil); return err }(), "Salvage": second(Salvage(nil, bytes.NewReader(sealed(textOf(9))), pw())),
 	} {
 		if err == nil {
 			t.Error(what)

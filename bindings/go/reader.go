@@ -99,23 +99,29 @@ func readSome(file io.Reader, room []byte) (int, error) {
 }
 
 // cutSource is what a source that was truncated itself says, such as the body of a response. It is
-// ErrTruncated, and no longer io.ErrUnexpectedEOF.
+// ErrTruncated, and no longer io.ErrUnexpectedEOF or io.EOF.
 type cutSource struct{ text string }
 
 func (s *cutSource) Error() string { return "agefile: what the file is read from: " + s.text }
 
 func (s *cutSource) Is(target error) bool { return target == ErrTruncated }
 
-// ofSource is the error of a source as it is passed on.
+// ofSource is the error of a source as it is passed on. errors.Is may not find an end in it: net/http's
+// wraps io.EOF if the server hangs up.
 func ofSource(err error) error {
-	if errors.Is(err, io.ErrUnexpectedEOF) {
+	if err != io.EOF && errors.Is(err, io.EOF) || errors.Is(err, io.ErrUnexpectedEOF) {
 		return &cutSource{err.Error()}
 	}
 	return err
 }
 
-// writeAll writes bytes, and says how many were taken, and why not all were.
+// writeAll writes bytes, and says how many were taken, and why not all were. Without bytes it
+// doesn't call Write: that of an http.ResponseWriter would send status 200 before anything was
+// authenticated, and one that makes its file at the first call would make it.
 func writeAll(out io.Writer, text []byte) (int, error) {
+	if len(text) == 0 {
+		return 0, nil
+	}
 	n, err := out.Write(text)
 	if n < 0 || n > len(text) {
 		return 0, errWrite
@@ -129,6 +135,8 @@ func writeAll(out io.Writer, text []byte) (int, error) {
 var errNotOpen = errors.New("agefile: a Reader, File or Writer that wasn't opened by Open, OpenAt or Create")
 
 var errNil = errors.New("agefile: the file is nil")
+
+var errOut = errors.New("agefile: out is nil")
 
 var errRead = errors.New("agefile: a Read returned a count that is out of range")
 

@@ -28,6 +28,9 @@ func (s *Salvaged) Whole() bool { return len(s.Lost) == 0 && s.Ends }
 // zeros for each chunk that doesn't. What is written is authentic. The header must be complete.
 // Nothing is written before a chunk has opened; if none does, Size is 0.
 func Salvage(out io.Writer, file io.Reader, key Key) (*Salvaged, error) {
+	if out == nil {
+		return nil, errOut
+	}
 	r, err := Open(file, key)
 	if err != nil {
 		return nil, err
@@ -75,7 +78,7 @@ func (s *salvager) run() (*Salvaged, error) {
 	}
 	if s.found.Ends && have == C.AGE_C_BLOCK {
 		n, err := readSome(s.from.file, s.from.block[:1])
-		if n == 0 && err != io.EOF {
+		if n == 0 && err != io.EOF && !errors.Is(err, ErrTruncated) {
 			return nil, err
 		}
 		s.found.Followed = n > 0

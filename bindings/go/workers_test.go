@@ -4,6 +4,7 @@ import (
 	"bytes"
 	"errors"
 	"io"
+	"runtime"
 	"sync/atomic"
 	"testing"
 	"time"
@@ -129,4 +130,29 @@ func TestDecryptToStops(t *testing.T) {
 	if err != io.ErrClosedPipe || writes > 2 {
 		t.Error(err, writes)
 	}
+}
+
+// ending is a sink that ends the goroutine of a part, not the first.
+type ending func()
+
+func (e ending) WriteAt(p []byte, at int64) (int, error) {
+	if at > 0 {
+		e()
+	}
+	return len(p), nil
+}
+
+// A part whose goroutine ends isn't written, and a panic is the caller's.
+func TestDecryptToEnds(t *testing.T) {
+	data := sealed(textOf(200_000))
+	if n, err := DecryptTo(ending(runtime.Goexit), bytes.NewReader(data), int64(len(data)), pw(), 4); n != 0 || err == nil {
+		t.Error("a part is missing:", n, err)
+	}
+	defer func() {
+		if it := recover(); it != "a sink" {
+			t.Error(it)
+		}
+	}()
+	_, err := DecryptTo(ending(func() { panic("a sink") }), bytes.NewReader(data), int64(len(data)), pw(), 4)
+	t.Error("no panic:", err)
 }

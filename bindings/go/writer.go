@@ -34,6 +34,8 @@ const gathered = 16_384
 
 var errClosed = errors.New("agefile: the file is closed")
 
+var errPanic = errors.New("agefile: a Write of the writer below didn't return")
+
 // Create begins an age file under a passphrase. The work factor, 1 to MaxWork, says what a reader
 // must spend: 2^work KiB of memory. 18 is usual.
 func Create(out io.Writer, passphrase []byte, factor int) (*Writer, error) {
@@ -97,6 +99,7 @@ func (w *Writer) Format(state fmt.State, _ rune) { io.WriteString(state, w.Strin
 
 // put passes on bytes.
 func (w *Writer) put(sealed []byte) error {
+	w.err = errPanic // unless that Write returns: without these bytes the file can't be finished
 	_, w.err = writeAll(w.out, sealed)
 	return w.err
 }

@@ -29,7 +29,7 @@ type Exchange func(secret, point []byte) ([]byte, error)
 
 // An Identity is a key of age-keygen. Its zero value isn't valid.
 type Identity struct {
-	secret []byte
+	secret *[32]byte // (fmt calls no method of a field that isn't exported, but prints no more than the address)
 }
 
 // String hides the key.
@@ -54,7 +54,7 @@ func ParseIdentities(text string) ([]Identity, error) {
 		if err != nil {
 			return nil, fmt.Errorf("agefile: line %d: not a key of age-keygen: %w", number+1, err)
 		}
-		found = append(found, Identity{secret})
+		found = append(found, Identity{(*[32]byte)(secret)})
 	}
 	if len(found) == 0 {
 		return nil, errors.New("agefile: no key of age-keygen, which begins with AGE-SECRET-KEY-1")
@@ -130,8 +130,13 @@ func X25519(exchange Exchange, identities ...Identity) Key {
 		return Key{}
 	}
 	return Key{open: func(front []byte, reader *C.age_c_reader) C.uint32_t {
-		// (a pair that opens nothing, by which the library says what is wrong with the header)
-		answer := openShared(front, append([]byte{1}, make([]byte, 31)...), make([]byte, 32), reader)
+		// (a pair that opens nothing, by which the library says what is wrong with the header: it is
+		// random, so that nobody could have made a stanza that it opens)
+		nothing := make([]byte, 32)
+		if _, err := rand.Read(nothing); err != nil {
+			return NumberWrongKey
+		}
+		answer := openShared(front, nothing, make([]byte, 32), reader)
 		if answer != NumberWrongKey {
 			return answer
 		}
@@ -151,10 +156,10 @@ func X25519(exchange Exchange, identities ...Identity) Key {
 
 // try opens the header by one identity.
 func (i Identity) try(exchange Exchange, header *Header, front []byte, reader *C.age_c_reader, tries *int) C.uint32_t {
-	if len(i.secret) != 32 {
+	if i.secret == nil {
 		return NumberWrongKey
 	}
-	recipient, err := exchange(i.secret, append([]byte{9}, make([]byte, 31)...))
+	recipient, err := exchange(i.secret[:], append([]byte{9}, make([]byte, 31)...))
 	if err != nil {
 		return NumberWrongKey
 	}
@@ -169,7 +174,7 @@ func (i Identity) try(exchange Exchange, header *Header, front []byte, reader *C
 		if err != nil {
 			continue
 		}
-		secret, err := exchange(i.secret, share)
+		secret, err := exchange(i.secret[:], share)
 		// A pair opens no stanza but its own. So a header with only that stanza shows whether the
 		// complete header is worth a try; otherwise the time would grow with the square of the number of
 		// stanzas.
@@ -246,10 +251,13 @@ func stanzaFor(recipient string, fileKey []byte, exchange Exchange, aead func(ke
 	encode := base64.RawStdEncoding.EncodeToString
 	stanza := []byte("-> X25519 " + encode(share) + "\n" + encode(sealer.Seal(nil, make([]byte, 12), fileKey, nil)) + "\n")
 	var alone bytes.Buffer
-	if _, err := CreateKey(&alone, fileKey, stanza); err != nil {
+	w, err := CreateKey(&alone, fileKey, stanza)
+	if err != nil {
 		return nil, err
 	}
+	w.Abandon() // which overwrites its file key
 	var none C.age_c_reader
+	defer func() { none = C.age_c_reader{} }()
 	if answer := openShared(alone.Bytes(), secret, point, &none); answer != 0 {
 		return nil, headerFault(answer)
 	}

@@ -66,7 +66,7 @@ func TestX25519(t *testing.T) {
 	_, other := keysOf(t, "other.txt")
 	public := strings.Fields(text[strings.Index(text, "public key: ")+12:])[0]
 	point, err := ParseRecipient(public)
-	mine, _ := exchange(key[0].secret, append([]byte{9}, make([]byte, 31)...))
+	mine, _ := exchange(key[0].secret[:], append([]byte{9}, make([]byte, 31)...))
 	if err != nil || !bytes.Equal(point, mine) {
 		t.Error(point, mine, err)
 	}
@@ -78,6 +78,7 @@ func TestX25519(t *testing.T) {
 		{"one.age", X25519(exchange, key...), "hello, recipient\n"}, {"two.age", X25519(exchange, key...), "hello, both\n"},
 		{"two.age", X25519(exchange, other...), "hello, both\n"}, {"other.age", X25519(exchange, append(key, other...)...), "hello, other\n"},
 		{"one.age", X25519(exchange, other...), "13"}, {"passphrase.age", X25519(exchange, key...), "12"}, {"one.age", X25519(exchange), "13"}, {"one.age", X25519(exchange, Identity{}), "13"},
+		{"anyone.age", X25519(exchange, key...), "13"}, // for a pair of numbers that anybody can guess
 	} {
 		data := must(os.ReadFile("../tests/age/" + it.name))
 		got, err := Decrypt(data, it.key)
@@ -110,6 +111,12 @@ func TestKeysThatAreNone(t *testing.T) {
 	}
 	if found, err := ParseIdentities(strings.ToLower(word) + "\r\n\n" + text); err != nil || len(found) != 2 {
 		t.Error(found, err)
+	}
+	held := struct{ one Identity }{key[0]} // of which fmt calls no method
+	for _, verb := range []string{"%v", "%+v", "%#v", "%x", "%d"} {
+		if got := fmt.Sprintf(verb, held); len(got) > 90 {
+			t.Error(got)
+		}
 	}
 	if got := fmt.Sprintf("%v %+v %#v %s", key[0], key, key[0], key[0]); strings.Contains(strings.ToUpper(got), "SECRET") || strings.Contains(got, "[0") {
 		t.Error(got)

@@ -37,7 +37,7 @@ fn warn(places: &[PathBuf]) {
     let listed: Vec<String> = places.iter().map(|it| it.display().to_string()).collect();
     println!(
         "cargo:warning=libage_c isn't there ({}): run bindings/build, install the library, \
-         or set AGE_C_DIR to the folder of libage_c.a",
+         or set AGE_C_DIR to the folder of libage_c.a, by its absolute path",
         listed.join(", ")
     );
     // (cargo runs this again as long as one of them isn't there)
@@ -67,5 +67,7 @@ fn main() {
         }
         None => warn(&places),
     }
-    println!("cargo:rustc-link-lib=dylib=age_c");
+    // (nor by the linker's own folders: without its libage_c.a nothing is linked)
+    let kind = if std::env::var_os("AGE_C_DIR").is_some() { "static" } else { "dylib" };
+    println!("cargo:rustc-link-lib={kind}=age_c");
 }

@@ -62,10 +62,10 @@ impl<R: Read + Seek> AgeFile<R> {
     /// Opens the header, which begins at the file's position, and the last chunk, by which it
     /// checks the length of the plaintext.
     pub fn open(mut file: R, key: Key) -> io::Result<AgeFile<R>> {
-        let begin = file.stream_position()?;
+        let begin = file.stream_position().map_err(of_source)?;
         let mut reader = State::<AgeCReader>::default();
         open_header(&mut file, key, &mut reader)?;
-        let end = file.seek(SeekFrom::End(0))?.saturating_sub(begin);
+        let end = file.seek(SeekFrom::End(0)).map_err(of_source)?.saturating_sub(begin);
         let (mut len, mut last) = (0, 0);
         // SAFETY: the pointers are those of values of these types.
         let answer = unsafe { age_c_size(&*reader, end, &mut len, &mut last) };
@@ -131,7 +131,7 @@ impl<R: Read + Seek> AgeFile<R> {
         }
         self.held = None;
         let at = self.begin + self.reader.payload_at + chunk * BLOCK;
-        self.file.seek(SeekFrom::Start(at))?;
+        self.file.seek(SeekFrom::Start(at)).map_err(of_source)?;
         let mut have = 0;
         fill(&mut self.file, &mut self.block, &mut have)?;
         // SAFETY: the reader is one.
@@ -163,8 +163,14 @@ impl<R: Read + Seek> BufRead for AgeFile<R> {
         if self.place >= self.len {
             return Ok(&[]);
         }
-        let len = self.hold(self.place / CHUNK)?;
-        Ok(&self.text[(self.place % CHUNK) as usize..len])
+        let chunk = self.place / CHUNK;
+        let want = CHUNK.min(self.len - chunk * CHUNK) as usize;
+        // (who has the key can make another end, and put it there after the file was opened)
+        if self.hold(chunk)? < want {
+            self.held = None;
+            return Err(AgeError::truncated(chunk).into());
+        }
+        Ok(&self.text[(self.place % CHUNK) as usize..want])
     }
 
     fn consume(&mut self, amount: usize) {

@@ -23,18 +23,24 @@ pub(crate) fn open_header<R: Read>(
     reader: &mut AgeCReader,
 ) -> io::Result<Vec<u8>> {
     let mut front = Vec::new();
-    read_header(file, key, reader, &mut front)?;
+    read_header(file, key, reader, &mut front, &mut false)?;
     Ok(front)
 }
 
-/// The same, from where an earlier read stopped. What was read is kept, whatever happens.
+/// The same, from where an earlier read stopped. What was read is kept, whatever happens. After a
+/// fault the header is decided: it is tried again as it is, since what follows is the payload.
 fn read_header<R: Read>(
     file: &mut R,
     key: Key,
     reader: &mut AgeCReader,
     front: &mut Vec<u8>,
+    decided: &mut bool,
 ) -> io::Result<()> {
-    let answer = read_front(file, front, |front| key.open(front, reader))?;
+    let answer = match *decided {
+        true => key.open(front, reader),
+        false => read_front(file, front, |front| key.open(front, reader))?,
+    };
+    *decided = answer != AGE_C_MORE;
     if answer != 0 {
         let fault = AgeError::of_header(answer, key.is_file_key());
         return Err(fault.about(key.wrong_argument()).into());
@@ -74,12 +80,13 @@ pub struct Opening<'a, R> {
     file: R,
     key: Key<'a>,
     front: Vec<u8>,
+    decided: bool,
 }
 
 impl<'a, R: Read> Opening<'a, R> {
     /// A file of which nothing was read.
     pub fn new(file: R, key: Key<'a>) -> Opening<'a, R> {
-        Opening { file, key, front: Vec::new() }
+        Opening { file, key, front: Vec::new(), decided: false }
     }
 
     /// Reads on, and opens the header. If the file fails, as with [`ErrorKind::WouldBlock`], what
@@ -87,7 +94,8 @@ impl<'a, R: Read> Opening<'a, R> {
     #[allow(clippy::result_large_err)]
     pub fn open(mut self) -> Result<AgeReader<R>, (io::Error, Opening<'a, R>)> {
         let mut reader = State::<AgeCReader>::default();
-        match read_header(&mut self.file, self.key, &mut reader, &mut self.front) {
+        let (file, front) = (&mut self.file, &mut self.front);
+        match read_header(file, self.key, &mut reader, front, &mut self.decided) {
             Ok(()) => Ok(AgeReader::after(self.file, reader, &self.front)),
             Err(error) => Err((error, self)),
         }
@@ -191,7 +199,7 @@ impl<R: Read> BufRead for AgeReader<R> {
     }
 
     fn consume(&mut self, amount: usize) {
-        self.at = self.len.min(self.at + amount);
+        self.at = self.len.min(self.at.saturating_add(amount));
     }
 }
 

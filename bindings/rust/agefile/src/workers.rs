@@ -46,18 +46,23 @@ pub fn decrypt_to<R: Read + Seek>(
     let failed = AtomicU64::new(u64::MAX); // where the first part begins that failed
     let copies = |begin: u64| {
         let part = begin..len.min(begin + step);
+        let failing = Failing(&failed, begin);
         let done = source().and_then(|file| AgeFile::open(file, key)).and_then(|file| {
-            copy_part(file, part, &out, || failed.load(Ordering::Relaxed) < begin)
+            copy_part(file, part, &out, || failed.load(Ordering::Relaxed) <= begin)
         });
-        if done.is_err() {
-            failed.fetch_min(begin, Ordering::Relaxed);
+        if done.is_ok() {
+            std::mem::forget(failing);
         }
         done
     };
     thread::scope(|scope| {
         let (copies, mut threads, mut begin) = (&copies, Vec::new(), 0);
         while begin < len {
-            threads.push(thread::Builder::new().spawn_scoped(scope, move || copies(begin))?);
+            let started = thread::Builder::new().spawn_scoped(scope, move || copies(begin));
+            threads.push(started.map_err(|error| {
+                failed.store(0, Ordering::Relaxed); // (all parts stop)
+                error
+            })?);
             begin += step;
         }
         for it in threads {
@@ -65,6 +70,15 @@ pub fn decrypt_to<R: Read + Seek>(
         }
         Ok(len)
     })
+}
+
+/// Says that the part that begins here failed, when it is dropped, as by a panic.
+struct Failing<'a>(&'a AtomicU64, u64);
+
+impl Drop for Failing<'_> {
+    fn drop(&mut self) {
+        self.0.fetch_min(self.1, Ordering::Relaxed);
+    }
 }
 
 /// Gives `out` a part of the plaintext, unless it is to stop.

@@ -210,6 +210,9 @@ impl<W: Write> Write for AgeWriter<W> {
     /// Passes on what is sealed; a chunk that isn't full is kept.
     fn flush(&mut self) -> io::Result<()> {
         self.see_whole()?;
-        self.out.flush()
+        self.failed = Some(Failure::InCall);
+        let passed = self.out.flush();
+        self.failed = passed.as_ref().err().map(Failure::of);
+        passed
     }
 }

@@ -5,7 +5,9 @@ use crate::header::{Header, Stanza};
 use crate::key::open_shared;
 use crate::state::State;
 use age_c_sys::AgeCReader;
+use std::collections::hash_map::RandomState;
 use std::fmt;
+use std::hash::{BuildHasher, Hasher};
 use std::io;
 
 /// How many pairs of an [`Identity`] and an X25519 stanza are tried, since a stranger's header may
@@ -122,6 +124,17 @@ fn alone(share: &str, body: &[u8]) -> String {
     format!("age-encryption.org/v1\n-> X25519 {share}\n{body}\n--- {mac}\n{nonce}")
 }
 
+/// Bytes that nobody could know before, so that nobody could make a stanza that they open. They come
+/// from the keys of std's hash maps, since a reader has to run where `/dev/urandom` doesn't exist.
+fn unknown() -> [u8; 32] {
+    let keys = RandomState::new();
+    std::array::from_fn(|at| {
+        let mut byte = keys.build_hasher();
+        byte.write_usize(at);
+        byte.finish() as u8
+    })
+}
+
 /// Opens the header that these bytes begin with by one of these keys.
 pub(crate) fn open(
     exchange: Exchange,
@@ -130,7 +143,7 @@ pub(crate) fn open(
     reader: &mut AgeCReader,
 ) -> u32 {
     // (a pair that opens nothing, by which the library says what is wrong with the header)
-    let answer = open_shared(front, &[1; 32], &[0; 32], reader);
+    let answer = open_shared(front, &unknown(), &[0; 32], reader);
     if answer != WRONG_KEY {
         return answer;
     }

@@ -103,3 +103,31 @@ fn shorter_files_have_no_end() {
         assert_eq!(error.kind(), ErrorKind::InvalidData, "{cut}");
     }
 }
+
+/// A source whose connection is lost when it is sought in, which rustls, for one, calls that.
+struct Lost<'a>(Cursor<&'a [u8]>, &'a Cell<usize>);
+
+impl Read for Lost<'_> {
+    fn read(&mut self, room: &mut [u8]) -> io::Result<usize> {
+        self.0.read(room)
+    }
+}
+
+impl Seek for Lost<'_> {
+    fn seek(&mut self, to: SeekFrom) -> io::Result<u64> {
+        let left = self.1.get().checked_sub(1).ok_or(ErrorKind::UnexpectedEof)?;
+        self.1.set(left);
+        self.0.seek(to)
+    }
+}
+
+#[test]
+fn lost_connections_are_no_ends() {
+    let data = file_of_records();
+    for seeks in 0..7 {
+        let left = Cell::new(seeks);
+        let found = AgeFile::open(Lost(Cursor::new(&data), &left), key()).and_then(records);
+        let error = found.unwrap_err();
+        assert_eq!((error.kind(), AgeError::of(&error)), (ErrorKind::InvalidData, None));
+    }
+}

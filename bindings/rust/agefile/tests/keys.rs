@@ -5,7 +5,7 @@ mod primitives;
 use agefile::{
     decrypt, encrypt, parse_recipient, salvage, AgeError, AgeFile, AgeReader, AgeWriter,
 };
-use agefile::{Identity, Key, MAX_TRIES};
+use agefile::{Identity, Key, Opening, MAX_TRIES};
 use primitives::{wrap, x25519};
 use std::io::{self, Cursor, ErrorKind, Read, Seek, SeekFrom, Write};
 use std::process::{Command, Stdio};
@@ -63,6 +63,8 @@ fn reads_files_for_keys() {
     assert_eq!(decrypt(&data, key).unwrap(), b"hello, recipient\n");
     assert_eq!(number(decrypt(&of_age("other.age").unwrap(), key)), 13);
     assert_eq!(number(decrypt(&of_age("passphrase.age").unwrap(), key)), 12);
+    // (for a pair of numbers that anybody can guess)
+    assert_eq!(number(decrypt(&of_age("anyone.age").unwrap(), key)), 13);
     assert_eq!(number(decrypt(&data[..90], key)), 254);
     assert_eq!(number(decrypt(&data, key_of(&[]))), 13);
     assert_eq!(number(decrypt(&data, key_of(&others))), 13);
@@ -151,6 +153,30 @@ fn gives_the_share_of_a_stanza() {
     let key = Key::X25519 { exchange: &exchange, identities: &identities };
     assert_eq!(number(decrypt(&data, key)), 13);
     assert_eq!(seen.lock().unwrap()[1], bytes_of(SHARE));
+}
+
+/// A header that failed to open can be tried again: what was read after it is the payload.
+#[test]
+fn tries_an_opening_again() {
+    let Some((text, identities)) = keys() else {
+        return;
+    };
+    let plain = vec![7; 300_000];
+    let mut file =
+        AgeWriter::create_x25519(Vec::new(), &x25519, &wrap, &[public_of(&text)]).unwrap();
+    file.write_all(&plain).unwrap();
+    let data = file.finish().unwrap();
+    let tries = AtomicUsize::new(0);
+    let exchange = |secret: &[u8; 32], point: &[u8; 32]| {
+        let is_right = tries.fetch_add(1, Ordering::Relaxed) > 1;
+        x25519(secret, point).map(|it| it * u8::from(is_right))
+    };
+    let key = Key::X25519 { exchange: &exchange, identities: &identities };
+    let (error, opening) = Opening::new(&data[..], key).open().err().unwrap();
+    assert_eq!(AgeError::of(&error).unwrap().number, 13);
+    let mut held = Vec::new();
+    opening.open().map_err(|it| it.0).unwrap().read_to_end(&mut held).unwrap();
+    assert!(held == plain);
 }
 
 #[test]

@@ -152,3 +152,40 @@ fn failures_are_reported() {
         assert_eq!(error.kind(), ErrorKind::BrokenPipe);
     }
 }
+
+/// What is consumed beyond the buffer is its end.
+#[test]
+fn consumes_no_more_than_there_is() {
+    let data = encrypt(&text_of(100), b"pw", 1).unwrap();
+    let mut file = AgeReader::open(&data[..], key()).unwrap();
+    file.read_exact(&mut [0; 9]).unwrap();
+    file.consume(usize::MAX);
+    assert!(file.fill_buf().unwrap().is_empty());
+}
+
+/// A sink that says only once that it lost what it took, as a disk does.
+struct Once(bool);
+
+impl Write for Once {
+    fn write(&mut self, bytes: &[u8]) -> io::Result<usize> {
+        Ok(bytes.len())
+    }
+
+    fn flush(&mut self) -> io::Result<()> {
+        match std::mem::take(&mut self.0) {
+            true => Err(io::Error::other("lost")),
+            false => Ok(()),
+        }
+    }
+}
+
+/// A flush that failed counts as a write that failed.
+#[test]
+fn a_flush_that_failed() {
+    let mut file = AgeWriter::create(Once(true), b"pw", 1).unwrap();
+    file.write_all(b"text").unwrap();
+    assert_eq!(file.flush().unwrap_err().to_string(), "lost");
+    for later in [file.write_all(b"x"), file.flush(), file.finish().map(drop)] {
+        assert!(later.unwrap_err().to_string().ends_with("failed: lost"));
+    }
+}

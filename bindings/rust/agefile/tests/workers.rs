@@ -151,3 +151,27 @@ fn refuses_other_numbers_of_workers() {
         assert_eq!(error.to_string(), "workers must be 1 to 64");
     }
 }
+
+/// Parts after one that panicked stop, too.
+#[test]
+fn stops_after_a_panic() {
+    const MANY: usize = 1_000;
+    let data = encrypt(&vec![0; MANY * 65_536], b"pw", 1).unwrap();
+    let (written, begun) = (AtomicUsize::new(0), AtomicUsize::new(0));
+    let out = |_: &[u8], at: u64| {
+        if at == 0 {
+            begun.store(1, Ordering::Relaxed);
+            panic!("the first piece");
+        }
+        // (the other part goes on after that, so slowly that the panic has seconds to get out)
+        while begun.load(Ordering::Relaxed) == 0 {
+            std::thread::sleep(std::time::Duration::from_millis(1));
+        }
+        std::thread::sleep(std::time::Duration::from_millis(20));
+        written.fetch_add(1, Ordering::Relaxed);
+        Ok(())
+    };
+    let all = std::panic::AssertUnwindSafe(|| decrypt_to(out, || Ok(Cursor::new(&data)), key(), 2));
+    assert!(std::panic::catch_unwind(all).is_err());
+    assert!(written.load(Ordering::Relaxed) < MANY / 4);
+}
