@@ -5,7 +5,8 @@ usage: python3 restore.py IN OUT
 
 It is slow (about a minute for 10 MB), takes work factors up to 20, and isn't proved;
 tests/test_restore.py compares it with age_tool. If it ends without a message, OUT is the complete
-plaintext. Otherwise OUT isn't made, and OUT.part holds the chunks before the damage or the cut.
+plaintext. Otherwise OUT isn't made, and OUT.part holds the chunks before the damage or the cut. An
+OUT.part that exists is refused.
 The format is https://c2sp.org/age, the arithmetic RFC 8439.
 """
 import base64
@@ -84,9 +85,16 @@ def key_of(file, passphrase):
 
 
 def main(name, out):
+    if os.path.lexists(out + ".part"):
+        sys.exit(f"restore: {out}.part exists: move it away, or choose another OUT")
     passphrase = getpass.getpass("Passphrase: ").encode()
-    with open(name, "rb") as file, open(out + ".part", "wb") as part:
-        key = key_of(file, passphrase)
+    with open(name, "rb") as file:
+        restore(file, key_of(file, passphrase), out)
+
+
+def restore(file, key, out):
+    """Writes the plaintext of a payload."""
+    with open(out + ".part", "xb") as part:
         number, piece = 0, file.read(65552)
         while True:
             ahead = file.read(65552)

@@ -243,6 +243,8 @@ class ReleaseTest(Case):
         self.see("the later one", (place / "bin/age_tool").stat().st_mtime == LATER, (place / "bin/age_tool").stat().st_mtime)
         ended = run(place / "share/age_tool/install", env=env)
         self.see("it is installed already", ended.returncode == 2 and self.installed(place) == kept, ended.stdout)
+        ended = run(place / "share/age_tool/install", env={**env, "PREFIX": "/opt/other"})
+        self.see("an installed one installs nothing elsewhere", ended.returncode == 1 and not (root / "opt/other").exists(), ended.stdout)
         ended = run(place / "share/age_tool/install", "--remove", env=env)
         left = ["share", "share/age_tool", "share/age_tool/go", "share/age_tool/go/mine.go", "share/man", "share/man/mine"]
         self.see("removed", ended.returncode == 0 and self.installed(place) == left, ended.stdout, *self.installed(place))

@@ -42,12 +42,17 @@ class RestoreTest(Case):
             ended = self.restore("bad")
             said = ended.stderr.splitlines()[-1:]
             self.see(f"{name}: refused", ended.returncode == 1 and not self.is_there("out") and said and said[0].startswith(b"restore: "), ended.stderr)
-            self.see(f"{name}: what is left", self.read("out.part") == text[: left * CHUNK], len(self.read("out.part")))
+            held = self.read("out.part") if self.is_there("out.part") else b""
+            self.see(f"{name}: what is left", held == text[: left * CHUNK], len(held))
         for name, file in (("no age file", b"hello\n" * 9), ("empty", b""), ("for a key", b"age-encryption.org/v1\n-> X25519 a\nb\n--- c\n")):
             self.write("bad", file)
             ended = self.restore("bad")
             self.see(f"{name}: refused", ended.returncode == 1 and b"not an age file for a passphrase" in ended.stderr, ended.stderr)
-        self.see("another passphrase", self.restore("age", b"another\n").returncode == 1 and not self.is_there("out"))
+        self.see("another passphrase", self.restore("age", b"another\n").returncode == 1 and not self.is_there("out") and not self.is_there("out.part"))
+        self.write("in.part", whole)
+        words = [sys.executable, TOP / "docs" / "restore.py", "in.part", "in"]
+        ended = subprocess.run(words, cwd=self.room, input=b"correct horse\n", capture_output=True, start_new_session=True)
+        self.see("IN is OUT.part", ended.returncode == 1 and self.read("in.part") == whole and b"exists" in ended.stderr, ended.stderr)
 
     def test_vectors(self):
         """What others wrote is restored, and what isn't is told in a sentence. (It takes some headers that age refuses: their MAC is right.)"""
