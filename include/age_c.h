@@ -28,17 +28,19 @@
  * bindings/README.md has one that writes a file and reads one from any place on.
  *
  * WHAT HOLDS. Every byte of plaintext that is written to `out` has been authenticated. Unless a tag
- * is forged, the output of a reader since it was opened is a prefix of the original plaintext. It
- * is known to be complete only once an end (age_c_end, age_c_finish, or age_c_open_at of less than
- * a block) has returned 0: until then don't act on it as if it were. After age_c_seek, and for
- * age_c_open_at, the same holds from that chunk on: the output since then is a prefix of what
- * follows in the plaintext from the chunk's first byte, and once an end has returned 0 it is all
- * that follows, so that the length of the plaintext is known. An undamaged payload gives all of its
- * plaintext and no fault; age_c_open_at opens each chunk whose block is undamaged, whatever the
- * others are. With 17 the block with the number `fault_chunk`, or the nonce, isn't the writer's;
- * the plaintext before it, from the last seek on, has been written by earlier calls. A file that
- * was truncated inside a block, with more than 16 bytes of that block left, also ends with 17,
- * since it can't be told from a damaged one. (So do nearly all long files that were truncated.)
+ * is forged, or another payload sealed under the same key, the output of a reader since it was
+ * opened is a prefix of the original plaintext. It is known to be complete only once an end
+ * (age_c_end, age_c_finish, or age_c_open_at of less than a block) has returned 0: until then don't
+ * act on it as if it were. After age_c_seek, and for age_c_open_at, the same holds from that chunk
+ * on: the output since then is a prefix of what follows in the plaintext from the chunk's first
+ * byte, and once an end has returned 0 it is all that follows, so that the length of the plaintext
+ * is known. An undamaged payload gives all of its plaintext and no fault, and age_c_open_at opens
+ * each chunk whose block is undamaged, whatever the others are, unless a writer with the key made a
+ * full last block that opens as one before the last, too. With 17 the block with the number
+ * `fault_chunk`, or the nonce, isn't the writer's; the plaintext before it, from the last seek on,
+ * has been written by earlier calls. A file that was truncated inside a block, with more than 16
+ * bytes of that block left, also ends with 17, since it can't be told from a damaged one. (So do
+ * nearly all long files that were truncated.)
  * What a writer wrote, from age_c_seal_passphrase or age_c_seal_key to an age_c_finish_text that
  * returned 0, is the age file of the plaintext. It doesn't matter into which pieces a payload or a
  * plaintext was split.
