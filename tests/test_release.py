@@ -250,6 +250,13 @@ class ReleaseTest(Case):
         self.see("removed", ended.returncode == 0 and self.installed(place) == left, ended.stdout, *self.installed(place))
         ended = run(first, "--remove", env=env)
         self.see("nothing is installed", ended.returncode == 1 and self.installed(place) == left, ended.stdout)
+        limited, elsewhere = ["sh", "-c", 'ulimit -f 40; exec "$@"', ""], self.path("another root/opt/age")
+        ended = run(*limited, first, env={**env, "DESTDIR": str(self.path("another root"))})
+        begun = self.installed(elsewhere)
+        half = [it for it in begun if it.endswith(".new")]
+        self.see("one that fails", ended.returncode == 1 and "share/age_tool/LIST" in begun and not half, ended.stdout, half)
+        ended = run(first, "--remove", env={**env, "DESTDIR": str(self.path("another root"))})
+        self.see("it is removed, too", ended.returncode == 0 and not self.installed(elsewhere), ended.stdout, *self.installed(elsewhere))
         for words, status in ((["--help"], 0), (["--delete"], 2)):
             ended = run(first, *words, env=env)
             self.see(words[0], ended.returncode == status and "usage: " in ended.stdout and self.installed(place) == left, ended.stdout)
