@@ -26,6 +26,8 @@ FACTORS = range(1, WORK_MAX + 1)
 
 # What only a write can fail with.
 FULL = (errno.ENOSPC, errno.EDQUOT, errno.EFBIG)
+# What says that no file can be made in OUT's folder, whatever its name was to be meanwhile.
+UNMADE = (errno.ENOENT, errno.ENOTDIR, errno.EACCES, errno.EROFS)
 
 
 def passphrase_of(words: argparse.Namespace, again: bool = False) -> bytes:
@@ -164,7 +166,8 @@ def decrypt_by_workers(words: argparse.Namespace) -> None:
             with replacing(out, words.no_clobber) as made:
                 copy_text(first, lambda: Places(under.fileno()), lambda at, text: put_at(made.fileno(), at, text), words.workers)
         except OSError as fault:
-            if fault.filename == out or fault.filename is None and fault.errno in FULL or fault.errno in (errno.ENOENT, errno.ENOTDIR, errno.EROFS):
+            is_full = fault.filename is None and fault.errno in FULL
+            if fault.filename == out or is_full or fault.errno in UNMADE:
                 fault.filename = words.output
             raise
 

@@ -301,7 +301,8 @@ fn more_of_failure(number: u8, failures: &RunFailures<'_>) -> &'static str {
             "; it is empty: a run that was killed may have left it"
         }
         Some(first) if is_damage(first, failures) => {
-            "; without another copy, a release's Python module saves what still opens: python3 -m agefile salvage"
+            "; without another copy, a release's Python module saves what still opens: \
+             python3 -m agefile salvage"
         }
         Some(first) if first.is_unopened(io::ErrorKind::NotFound) => {
             if failures.named_by("--pass") == Some(first.name) {

@@ -52,7 +52,8 @@ const OPTION_HINTS: Hints = &[
     ),
     (
         &["-R", "--recipients-file"],
-        "for recipients (a release's Python module): python3 -m agefile encrypt --recipients-file FILE IN OUT",
+        "for recipients (a release's Python module): \
+         python3 -m agefile encrypt --recipients-file FILE IN OUT",
     ),
     (
         &["-a", "--armor"],
