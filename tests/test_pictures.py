@@ -30,10 +30,13 @@ class PicturesTest(Case):
         self.write("in", file[: payload + 2 * BLOCK])
         self.tool("decrypt", "--pass", "pass", "--save", "position", "in", "old")
         saved, old = self.read("position"), self.read("old")
-        forged = saved[:-3] + bytes([saved[-3] ^ 1]) + saved[-2:]
+        # (a letter of the tag, by another one of base64)
+        forged = saved[:-3] + (b"B" if saved[-3:-2] == b"A" else b"A") + saved[-2:]
+        at = payload + 2 * BLOCK
+        damaged = file[:at] + bytes([file[at] ^ 1]) + file[at + 1 :]
         given = {
             23: ("position", b"no position\n"), 24: ("in", self.read("other")), 30: ("position", forged), 25: ("old", old[:-1]), 31: ("old", b"x" + old[1:]),
-            20: ("in", file[: payload + 2 * BLOCK - 1]), 17: ("in", file[: payload + 2 * BLOCK] + b"x" + file[payload + 2 * BLOCK + 1 :]), None: ("in", file),
+            20: ("in", file[: at - 1]), 17: ("in", damaged), None: ("in", file),
         }
         self.see("all faults of the picture", {fault for _, fault in STEPS} == {*given} - {None})
         for fault, (name, held) in given.items():
