@@ -15,8 +15,9 @@ pub record EndedFile : Type 0 where
   pub took : List ℕ
   -- whether it was closed with them, and not discarded
   pub is_closed : Bool
-  -- which regular file of a disk it is, if it is one
+  -- which regular file of a disk it is, if it is one, and whether its name is a link
   pub file : Option OutFile
+  pub is_link : Bool
   -- the calls that were made for it, the newest first, and how many have failed
   pub calls : List FileCall
   pub failed : ℕ
@@ -31,6 +32,10 @@ abbrev pub TouchesItself : EndedFile → Type 0
 TouchesItself e =
     MatchOption e.file ((e.calls ≡ []) ⊎ ((n : ℕ) × OpensDevice n e.calls))
     (λ f. TouchesFile f e.calls)
+
+-- its path is its name, unless that is a link
+abbrev pub IsAtName : (name : List ℕ) → EndedFile → Type 0
+IsAtName name e = e.is_link ≡ false → IfSome e.file (λ f. f.path ≡ name)
 
 -- it is at its path, with exactly what its sink took
 abbrev pub IsThere : EndedFile → Type 0
@@ -52,6 +57,7 @@ pub record Closes {E : Type 0} (durability : Durability) (file : Option OutFile)
   pub took : e.took ≡ sink.taken.bytes
   pub closed : e.is_closed ≡ true
   pub same : e.file ≡ file
+  pub at : IsAtName sink.taken.label e
   pub within : TouchesItself e
   -- A file whose sink took bytes was closed once it had them, if the end hasn't failed.
   pub kept : sink.taken.bytes ≢ [] → OnOk result (IfSome file (λ f. ClosesLast f.number e.calls))
@@ -67,5 +73,6 @@ pub record Discards (file : Option OutFile) (sink : SinkView) (e : EndedFile) : 
   pub took : e.took ≡ sink.taken.bytes
   pub closed : e.is_closed ≡ false
   pub same : e.file ≡ file
+  pub at : IsAtName sink.taken.label e
   pub within : TouchesItself e
   pub untouched : sink.taken.bytes ≡ [] → IsUntouched sink.failed e

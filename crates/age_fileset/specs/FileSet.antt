@@ -362,6 +362,7 @@ ended_with took is_closed = record {
   took = took;
   is_closed = is_closed;
   file = None;
+  is_link = false;
   calls = [];
   failed = 0;
 }

@@ -40,7 +40,7 @@ struct MemEnded {
 }
 
 impl Model for MemEnded {
-    ghost use Rattle.std.specs.Prelude.{None, []};
+    ghost use Rattle.std.specs.Prelude.{None, [], false};
     ghost use Rattle.age_calls.specs.{EndedFile};
 
     ghost Value = { EndedFile };
@@ -49,6 +49,7 @@ impl Model for MemEnded {
       took = e.took;
       is_closed = e.is_closed;
       file = None;
+      is_link = false;
       calls = [];
       failed = 0;
     } };

@@ -181,7 +181,7 @@ impl<'r, 'w> HostIn<'r, 'w> {
     ) -> io::Result<HostIn<'r, 'w>>
         ensures { IfOk result (IsFresh name.now) }
     {
-        let Led { name, to } = Led::of(alloc, rt, name)?;
+        let Led { name, to, .. } = Led::of(alloc, rt, name)?;
         let opened = match to {
             Resolved::Stream(stream) => HostIn::open_stream(rt, name, stream, told),
             Resolved::Path(_) => HostIn::open_path(rt, name, told),

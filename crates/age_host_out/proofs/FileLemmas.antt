@@ -1,13 +1,16 @@
 -- What is known of a file while puts go on, and once it was ended.
-use Rattle.std.proofs.Common.{◌≡◌, ◌<◌, ℕ, List, [], ◌∷◌, ◌++◌, zero, suc, Bool, true, false, Option, Some, None, Result, arith, sym, ap, ◌∙◌, refl, subst}
-use Rattle.std.specs.Prelude.{Ok, Err, IfOk, IfSome, OnOk, OnErr, MatchResult, is_ok}
+use Rattle.std.proofs.Common.{inl, inr, ◌≡◌, ◌<◌, ℕ, List, [], ◌∷◌, ◌++◌, zero, suc, Bool, true, false, Option, Some, None, Result, arith, sym, ap, ◌∙◌, refl, subst}
+use Rattle.std.specs.Prelude.{Ok, Err, IfOk, IfSome, OnOk, OnErr, MatchResult, is_ok, is_some}
 use Rattle.age_io.specs.{one_more}
 use Rattle.age_options.specs.declared.Durability.{Durability}
 use Rattle.age_options.specs.declared.Durability.TheVariants.{Synced}
 use Rattle.age_calls.specs.{FileCall, ClosesLast, EndedFile, Closes, OutFile, OutView, TouchesFile, text_of, IsThereAs, IsSafe}
 use Rattle.age_names.specs.declared.names.FileId.{FileId}
-use Rattle.age_host_out.specs.{sink_of, IsTaking, Stays}
+use Rattle.age_host_out.specs.{IsAtOutName, IsTaking, Stays}
 use Rattle.age_host_out.specs.inner.{TargetPuts, part_of}
+use Rattle.age_host_out.specs.inner.Ending.{WasWritten, tally_sink}
+use Rattle.age_host_out.specs.declared.target.OutName.{OutName}
+use Rattle.age_host_out.specs.declared.ending.OutTally.{OutTally}
 
 -- while no put has failed, this one hasn't, nor one before it
 pub noted_well : {E F : Type 0} (call : Result ℕ E) (put : Result ℕ F) (before after : ℕ)
@@ -29,6 +32,13 @@ unmade_put (Some at) (Some path) file now id known (Ok zero) from took stays non
 unmade_put (Some at) (Some path) file now id known (Ok (suc n)) from took stays none made = absurd (differ (made (grind arith))) where
   differ : Some path ≡ None → ⊥
   differ same = cc
+
+-- a file that is made is at its name, if it was to be made there
+pub stays_at : (name : OutName) (old new : Option (List ℕ)) (file now : Option OutFile) (id known : Option FileId) → Stays old new file now id known → IsAtOutName name file old
+    → IsAtOutName name now new
+stays_at name None new file now id known stays at = λ own. rw stays.0 (rw stays.1 (at own))
+stays_at name (Some path) new file now id known (inl stays) at = λ own. rw stays.0 (rw stays.1 (at own))
+stays_at name (Some path) new file now id known (inr (made, is)) at = λ own. rw made (rw is.is ((is.at ∙ (at own).1, tt)))
 
 -- what a sink took is what was written, once a part more was
 pub taken_on : (old new : Option OutView) (is_ok : Bool) (part took : List ℕ) (before after : ℕ) → TargetPuts old new is_ok part
@@ -53,29 +63,29 @@ taken_on (Some old) (Some new) is_ok part took before after puts taking well = (
 
 -- ---- A regular file that was ended.
 
-module _ (durability : Durability) (out : OutView) (failed : ℕ) (failing : Bool) (took : List ℕ)
-    (calls : List FileCall) (count : ℕ) (which : Option OutFile) (is : which ≡ Some out.file)
-    (taking : IsTaking (Some out) failed took) (within : TouchesFile out.file calls) where
+module _ (durability : Durability) (out : OutView) (w : OutTally) (calls : List FileCall) (count : ℕ) (which : Option OutFile)
+    (is : which ≡ Some out.file) (written : WasWritten out w) (within : TouchesFile out.file calls) where
   abbrev ended : Option OutFile → EndedFile
-  ended file = record { took = took; is_closed = true; file = file; calls = calls; failed = count }
+  ended file = record { took = w.took; is_closed = true; file = file; is_link = is_some w.name.link; calls = calls; failed = count }
 
   sure_of : {E : Type 0} (P : List ℕ → Type 0) (r : Result (Unit {0}) E) → OnOk r (out.is_lost ≡ false)
-      → (out.failed ≡ 0 → OnOk r (P (text_of out.calls))) → failed ≡ 0 → OnOk r (P took)
+      → (out.failed ≡ 0 → OnOk r (P (text_of out.calls))) → w.failures.count ≡ 0 → OnOk r (P w.took)
   sure_of P (Err e) sure holds none = tt
-  sure_of P (Ok x) sure holds none = subst P taking.0 (holds (taking.1.0 none sure))
+  sure_of P (Ok x) sure holds none = subst P written.0.0 (holds (written.0.1.0 none sure))
 
   pub file_closes : {E : Type 0} (r : Result (Unit {0}) E) → OnOk r (out.is_lost ≡ false)
       → (durability ≡ Synced → out.failed ≡ 0
       → OnOk r (IsSafe out.file.path (text_of out.calls) calls))
       → (out.failed ≡ 0 → OnOk r (IsThereAs out.file.path out.file.number (text_of out.calls) calls)) → OnErr r (0 < count)
       → OnOk r (ClosesLast out.file.number calls)
-      → Closes durability (Some out.file) (sink_of failed failing took) r (ended which)
+      → Closes durability (Some out.file) (tally_sink w) r (ended which)
   file_closes r sure safe there caused closed =
-      subst (λ (w : Option OutFile). Closes durability (Some out.file) (sink_of failed failing took) r
-      (ended w)) (sym is) (record {
+      subst (λ (it : Option OutFile). Closes durability (Some out.file) (tally_sink w) r
+      (ended it)) (sym is) (record {
         took = refl;
         closed = refl;
         same = refl;
+        at = λ own. (written.1 own).0;
         within = within;
         kept = λ some. closed;
         there = sure_of (λ t. IsThereAs out.file.path out.file.number t calls) r sure there;

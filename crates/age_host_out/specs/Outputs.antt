@@ -8,8 +8,9 @@ use Rattle.age_names.specs.declared.node.Node.{Node}
 use Rattle.age_names.specs.declared.names.FileId.TheVariants.{File}
 
 pub record OutputView : Type 0 where
-  -- the name under which it was opened or made
+  -- the name under which it was opened or made, and whether that is a link
   pub name : List ℕ
+  pub is_link : Bool
   -- how many puts have failed, and whether the last call did
   pub failed : ℕ
   pub failing : Bool
@@ -30,10 +31,10 @@ pub record HasNode (id : Option FileId) (file : OutFile) : Type 0 where
   pub known : id ≡ Some (File node)
   pub number : file.number ≡ number_of node
 
--- a sink that took these bytes; it doesn't show what it holds
-abbrev pub sink_of : (failed : ℕ) (failing : Bool) (took : List ℕ) → SinkView
-sink_of failed failing took = record {
-  taken = record { bytes = took; contents = None; label = [] };
+-- a sink of this name that took these bytes; it doesn't show what it holds
+abbrev pub sink_of : (name : List ℕ) (failed : ℕ) (failing : Bool) (took : List ℕ) → SinkView
+sink_of name failed failing took = record {
+  taken = record { bytes = took; contents = None; label = name };
   failed = failed;
   failing = failing;
   flushed = true;
@@ -41,10 +42,7 @@ sink_of failed failing took = record {
 
 -- the file as a sink, which has sent nothing on before it was made
 abbrev pub as_sink : OutputView → SinkView
-as_sink out = record (sink_of out.failed out.failing out.took) {
-  taken = record { bytes = out.took; contents = None; label = out.name };
-  flushed = is_none out.unmade;
-}
+as_sink out = record (sink_of out.name out.failed out.failing out.took) { flushed = is_none out.unmade }
 
 -- nothing was put into it yet
 pub record IsNew (out : OutputView) : Type 0 where

@@ -1,7 +1,8 @@
 -- What is known of a file while it is written.
 use Rattle.std.specs.Prelude.{◌≡◌, ◌≤◌, ℕ, List, [], length, Option, Some, None, false, option_map}
-use Rattle.std.specs.Prelude.{string_bytes}
+use Rattle.std.specs.Prelude.{string_bytes, IfSome, is_some}
 use Rattle.age_calls.specs.{OutFile, OutView, text_of}
+use Rattle.age_host_out.specs.declared.target.OutName.{OutName}
 use Rattle.age_host_out.specs.declared.output.Pace.{Pace}
 use Rattle.age_host_out.specs.declared.target.Target.{Target}
 use Rattle.age_host_out.specs.declared.target.Target.TheVariants as target
@@ -19,6 +20,12 @@ out_file_of it = option_map (λ (o : OutView). o.file) (regular_of it)
 abbrev pub unmade_of : Target → Option (List ℕ)
 unmade_of (target.Unmade path) = Some (string_bytes path)
 unmade_of other = None
+
+-- A regular file is at its name, or is to be made there, unless that is a link.
+abbrev pub IsAtOutName : OutName → Option OutFile → (unmade : Option (List ℕ)) → Type 0
+IsAtOutName name file unmade = is_some name.link ≡ false
+    → IfSome file (λ f. f.path ≡ string_bytes name.text)
+    × IfSome unmade (λ path. path ≡ string_bytes name.text)
 
 -- What its sink took was written to a regular file. While no put has failed, no call has, unless
 -- the file can't be relied on. While nothing was taken either, no call has failed in any case.

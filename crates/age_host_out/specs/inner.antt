@@ -1,6 +1,8 @@
 -- What is done to a file that is written. Private: no public contract cites this module.
 pub mod Devices
-use Rattle.std.specs.Prelude.{◌≡◌, ℕ, List, [], ◌++◌, take, Bool, true, false, Option, Some, None, Result, Ok, Err}
+pub mod Ending
+use Rattle.std.specs.Prelude.{◌≡◌, ℕ, List, [], ◌++◌, take, Bool, true, false, Option, Some, None}
+use Rattle.std.specs.Prelude.{Result, Ok, Err}
 use Rattle.age_calls.specs.{FileCall, OutView, text_of}
 use Rattle.age_host_out.specs.Targets.{regular_of, unmade_of}
 use Rattle.age_host_out.specs.declared.target.Target.{Target}

@@ -6,8 +6,10 @@
 #![tactic(auto)]
 
 mod device;
+mod ending;
 mod output;
 mod sync;
 mod target;
 
-pub use output::{HostEnded, HostOut};
+pub use ending::HostEnded;
+pub use output::HostOut;

@@ -1,28 +1,28 @@
 //! A file of the machine that is written.
 
-ghost use Rattle.std.specs.Prelude.{◌≡◌, ◌↔◌, ◌≤◌, ◌<◌, [], ◌∷◌, ◌++◌, None, Some, true, false, length, is_ok};
-ghost use Rattle.std.specs.Prelude.{is_err, IfOk, IfSome, OnOk, OnErr, MatchResult, string_bytes, option_map, ℕ};
-ghost use Rattle.std.specs.Prelude.{List};
+ghost use Rattle.std.specs.Prelude.{◌≡◌, ◌↔◌, ◌≤◌, ◌<◌, [], ◌∷◌, ◌++◌, None, Some, true, false, ℕ, List};
+ghost use Rattle.std.specs.Prelude.{length, is_some, is_ok, is_err, IfOk, IfSome, OnOk, OnErr, MatchResult};
+ghost use Rattle.std.specs.Prelude.{string_bytes, option_map};
 ghost use Rattle.std.specs.Io.{WritesAtMost};
 ghost use Rattle.age_io.specs.{one_more};
 ghost use Rattle.age_options.specs.declared.Durability.TheVariants as wait;
 ghost use Rattle.age_io.specs.Taken.{WriteAppends, Keeps};
-ghost use Rattle.age_calls.specs.{Opened, Closes, Discards, TouchesItself};
+ghost use Rattle.age_calls.specs.{Opened, Closes, Discards};
 ghost use Rattle.age_names.specs.{number_of};
-ghost use Rattle.age_host_out.specs.Outputs.{IsNew, KeepsFile, Stays, HasNode, sink_of, as_sink};
-ghost use Rattle.age_host_out.specs.Targets.{regular_of, out_file_of, unmade_of, IsTaking, IsPaced};
-ghost use Rattle.age_host_out.specs.inner.{opening_calls, part_of, TargetGoes};
+ghost use Rattle.age_host_out.specs.Outputs.{IsNew, KeepsFile, Stays, HasNode, as_sink};
+ghost use Rattle.age_host_out.specs.Targets.{regular_of, out_file_of, unmade_of, IsAtOutName};
+ghost use Rattle.age_host_out.specs.Targets.{IsTaking, IsPaced};
+ghost use Rattle.age_host_out.specs.inner.{part_of, TargetGoes};
 
 use crate::device::Device;
+use crate::ending::{HostEnded, OutTally, close_untouched, discard_file, end_file, unseen};
 use crate::sync::{Witness, close_stream};
-use crate::target::{Target, claimed, make_first};
+use crate::target::{OutName, Target, claimed, make_first};
 use age_calls::{Kind, Opening};
 use age_io::{Failed, Failures, Sink, Tape};
 use age_machine::calls::close;
 use age_machine::{HostFile, HostMachine, Machine, Out};
-use age_names::{
-    FileId, Led, Node, Resolved, StandardStream, check_place, found_at, is_for_faults, tape_of,
-};
+use age_names::{FileId, Led, Resolved, StandardStream, check_place, found_at, is_for_faults};
 use age_options::Durability;
 use std::alloc::Global;
 use std::fs::File;
@@ -177,87 +177,6 @@ fn write_made(
     write_paced(rt, target, pace, from, handed)
 }
 
-/// Which regular file was ended, for contracts alone.
-#[derive(Drop)]
-struct Which {
-    path: Tape,
-    node: Node,
-    is_made: bool,
-}
-
-impl Model for Which {
-    ghost use Rattle.age_calls.specs.{OutFile};
-    ghost use Rattle.age_names.specs.{number_of};
-
-    ghost Value = { OutFile };
-
-    ghost view = { λ w. record {
-      path = w.path;
-      number = number_of w.node;
-      is_made = w.is_made;
-    } };
-}
-
-impl Which {
-    /// The file of an output.
-    fn of(out: &Out<HostMachine>) -> Which
-        ensures { result ≡ out.now.file }
-    {
-        let (path, file, is_made) = out.which();
-        Which {
-            path: tape_of(path.as_bytes()),
-            node: file.node(),
-            is_made,
-        }
-    }
-}
-
-/// What was done to a file that was ended, for contracts alone.
-#[derive(Drop)]
-pub struct HostEnded {
-    took: Tape,
-    // Whether it was closed with what was written, and not discarded.
-    is_closed: bool,
-    which: Option<Which>,
-    machine: HostMachine,
-}
-
-impl Model for HostEnded {
-    ghost use Rattle.age_calls.specs.{EndedFile};
-
-    ghost Value = { EndedFile };
-
-    ghost view = { λ e. record {
-      took = e.took;
-      is_closed = e.is_closed;
-      file = e.which;
-      calls = e.machine.calls;
-      failed = e.machine.failed;
-    } };
-}
-
-impl HostEnded {
-    /// The bytes that its sink took, for contracts alone.
-    pub fn took(&self) -> &Tape
-        ensures { result.now ≡ self.now.took }
-    {
-        &self.took
-    }
-
-    /// Which regular file it is, if it is one.
-    pub fn id(&self) -> Option<FileId> {
-        match &self.which {
-            Some(which) => Some(FileId::of_node(which.node)),
-            None => None,
-        }
-    }
-
-    /// Whether its file system has no way to wait until it has reached the disk.
-    pub fn is_unwaited(&self) -> bool {
-        self.machine.is_unwaited()
-    }
-}
-
 /// A file of the machine that is written, or standard output or error. A regular file keeps its
 /// bytes until a put takes some. One that doesn't exist yet is made then, or by the flush, so a run
 /// that stops before leaves nothing. A contract sees the bytes that it took, but not what it holds,
@@ -265,7 +184,7 @@ impl HostEnded {
 #[derive(Drop)]
 pub struct HostOut {
     rt: HostRuntime,
-    name: String,
+    name: OutName,
     target: Target,
     // Which file it is, if that is known.
     id: Option<FileId>,
@@ -280,13 +199,15 @@ pub struct HostOut {
 
 impl Model for HostOut {
     ghost use Rattle.age_host_out.specs.Outputs.{OutputView, HasNode};
-    ghost use Rattle.std.specs.Prelude.{◌≡◌, [], None, IfSome, string_bytes};
-    ghost use Rattle.age_host_out.specs.Targets.{regular_of, out_file_of, unmade_of, IsTaking, IsPaced};
+    ghost use Rattle.std.specs.Prelude.{◌≡◌, [], None, IfSome, string_bytes, is_some};
+    ghost use Rattle.age_host_out.specs.Targets.{regular_of, out_file_of, unmade_of, IsAtOutName, IsTaking};
+    ghost use Rattle.age_host_out.specs.Targets.{IsPaced};
 
     ghost Value = { OutputView };
 
     ghost view = { λ s. record {
-      name = string_bytes s.name;
+      name = string_bytes s.name.text;
+      is_link = is_some s.name.link;
       failed = s.failures.count;
       failing = s.failures.last;
       took = s.took;
@@ -299,7 +220,8 @@ impl Model for HostOut {
     ghost invariant = { λ s. IsTaking (regular_of s.target) s.failures.count s.took
         × (IfSome (regular_of s.target) (λ o. HasNode s.id o.file) × (IsPaced s.pace s.took
         × ((regular_of s.target ≡ None → s.handed ≡ s.took)
-        × IfSome (unmade_of s.target) (λ _. s.took ≡ [])))) };
+        × (IfSome (unmade_of s.target) (λ _. s.took ≡ [])
+        × IsAtOutName s.name (out_file_of s.target) (unmade_of s.target))))) };
 }
 
 /// The least and the most bytes that are written between two waits for the disk. In between, their
@@ -311,89 +233,6 @@ const WAIT_MOST: u64 = 1 << 30;
 /// Whether the disk is to be waited for before more is written.
 fn is_wait_due(taken: u64, settled: u64) -> bool {
     taken.saturating_sub(settled) >= settled.min(WAIT_MOST).max(WAIT_FIRST)
-}
-
-/// What was done to a device or a stream. No call is noted except the one that opened it.
-fn unseen(rt: &HostRuntime, target: &Target, took: Tape, is_closed: bool) -> HostEnded
-    requires { regular_of target.now ≡ None }
-    ensures is { result ≡ record {
-      took = took;
-      is_closed = is_closed;
-      file = None;
-      calls = opening_calls target.now;
-      failed = 0;
-    } }
-    ensures within { TouchesItself result }
-{
-    let machine = match target {
-        Target::Device(device) => device.machine.again(),
-        _ => HostMachine::new(rt),
-    };
-    HostEnded {
-        took,
-        is_closed,
-        which: None,
-        machine,
-    }
-}
-
-/// Ends a regular file, and closes it.
-fn end_file(
-    out: Out<HostMachine>,
-    took: Tape,
-    failures: Failures,
-    durability: Durability,
-) -> (HostEnded, io::Result<()>)
-    requires { IsTaking (Some out) failures.count took }
-    ensures { Closes durability (Some out.file) (sink_of failures.count failures.last took) result.1
-        result.0 }
-{
-    let which = Some(Which::of(&out));
-    let age_machine::Ended { end, machine, .. } = out.end(durability);
-    let ended = HostEnded {
-        took,
-        is_closed: true,
-        which,
-        machine,
-    };
-    (ended, end)
-}
-
-/// Ends a regular file unchanged, if nothing was written.
-fn discard_file(
-    out: Out<HostMachine>,
-    took: Tape,
-    failures: Failures,
-    durability: Durability,
-) -> HostEnded
-    requires { IsTaking (Some out) failures.count took }
-    ensures { Discards (Some out.file) (sink_of failures.count failures.last took) result }
-{
-    let which = Some(Which::of(&out));
-    let machine = out.discard(durability);
-    HostEnded {
-        took,
-        is_closed: false,
-        which,
-        machine,
-    }
-}
-
-/// Ends a regular file to which each put failed, by closing it unchanged.
-fn close_untouched(
-    out: Out<HostMachine>,
-    took: Tape,
-    failures: Failures,
-    durability: Durability,
-) -> (HostEnded, io::Result<()>)
-    requires taking { IsTaking (Some out) failures.count took }
-    requires failed { (0 < failures.count) × (took ≡ []) }
-    ensures { Closes durability (Some out.file) (sink_of failures.count failures.last took) result.1
-        result.0 }
-{
-    let mut ended = discard_file(out, took, failures, durability);
-    ended.is_closed = true;
-    (ended, Ok(()))
 }
 
 /// Ends a device or a stream, and closes it in any case.
@@ -421,11 +260,12 @@ fn end_stream(
 }
 
 impl HostOut {
-    fn new(rt: &HostRuntime, name: String, target: Target, id: Option<FileId>) -> HostOut
+    fn new(rt: &HostRuntime, name: OutName, target: Target, id: Option<FileId>) -> HostOut
         requires taking { IsTaking (regular_of target) 0 [] }
         requires node { IfSome (regular_of target) (λ o. HasNode id o.file) }
+        requires at { IsAtOutName name (out_file_of target) (unmade_of target) }
         ensures fresh { IsNew result }
-        ensures named { result.name ≡ string_bytes name }
+        ensures named { result.name ≡ string_bytes name.text }
         ensures file { (result.file ≡ out_file_of target) × (result.unmade ≡ unmade_of target) }
     {
         HostOut {
@@ -451,7 +291,7 @@ impl HostOut {
         ensures { IsNew result }
     {
         let target = Target::Faults(rt.stderr(), Witness::none());
-        HostOut::new(rt, String::new(rt.alloc()), target, None)
+        HostOut::new(rt, OutName::own(String::new(rt.alloc())), target, None)
     }
 
     /// Opens what a name stands for without emptying it; if nothing exists, a file is to be made.
@@ -467,11 +307,13 @@ impl HostOut {
         ensures fresh { IfOk result IsNew }
         ensures named { IfOk result (λ o. o.name ≡ name.now) }
     {
-        let Led { name, to } = Led::of(alloc, rt, name)?;
-        let name = String::from_str(alloc, name)?;
+        let Led { name, to, link } = Led::of(alloc, rt, name)?;
+        let text = String::from_str(alloc, name)?;
         let mut out = match to {
-            Resolved::Path(path) => HostOut::open_at(alloc, rt, name, path.as_str())?,
-            Resolved::Stream(stream) => HostOut::of_stream(rt, name, stream)?,
+            Resolved::Path(path) => {
+                HostOut::open_at(alloc, rt, OutName { text, link }, path.as_str())?
+            }
+            Resolved::Stream(stream) => HostOut::of_stream(rt, text, stream)?,
         };
         if out.target.can_reach_disk() {
             out.pace.durability = durability;
@@ -494,29 +336,31 @@ impl HostOut {
         if found_at(rt, name)?.is_some() {
             return Err(io::Error::from(io::ErrorKind::AlreadyExists));
         }
-        let own = String::from_str(alloc, name)?;
+        let own = OutName::own(String::from_str(alloc, name)?);
         let mut out = HostOut::unmade_at(rt, own, String::from_str(alloc, name)?)?;
         out.pace.durability = durability;
         Ok(out)
     }
 
     /// Opens the file at the end of a name's links, which is to be made if it doesn't exist.
-    fn open_at(alloc: Global, rt: &HostRuntime, name: String, path: &str) -> io::Result<HostOut>
+    fn open_at(alloc: Global, rt: &HostRuntime, name: OutName, path: &str) -> io::Result<HostOut>
+        requires { is_some name.link ≡ false → path.now ≡ string_bytes name.text }
         ensures fresh { IfOk result IsNew }
-        ensures named { IfOk result (λ o. o.name ≡ string_bytes name) }
+        ensures named { IfOk result (λ o. o.name ≡ string_bytes name.text) }
     {
         let own = String::from_str(alloc, path)?;
         let mut machine = HostMachine::new(rt);
-        match machine.open(name.as_str(), own.as_str())? {
+        match machine.open(name.text.as_str(), own.as_str())? {
             Some(opened) => HostOut::of_opened(rt, machine, opened, name, own),
             None => HostOut::unmade_at(rt, name, own),
         }
     }
 
     /// A file that is to be made at a path that holds neither a file nor a link.
-    fn unmade_at(rt: &HostRuntime, name: String, path: String) -> io::Result<HostOut>
+    fn unmade_at(rt: &HostRuntime, name: OutName, path: String) -> io::Result<HostOut>
+        requires { is_some name.link ≡ false → string_bytes path ≡ string_bytes name.text }
         ensures fresh { IfOk result IsNew }
-        ensures named { IfOk result (λ o. o.name ≡ string_bytes name) }
+        ensures named { IfOk result (λ o. o.name ≡ string_bytes name.text) }
         ensures unmade { IfOk result (λ o. o.unmade ≡ Some (string_bytes path)) }
     {
         check_place(rt, path.as_str())?;
@@ -528,14 +372,15 @@ impl HostOut {
         rt: &HostRuntime,
         machine: HostMachine,
         opened: (HostFile, Kind),
-        name: String,
+        name: OutName,
         path: String,
     ) -> io::Result<HostOut>
+        requires at { is_some name.link ≡ false → string_bytes path ≡ string_bytes name.text }
         requires unfailed { machine.failed ≡ 0 }
         requires opened { machine.calls
             ≡ Opened (string_bytes path) (number_of opened.0.node) opened.1 ∷ [] }
         ensures fresh { IfOk result IsNew }
-        ensures named { IfOk result (λ o. o.name ≡ string_bytes name) }
+        ensures named { IfOk result (λ o. o.name ≡ string_bytes name.text) }
     {
         let (file, kind) = opened;
         let Kind::Regular(is_waited) = kind else {
@@ -557,10 +402,8 @@ impl HostOut {
     pub fn over(alloc: Global, rt: &HostRuntime, file: File, path: &str) -> io::Result<HostOut>
         ensures { IfOk result IsNew }
     {
-        let (name, own) = (
-            String::from_str(alloc, path)?,
-            String::from_str(alloc, path)?,
-        );
+        let name = OutName::own(String::from_str(alloc, path)?);
+        let own = String::from_str(alloc, path)?;
         let mut machine = HostMachine::new(rt);
         let opened = machine.adopt(file, own.as_str())?;
         HostOut::of_opened(rt, machine, opened, name, own)
@@ -573,7 +416,7 @@ impl HostOut {
     {
         let target = Target::of_stream(rt, stream)?;
         let id = FileId::of_open_stream(rt, stream)?;
-        Ok(HostOut::new(rt, name, target, id))
+        Ok(HostOut::new(rt, OutName::own(name), target, id))
     }
 
     /// Takes a regular file for this run alone, so that no two runs write to it. Fails if another
@@ -582,7 +425,7 @@ impl HostOut {
     pub fn claim(self, rt: &HostRuntime) -> io::Result<HostOut>
         ensures { IfOk result (λ o. o ≡ self) }
     {
-        let target = claimed(rt, self.target, self.id, self.name.as_str())?;
+        let target = claimed(rt, self.target, self.id, self.name.text.as_str())?;
         Ok(HostOut { target, ..self })
     }
 
@@ -590,7 +433,7 @@ impl HostOut {
     pub fn name(&self) -> &str
         ensures { result.now ≡ self.now.name }
     {
-        self.name.as_str()
+        self.name.text.as_str()
     }
 
     /// The bytes that it took, for contracts alone.
@@ -702,19 +545,23 @@ impl HostOut {
     {
         let has_only_failed = self.has_only_failed();
         let HostOut {
+            name,
             target,
             failures,
             pace,
             took,
             ..
         } = self;
+        let tally = OutTally {
+            name,
+            failures,
+            took,
+        };
         match target {
-            Target::File(out) if has_only_failed => {
-                close_untouched(out, took, failures, durability)
-            }
-            Target::File(out) => end_file(out, took, failures, durability),
+            Target::File(out) if has_only_failed => close_untouched(out, tally, durability),
+            Target::File(out) => end_file(out, tally, durability),
             other => {
-                let unseen = unseen(rt, &other, took, true);
+                let unseen = unseen(rt, &other, tally.took, true);
                 let ended = if has_only_failed {
                     Ok(())
                 } else {
@@ -730,14 +577,20 @@ impl HostOut {
         ensures discards { Discards self.file (as_sink self) result }
     {
         let HostOut {
+            name,
             target,
             failures,
             took,
             ..
         } = self;
+        let tally = OutTally {
+            name,
+            failures,
+            took,
+        };
         match target {
-            Target::File(out) => discard_file(out, took, failures, durability),
-            other => unseen(rt, &other, took, false),
+            Target::File(out) => discard_file(out, tally, durability),
+            other => unseen(rt, &other, tally.took, false),
         }
     }
 }
@@ -764,7 +617,7 @@ impl Sink for HostOut {
     {
         let put = write_made(
             &self.rt,
-            self.name.as_str(),
+            self.name.text.as_str(),
             &mut self.target,
             &mut self.id,
             &mut self.pace,
@@ -784,7 +637,8 @@ impl Sink for HostOut {
         ensures last { self.new.failing ≡ is_err result }
         ensures same { KeepsFile self.old self.new }
     {
-        let made = make_first(&self.rt, self.name.as_str(), &mut self.target, &mut self.id);
+        let name = self.name.text.as_str();
+        let made = make_first(&self.rt, name, &mut self.target, &mut self.id);
         if let Err(error) = made {
             self.error = error;
         }

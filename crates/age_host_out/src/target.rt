@@ -1,7 +1,7 @@
 //! What the bytes of a written file go to.
 
 ghost use Rattle.std.specs.Prelude.{◌≡◌, ◌≤◌, ◌<◌, ◌++◌, [], None, true, IfOk, IfSome, OnOk, OnErr, is_ok};
-ghost use Rattle.std.specs.Prelude.{ℕ, List};
+ghost use Rattle.std.specs.Prelude.{ℕ, List, string_bytes};
 ghost use Rattle.std.specs.Io.{WritesAtMost};
 ghost use Rattle.age_calls.specs.{text_of};
 ghost use Rattle.age_host_out.specs.Outputs.{HasNode, Stays};
@@ -14,7 +14,7 @@ use age_calls::Opening;
 use age_io::Tape;
 use age_machine::calls::close;
 use age_machine::{HostMachine, Machine, Out, TRIES, is_to_retry, too_many_tries};
-use age_names::{FileId, StandardStream, is_handed_on, led_to};
+use age_names::{FileId, Link, StandardStream, is_handed_on, led_to};
 use std::io::{self, Write};
 use std::os::fd::AsFd;
 use std::rt::{HostRuntime, Stderr, Stdout};
@@ -23,6 +23,22 @@ use std::{fs, mem};
 /// How many bytes of what a pipe took aren't counted as certain, since the pipe and its reader may hold
 /// them: a network connection holds megabytes.
 const ON_THE_WAY: u64 = 4 << 20;
+
+/// The name of an output, and the system's answer if it is a link.
+#[derive(Drop)]
+pub(crate) struct OutName {
+    pub(crate) text: String,
+    pub(crate) link: Option<Link>,
+}
+
+impl OutName {
+    /// A name that is the path itself, since no link is followed from it.
+    pub(crate) fn own(text: String) -> OutName
+        ensures { (string_bytes result.text ≡ string_bytes text) × (result.link ≡ None) }
+    {
+        OutName { text, link: None }
+    }
+}
 
 /// Where the bytes of an output go.
 #[derive(Drop)]
@@ -72,7 +88,7 @@ fn write_to<W: Write>(
 impl Target {
     /// What is written to a stream, from where it stands. Standard input can't be written.
     pub(crate) fn of_stream(rt: &HostRuntime, stream: StandardStream) -> io::Result<Target>
-        ensures { IfOk result (λ t. regular_of t ≡ None) }
+        ensures { IfOk result (λ t. (regular_of t ≡ None) × (unmade_of t ≡ None)) }
     {
         stream.check(rt)?;
         match stream {

@@ -10,7 +10,7 @@ mod node;
 
 pub use folder::{Folder, check_place, check_same, folder_of};
 pub use names::{
-    FileId, Led, Resolved, StandardStream, StreamId, is_for_faults, is_handed_on, is_on_disk,
+    FileId, Led, Link, Resolved, StandardStream, StreamId, is_for_faults, is_handed_on, is_on_disk,
     is_random, resolve, tape_of,
 };
 pub use node::{Node, found_at, is_at, led_to, numbers_are_apart};

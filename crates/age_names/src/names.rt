@@ -1,6 +1,7 @@
 //! What the machine's names stand for: an inherited stream, or a file, whatever links lead to it.
 
-ghost use Rattle.std.specs.Prelude.{◌≡◌, ◌<◌, ◌^◌, IfOk};
+ghost use Rattle.std.specs.Prelude.{◌≡◌, ◌<◌, ◌^◌, IfOk, is_some, false};
+ghost use Rattle.age_names.specs.Places.{IsItself};
 ghost use Rattle.age_names.specs.declared.names.FileId.TheVariants.{File};
 
 use crate::node::{Node, led_to};
@@ -80,39 +81,57 @@ pub enum Resolved {
     Path(PathBuf),
 }
 
+/// The answer of a system that a name is a link. Only [`Led::of`], which asks, makes one, so no other
+/// path is taken for that of a name unless the system said so.
+#[derive(Clone, Copy)]
+pub struct Link(());
+
 /// A name, and what it stands for.
 #[derive(Drop)]
 pub struct Led<'w> {
     pub name: &'w str,
     pub to: Resolved,
-}
-
-impl<'w> Led<'w> {
-    /// Looks up what a name stands for, and notes it. No proof sees where that is.
-    pub fn of(alloc: Global, rt: &HostRuntime, name: &'w str) -> io::Result<Led<'w>>
-        ensures { IfOk result (λ l. l.name.now ≡ name.now) }
-    {
-        let to = resolve(alloc, rt, name)?;
-        Ok(Led { name, to })
-    }
+    /// If the name is a link.
+    pub link: Option<Link>,
 }
 
 /// How many links are followed, which is as many as the system follows.
 const LINKS_MAX: usize = 40;
 
+impl<'w> Led<'w> {
+    /// Looks up what a name stands for, at the end of its links, and notes it. No proof sees what is a
+    /// link, nor where one leads.
+    pub fn of(alloc: Global, rt: &HostRuntime, name: &'w str) -> io::Result<Led<'w>>
+        ensures named { IfOk result (λ l. l.name.now ≡ name.now) }
+        ensures at { IfOk result (λ l. is_some l.link ≡ false → IsItself name.now l.to) }
+    {
+        let mut path = PathBuf::from_str(alloc, name)?;
+        let mut link = None;
+        'links: for _ in 0..=LINKS_MAX {
+            if let Some(stream) = StandardStream::named(path.as_str()) {
+                return Ok(Led {
+                    name,
+                    to: Resolved::Stream(stream),
+                    link,
+                });
+            }
+            let Some(target) = target_of(alloc, rt, &path)? else {
+                return Ok(Led {
+                    name,
+                    to: Resolved::Path(path),
+                    link,
+                });
+            };
+            path = target;
+            link = Some(Link(()));
+        }
+        Err(io::Error::from(io::ErrorKind::FilesystemLoop))
+    }
+}
+
 /// What a name stands for, at the end of its links.
 pub fn resolve(alloc: Global, rt: &HostRuntime, name: &str) -> io::Result<Resolved> {
-    let mut path = PathBuf::from_str(alloc, name)?;
-    for _ in 0..=LINKS_MAX {
-        if let Some(stream) = StandardStream::named(path.as_str()) {
-            return Ok(Resolved::Stream(stream));
-        }
-        match target_of(alloc, rt, &path)? {
-            Some(target) => path = target,
-            None => return Ok(Resolved::Path(path)),
-        }
-    }
-    Err(io::Error::from(io::ErrorKind::FilesystemLoop))
+    Ok(Led::of(alloc, rt, name)?.to)
 }
 
 /// Where a link leads; `None` for what isn't a link.

@@ -16,7 +16,7 @@ use Rattle.age_options.specs.declared.ClobberOption.TheVariants.{Refused}
 use Rattle.age_cli_args.specs.declared.request.Paths.{Paths}
 use Rattle.age_command.specs.{Follows}
 use Rattle.age_command.specs.declared.ending.Ending.{Ending}
-use Rattle.age_calls.specs.{EndedFile, OutFile, TouchesItself, TouchesFile, FileCall, Opened, opening_of, is_waited, AllAnswered}
+use Rattle.age_calls.specs.{EndedFile, IsAtName, OutFile, TouchesItself, TouchesFile, FileCall, Opened, opening_of, is_waited, AllAnswered}
 use Rattle.age_calls.specs.declared.opening.Kind.TheVariants.{Regular}
 use Rattle.age_calls.specs.declared.opening.Opening.{Opening}
 use Rattle.age_calls.specs.declared.opening.Opening.TheVariants as way
@@ -70,8 +70,9 @@ answered_once e touches = answered_by e.file e.calls touches
 module _ (IsPorts : Ports → Type 0) (Came : Outcome → Type 0) (engine : Engine) (p : Paths) (before after : Ports)
     (before_is : IsPorts before) (after_is : IsPorts after) (new : AreNew before) (input : WasRead Came Fails p.from.now before.source after.source)
     (fresh : p.clobber ≡ Refused → Came (Absent p.to.now)) (named : after.sink.taken.label ≡ p.to.now) where
-  abbrev returned : (e : Option EndedFile) (out : EndedFile) → e ≡ Some out → out.took ≡ after.sink.taken.bytes → Returned IsPorts Came p e
-  returned e out is took = record {
+  abbrev returned : (e : Option EndedFile) (out : EndedFile) → e ≡ Some out → out.took ≡ after.sink.taken.bytes → IsAtName after.sink.taken.label out
+      → Returned IsPorts Came p e
+  returned e out is took at = record {
     before = before;
     after = after;
     before_is = before_is;
@@ -83,6 +84,7 @@ module _ (IsPorts : Ports → Type 0) (Came : Outcome → Type 0) (engine : Engi
     out = out;
     is = is;
     took = took;
+    at = subst (λ (n : Text). IsAtName n out) named at;
   }
 
   same_put : (out : EndedFile) → out.took ≡ after.sink.taken.bytes → Put after.sink.taken.label after.sink.taken.bytes ≡ Put p.to.now out.took
@@ -98,7 +100,7 @@ module _ (IsPorts : Ports → Type 0) (Came : Outcome → Type 0) (engine : Engi
         let o = the_some now.ended c.ended in
         record {
           leaves = record {
-            run = returned now.ended o.0 o.1 o.2.took;
+            run = returned now.ended o.0 o.1 o.2.took o.2.at;
             promise = did.0;
             named = subst Came (same_put o.0 o.2.took) (late _ (put_came after.sink.taken.label after.sink.taken.bytes mid now c.puts_only));
             closed = o.2.closed;
@@ -125,22 +127,24 @@ module _ (IsPorts : Ports → Type 0) (Came : Outcome → Type 0) (engine : Engi
         → Concludes engine.save p.durability after.sink end place mid now r → IfErr r (λ e. HasEngineStopped IsPorts Came engine p done e old now)
     engine_stopped done closed end place did placed stops certain r c = go end r did placed stops c where
       stopped : (IsFile : EndedFile → Type 0) (fault : FileFault) (e : Ending) → SavesStop engine.save p.durability after.sink IsFile fault place mid now e
-          → ((out : EndedFile) → IsFile out → (out.took ≡ after.sink.taken.bytes) × TouchesItself out) → ((out : EndedFile) (is : now.ended ≡ Some out)
-          (took : out.took ≡ after.sink.taken.bytes) → IsFile out → Stopping IsPorts Came engine p place.settled fault place.position (returned now.ended out is took)
-          ⊎ Unended IsPorts Came engine p place.settled fault place.position (returned now.ended out is took)) → HasEngineStopped IsPorts Came engine p done e old now
+          → ((out : EndedFile) → IsFile out → (out.took ≡ after.sink.taken.bytes) × IsAtName after.sink.taken.label out × TouchesItself out)
+          → ((out : EndedFile) (is : now.ended ≡ Some out) (took : out.took ≡ after.sink.taken.bytes) (at : IsAtName after.sink.taken.label out) → IsFile out
+          → Stopping IsPorts Came engine p place.settled fault place.position (returned now.ended out is took at)
+          ⊎ Unended IsPorts Came engine p place.settled fault place.position (returned now.ended out is took at)) → HasEngineStopped IsPorts Came engine p done e old now
       stopped IsFile fault e c left cause =
           let o = the_some now.ended c.ended in
-          let took = (left o.0 o.2).0 in
+          let was = left o.0 o.2 in
+          let took = was.0 in
           record {
-            run = returned now.ended o.0 o.1 took;
-            within = (left o.0 o.2).1;
+            run = returned now.ended o.0 o.1 took was.1;
+            within = was.2;
             fault = fault;
             save = c.how;
             reported = c.reported;
             position = place.position;
             settled = place.settled;
             certain = λ there. subst (λ (b : List ℕ). Came (Settled p.durability b place.settled)) (sym took) (certain there);
-            cause = cause o.0 o.1 took o.2;
+            cause = cause o.0 o.1 took was.1 o.2;
             outs = c.outs;
             rest = c.rest;
             puts = grows_then [] (c.outs ++ c.rest) old mid now opened c.puts_only;
@@ -153,14 +157,14 @@ module _ (IsPorts : Ports → Type 0) (Came : Outcome → Type 0) (engine : Engi
       go : (end : Result (Unit {0}) FileFault) (r : Result (Unit {0}) Ending) → OnOk end (engine.ends before after × (after.sink.failed ≡ before.sink.failed))
           → OnOk end (engine.unended place.settled place.position before after) → IfErr end (λ f. engine.stops place.settled f place.position before after)
           → Concludes engine.save p.durability after.sink end place mid now r → IfErr r (λ e. HasEngineStopped IsPorts Came engine p done e old now)
-      go (Ok x) (Err e) did placed stops c = stopped (IsUnended p.durability after.sink) Write e c.0 (λ out left. (left.1.took, left.1.within)) (λ out is took left. inr (record {
+      go (Ok x) (Err e) did placed stops c = stopped (IsUnended p.durability after.sink) Write e c.0 (λ out left. (left.1.took, left.1.at, left.1.within)) (λ out is took at left. inr (record {
         promise = did.0;
         placed = placed;
         is = refl;
         said = subst (λ (n : Text). Came (Unwritten n)) named (late (Unwritten after.sink.taken.label) c.1);
         caused = subst (λ (x : Option OutFile). IfSome x (λ y. 0 < out.failed)) (sym left.1.same) left.1.caused;
       }))
-      go (Err f) (Err e) did placed stops c = stopped (IsLeft p.durability after.sink) f e c (λ out left. (left.took, left.within)) (λ out is took left. inl (record {
+      go (Err f) (Err e) did placed stops c = stopped (IsLeft p.durability after.sink) f e c (λ out left. (left.took, left.at, left.within)) (λ out is took at left. inl (record {
         promise = stops;
         untouched = λ none. left.untouched (sym took ∙ none);
         kept = λ some. (left.kept (λ none. some (took ∙ none)), left.there (λ none. some (took ∙ none)));

@@ -73,7 +73,7 @@ left_puts sink (Err fault) old new is fails some = ([], grows_lost sink.taken.la
 
 -- how its file was left
 pub left_empty : {durability : Durability} {file : Option OutFile} (sink : SinkView) (out : EndedFile) → sink.taken.bytes ≡ [] → Discards file sink out → IsLeft durability sink out
-left_empty sink out none d = record { took = d.took; within = d.within; untouched = d.untouched; kept = λ some. absurd (some none); there = λ some. absurd (some none) }
+left_empty sink out none d = record { took = d.took; at = d.at; within = d.within; untouched = d.untouched; kept = λ some. absurd (some none); there = λ some. absurd (some none) }
 
 -- it is there, or a call has failed
 there_or : {durability : Durability} {file : Option OutFile} (r : Result (Unit {0}) FileFault) (out : EndedFile) → out.file ≡ file → OnOk r (IsThere out)
@@ -83,7 +83,7 @@ there_or (Err fault) out same there safe caused = inr (subst (λ (o : Option Out
 
 pub left_whole : {durability : Durability} {file : Option OutFile} {r : Result (Unit {0}) FileFault} (sink : SinkView) (out : EndedFile) → (sink.taken.bytes ≡ [] → ⊥)
     → Closes durability file sink r out → IsLeft durability sink out
-left_whole {r = r} sink out some c = record { took = c.took; within = c.within; untouched = λ none. absurd (some none); kept = λ more. c.closed; there = λ more unfailed. there_or r out c.same (c.there unfailed) (λ waits. c.safe waits unfailed) c.caused }
+left_whole {r = r} sink out some c = record { took = c.took; at = c.at; within = c.within; untouched = λ none. absurd (some none); kept = λ more. c.closed; there = λ more unfailed. there_or r out c.same (c.there unfailed) (λ waits. c.safe waits unfailed) c.caused }
 
 -- ---- What was put to the file of the position.
 

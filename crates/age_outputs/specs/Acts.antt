@@ -21,7 +21,7 @@ use Rattle.age_position.specs.declared.position.PositionPolicy.{PositionPolicy}
 use Rattle.age_position.specs.declared.position.PositionPolicy.TheVariants.{Kept, Dropped}
 use Rattle.age_opening.specs.declared.decryption.Stopped.{Stopped}
 use Rattle.age_sealing.specs.Encrypts.{Encrypts}
-use Rattle.age_calls.specs.{EndedFile, TouchesItself, IsThere, IsOnDisk, IsUntouched, SavedFile}
+use Rattle.age_calls.specs.{EndedFile, IsAtName, TouchesItself, IsThere, IsOnDisk, IsUntouched, SavedFile}
 use Rattle.age_calls.specs.{Opened, AllAnswered}
 use Rattle.age_calls.specs.declared.opening.Kind.TheVariants.{Regular}
 use Rattle.age_calls.specs.Disk.{Disk}
@@ -107,8 +107,8 @@ StopsText keep start Stops settled fault position = (run : Option Run) × (stop 
     × (stop.fault ≡ fault) × Stops run stop × IsPlaced run keep start settled stop.position position
 
 -- a run ended, and this is the position to save if its output can't be
-abbrev pub EndsText : PositionPolicy → (start : Option Position) → (Ends : Done → Run → Type 0) → (settled : ℕ)
-    → Option Position → Type 0
+abbrev pub EndsText : PositionPolicy → (start : Option Position) → (Ends : Done → Run → Type 0)
+    → (settled : ℕ) → Option Position → Type 0
 EndsText keep start Ends settled position =
     (done : Done) × (run : Run) × Ends done run × IsPlaced (Some run) keep start settled None position
 
@@ -144,8 +144,8 @@ module _ (IsPorts : Ports → Type 0) (Came : Outcome → Type 0) where
         (start_of earlier) (DecryptEnds (kept_for save) (allows_by i) (begun from) before after) settled
         position);
     stops = λ settled fault position. GoesOn earlier (λ from before after. StopsText (kept_for save)
-        (start_of earlier) (DecryptStops (kept_for save) (allows_by i) (begun from) before after) settled fault
-        position);
+        (start_of earlier) (DecryptStops (kept_for save) (allows_by i) (begun from) before after) settled
+        fault position);
   }
 
 -- ---- What a command does of what it is asked.
@@ -327,8 +327,8 @@ module _ (IsPorts : Ports → Type 0) (Came : Outcome → Type 0) where
   OfEngine First other P = Unit {0}
 
   -- An engine returned, over a source and a sink of the files. The source was IN's, whose reading is over;
-  -- the sink was new. The output that was ended last is OUT, and had taken what the sink took; none was
-  -- there if an existing one is refused.
+  -- the sink was new. The output that was ended last is OUT, whose path is its name unless that is a link,
+  -- and had taken what the sink took; none was there if an existing one is refused.
   pub record Returned (p : Paths) (ended : Option EndedFile) : Type 0 where
     pub before : Ports
     pub after : Ports
@@ -341,6 +341,7 @@ module _ (IsPorts : Ports → Type 0) (Came : Outcome → Type 0) where
     pub out : EndedFile
     pub is : ended ≡ Some out
     pub took : out.took ≡ after.sink.taken.bytes
+    pub at : IsAtName p.to.now out
 
   -- It kept a promise of what was read and of what OUT took, which was put under OUT's name. OUT was closed
   -- with just that: it is at its path, and on the disk, if that was to be waited for; and a disk answers.

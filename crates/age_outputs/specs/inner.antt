@@ -1,5 +1,6 @@
 -- What only private code cites: how a part of a command ended, and its files.
-use Rattle.std.specs.Prelude.{◌≡◌, ◌≢◌, ◌⊎◌, ℕ, ◌++◌, ◌∷◌, [], List, Option, None, Result, Ok, Err, IsErrAnd, ◌≤◌}
+use Rattle.std.specs.Prelude.{◌≡◌, ◌≢◌, ◌⊎◌, ◌≤◌, ℕ, ◌++◌, ◌∷◌, [], List, Option, None, Result, Ok, Err}
+use Rattle.std.specs.Prelude.{IsErrAnd}
 use Rattle.std.specs.Prelude.{true, IsSomeAnd, length, Some, IfSome, Bool, is_some, OnOk, IfErr}
 use Rattle.std.specs.Prelude.{IfOk, ◌<◌, ◌*◌}
 use Rattle.clap.specs.Words.{Text}
@@ -18,7 +19,7 @@ use Rattle.age_command.specs.{without_line_feed}
 use Rattle.age_keys.specs.{IsAllowed, PassphraseIdentity}
 use Rattle.age_command.specs.declared.ending.Ending.{Ending}
 use Rattle.age_command.specs.declared.ending.Ending.TheVariants.{Fault, Usage}
-use Rattle.age_calls.specs.{Closes, EndedFile, OutFile, TouchesItself, IsUntouched}
+use Rattle.age_calls.specs.{Closes, EndedFile, IsAtName, OutFile, TouchesItself, IsUntouched}
 use Rattle.age_outputs.specs.Acts.{stop_ending, IsDue, IsSaved, Engine}
 use Rattle.age_outputs.specs.Acts.{SparesOut, AreSame, IsUnusable, NamesOne, IsThereUnlessFailed}
 use Rattle.age_outputs.specs.declared.interruption.Reached.{Reached}
@@ -68,6 +69,7 @@ IsPut sink puts = (puts ≡ [])
 -- otherwise
 pub record IsLeft (durability : Durability) (sink : SinkView) (out : EndedFile) : Type 0 where
   pub took : out.took ≡ sink.taken.bytes
+  pub at : IsAtName sink.taken.label out
   pub within : TouchesItself out
   pub untouched : sink.taken.bytes ≡ [] → IsUntouched sink.failed out
   pub kept : (sink.taken.bytes ≡ [] → ⊥) → out.is_closed ≡ true
@@ -107,8 +109,8 @@ IsUnsavable settled p second =
 -- OUT was left, whose sink is this, and the position was saved, if there is one and a file for it, and if it
 -- isn't beyond what is certain
 pub record SavesStop (save : Option Text) (durability : Durability) (sink : SinkView)
-    (IsFile : EndedFile → Type 0) (fault : FileFault) (place : Reached) (old new : FilesView) (ending : Ending)
-    : Type 0 where
+    (IsFile : EndedFile → Type 0) (fault : FileFault) (place : Reached) (old new : FilesView)
+    (ending : Ending) : Type 0 where
   pub how : Result (Unit {0}) FileFault
   pub reported : ending ≡ stop_ending fault how
   pub ended : IsSomeAnd new.ended IsFile

@@ -10,7 +10,8 @@ ghost use Rattle.age_command.specs.declared.ending.Usage.TheVariants.{SameFile};
 ghost use Rattle.age_command.specs.declared.ending.Ending.TheVariants.{Usage as UsageEnding};
 ghost use Rattle.age_outputs.specs.Acts.{Finally, IsUnusable, NamesOne};
 ghost use Rattle.age_outputs.specs.inner.{Concludes, EndsOut, IsLeft, LeavesOut};
-ghost use Rattle.age_outputs.specs.inner.{Compares, EndsBy, IsNewBy, IsUnopened, OpensFiles, age_file_in, order_in};
+ghost use Rattle.age_outputs.specs.inner.{Compares, EndsBy, IsNewBy, IsUnopened, OpensFiles};
+ghost use Rattle.age_outputs.specs.inner.{age_file_in, order_in};
 ghost use Rattle.age_outputs.specs.declared.output.Content.TheVariants.{AgeFile};
 
 use crate::interruption::{Reached, Stop, Unfinished};
