@@ -6,7 +6,7 @@ usage: python3 restore.py IN OUT
 It is slow (about a minute for 10 MB), takes work factors up to 20, and isn't proved;
 tests/test_restore.py compares it with age_tool. If it ends without a message, OUT is the complete
 plaintext. Otherwise OUT isn't made, and OUT.part holds the chunks before the damage or the cut. An
-OUT.part that exists is refused.
+OUT or OUT.part that exists is refused.
 The format is https://c2sp.org/age, the arithmetic RFC 8439.
 """
 import base64
@@ -85,8 +85,9 @@ def key_of(file, passphrase):
 
 
 def main(name, out):
-    if os.path.lexists(out + ".part"):
-        sys.exit(f"restore: {out}.part exists: move it away, or choose another OUT")
+    for it in (out, out + ".part"):
+        if os.path.lexists(it):
+            sys.exit(f"restore: {it} exists: move it away, or choose another OUT")
     passphrase = getpass.getpass("Passphrase: ").encode()
     with open(name, "rb") as file:
         restore(file, key_of(file, passphrase), out)

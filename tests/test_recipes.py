@@ -84,10 +84,11 @@ class RecipesTest(PageCase):
         self.run_again()
 
     def run_again(self):
-        """Runs all of them again, where all files are there: none is lost or changed but those that a command makes anew to fake a fault,
-        and the backup of the day. Each age file still opens."""
-        fakes = {"download.age", "rotten.age", "photos.asc", "recipients", "files", "caf\udce9.txt"}
-        held = {it: it.read_bytes() for it in self.path("work").rglob("*") if it.is_file() and it.name not in fakes}
+        """Runs all of them again, where all files are there: none is lost or changed but the list of the backup's files, the one of an odd
+        name, and the backup of the day. Each age file still opens."""
+        anew = {"files", "caf\udce9.txt"}
+        self.write("work/shared", b"another's")
+        held = {it: it.read_bytes() for it in self.path("work").rglob("*") if it.is_file() and it.name not in anew}
         for title, script in blocks("bash"):
             if not self.lacking(script) and title != "Changing the passphrase":
                 self.run_script(script)
@@ -159,7 +160,7 @@ class RecipesTest(PageCase):
         self.assertEqual(run.returncode, 0, run.stdout)
 
     def test_readme(self):
-        """README's commands, as they are pasted in the top folder."""
+        """README's commands, as they are pasted in the top folder; and again, where each file that they make is there: it is left alone."""
         page = (TOP / "README.md").read_text()
         shutil.copy(TOP / "README.md", self.path("work"))
         self.path("work/age_tool").symlink_to(self.program)
@@ -168,6 +169,10 @@ class RecipesTest(PageCase):
         run = self.run_script("\n".join(commands))
         self.assertEqual(run.returncode, 0, run.stdout)
         self.assertIn("age_tool: 17 ChunkDamaged chunk 3", run.stdout.splitlines())
+        for it in ("passphrase.txt", "notes.txt", "notes.txt.age", "notes.copy", "big", "big.age", "cut.age", "part"):
+            self.write(f"work/{it}", b"another's")
+        self.run_script("\n".join(["set +e", *commands]))
+        self.see("no file is overwritten", all(it.read_bytes() == b"another's" for it in self.path("work").iterdir() if it.name not in ("age_tool", "README.md")))
 
     def test_format(self):
         """The file in hexadecimal."""
@@ -285,6 +290,19 @@ class MishapsTest(PageCase):
             run = self.run_script("bash backup.sh")
             self.see(f"{kind}: no backup", run.returncode != 0 and "no new backup" in run.stdout, run.stdout)
             self.see_whole(kind, "photos-*.tar.age", 0)
+
+    def test_checked_again(self):
+        """The newest backup is checked, also where an earlier one has the short name and the shell goes on after a failure."""
+        check = f"set +e\n{self.blocks['Checking a backup without restoring it']}"
+        for night in (1, 2):
+            encrypt = f"tar -c photos | age_tool encrypt --log 1 --pass passphrase.txt /dev/stdin photos-2027-01-0{night}.tar.age"
+            self.assertEqual(self.run_script(encrypt).returncode, 0)
+            said = self.run_script(check).stdout
+            self.see(f"night {night}: no fault", "age_tool: " not in said, said)
+        with open(self.path("work/photos-2027-01-02.tar.age"), "r+b") as newest:
+            newest.truncate(70_000)
+        said = self.run_script(check).stdout
+        self.see("the newest was truncated", said.count("age_tool: 17 ChunkDamaged chunk 1\n") == 2, said)
 
     def test_clock(self):
         """One that is behind for two nights, and ahead for six: of the backups before the one that is made, by name, the last six are kept,

@@ -50,9 +50,10 @@ class RestoreTest(Case):
             self.see(f"{name}: refused", ended.returncode == 1 and b"not an age file for a passphrase" in ended.stderr, ended.stderr)
         self.see("another passphrase", self.restore("age", b"another\n").returncode == 1 and not self.is_there("out") and not self.is_there("out.part"))
         self.write("in.part", whole)
-        words = [sys.executable, TOP / "docs" / "restore.py", "in.part", "in"]
-        ended = subprocess.run(words, cwd=self.room, input=b"correct horse\n", capture_output=True, start_new_session=True)
-        self.see("IN is OUT.part", ended.returncode == 1 and self.read("in.part") == whole and b"exists" in ended.stderr, ended.stderr)
+        for what, out in (("IN is OUT.part", "in"), ("IN is OUT", "in.part")):
+            words = [sys.executable, TOP / "docs" / "restore.py", "in.part", out]
+            ended = subprocess.run(words, cwd=self.room, input=b"correct horse\n", capture_output=True, start_new_session=True)
+            self.see(what, ended.returncode == 1 and self.read("in.part") == whole and b"exists" in ended.stderr, ended.stderr)
 
     def test_vectors(self):
         """What others wrote is restored, and what isn't is told in a sentence. (It takes some headers that age refuses: their MAC is right.)"""
