@@ -29,7 +29,7 @@ FORGED = "altered or forged: no age program writes such a header: don't trust th
 ROWS = (
     (1, "no-age", b"not age\n", "not an age file: its first line isn't age-encryption.org/v1"),
     (2, "armored", b"-----BEGIN AGE ENCRYPTED FILE-----\n",
-     "it is armored: remove the armor first: grep -v '^-----' f.asc | tr -d '\\r' | base64 -d > f.age"),
+     "it is armored: remove the armor first: grep -v '^-----' IN | tr -d '\\r' | base64 -d > NEW"),
     (3, "bad-line", VERSION + "nothing\n", "its header is damaged at line 2: fetch the file again"),
     (4, "bad-body", f"{VERSION}-> x\n=\n", "its header is damaged at line 3: fetch the file again"),
     (5, "bad-end", f"{VERSION}-> x\n\n---\n", "its header is damaged at line 4: fetch the file again"),

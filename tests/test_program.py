@@ -228,6 +228,18 @@ class ProgramTest(Case):
         with open("/dev/full", "wb") as full:
             self.ends("help to a full disk", self.tool("help", "17", stdout=full), 1, b"", b"age_tool: 27 Write\n")
 
+    def test_names_like_help(self):
+        """A name that begins with -h is refused: a script that removes what was encrypted would lose it after the help, which ends with 0."""
+        self.write("-holiday", b"all there is")
+        for words in ("encrypt --pass pass -holiday out", "encrypt --pass pass plain -hout", "decrypt --pass -hx plain.age out", "-help", "inspect -hx"):
+            word = next(it for it in words.split() if it.startswith("-h"))
+            tip = f"age_tool: unexpected argument '{word}'\n\n  tip: write --help for help, and './{word}' for a file of that name\n"
+            ended = self.tool(*words.split())
+            self.see(words, (ended.returncode, ended.stdout, ended.stderr.decode()) == (2, b"", tip) and not self.path("out").exists(), ended.stderr)
+        self.see("with ./", self.tool(*"encrypt --pass pass ./-holiday out".split()).returncode == 0)
+        self.see("after --", self.tool(*"inspect -- -holiday".split()).stderr.startswith(b"age_tool: 1 NotAge"))
+        self.see("help itself", self.tool("encrypt", "-h").stdout == self.tool("encrypt", "--help").stdout != b"")
+
     def test_names_like_faults(self):
         """A line that begins with a name isn't one of a fault."""
         self.write("27 Write", b"")
@@ -251,7 +263,7 @@ class ProgramTest(Case):
             ("encrypt -R all plain back", "for recipients (a release's Python module): python3 -m agefile encrypt --recipients-file FILE IN OUT"),
             ("encrypt --armor plain back", "age_tool doesn't do armor: leave it out"), ("encrypt -f plain back", "without --no-clobber an existing OUT is overwritten"),
             ("-v", "--progress shows how far a run is, and age_tool --version the version"), ("decrypt --pass pass plain.age cut.age back", "a command takes one IN and one OUT at a time"),
-            ("encrypt --log -1 plain back", "for a file of that name, write './-1'"), ("decrypt --passs pass plain.age back", "a similar argument exists: '--pass'"),
+            ("encrypt --log -1 plain back", "write ./ before a name that begins with a dash"), ("decrypt --passs pass plain.age back", "a similar argument exists: '--pass'"),
             ("decrypt -q --pass pass plain.age back", "leave it out: without --progress a run that succeeds says little"),
             ("encrypt --overwrite plain back", "without --no-clobber an existing OUT is overwritten"),
         ):

@@ -173,10 +173,12 @@ impl<'r, 'w> HostFiles<'r, 'w> {
     /// Keeps why a file can't be opened or made.
     fn note_refused(&self, name: &'w str, error: io::Error) {
         let is_there = error.kind() == io::ErrorKind::AlreadyExists;
-        if is_there && is_empty_at(self.rt, name) {
+        let is_kept = is_there && self.failures.keeps_outputs();
+        // (without --no-clobber another run has just made it)
+        if is_kept && is_empty_at(self.rt, name) {
             self.failures.is_left_empty.set(true);
         }
-        let action = if is_there && self.failures.keeps_outputs() {
+        let action = if is_kept {
             Action::Keep
         } else {
             opening(self.rt, name)

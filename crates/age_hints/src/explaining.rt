@@ -236,13 +236,18 @@ fn tell_command<'w>(rt: &HostRuntime, saved: &'w str, old: &'w str, failures: &R
     let (option, key) = key_again(failures);
     say(
         rt,
-        "position saved in @; to go on from there: age_tool resume --position @ --old @ @ @ @ NEW",
+        "position saved in @; to go on from there: age_tool resume --position @ --old @ @ @@ @ NEW",
         &[
             Fill::Escaped(saved),
             position_again(rt, saved),
             Fill::Again(old, "OLD"),
             Fill::Text(option),
             key,
+            Fill::Text(if failures.keeps_outputs() {
+                " --no-clobber"
+            } else {
+                ""
+            }),
             Fill::Again(failures.named_by("IN").unwrap_or("IN"), "IN"),
         ],
     );
@@ -280,7 +285,9 @@ fn tell_position(rt: &HostRuntime, failures: &RunFailures<'_>) {
     if let Some(saved) = failures.saved.get() {
         let output = failures.output.get();
         // (The program can't say where standard output went.)
-        if output == "/dev/stdout" || is_kept(rt, output) {
+        if matches!(output, "/dev/stdout" | "/dev/fd/1" | "/proc/self/fd/1")
+            || is_kept(rt, output)
+        {
             tell_command(rt, saved, output, failures);
         } else {
             say(

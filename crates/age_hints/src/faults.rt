@@ -12,7 +12,7 @@ What to do: its first line isn't age-encryption.org/v1: check the name.",
 The file is armored: text that begins with -----BEGIN AGE ENCRYPTED FILE-----.
 OUT: unchanged.
 What to do: remove the armor first:
-grep -v '^-----' f.asc | tr -d '\\r' | base64 -d > f.age.",
+grep -v '^-----' IN | tr -d '\\r' | base64 -d > NEW.",
         3 => "3 BadStanzaLine
 A line of the header should begin a stanza (the entry for a recipient) or end
 the header, but does neither.

@@ -58,7 +58,7 @@ fn sentence_of_head(number: u8) -> &'static str {
         1 => "not an age file: its first line isn't age-encryption.org/v1",
         2 => {
             "it is armored: remove the armor first: \
-             grep -v '^-----' f.asc | tr -d '\\r' | base64 -d > f.age"
+             grep -v '^-----' IN | tr -d '\\r' | base64 -d > NEW"
         }
         3 | 4 | 5 | 6 => "its header is damaged at @: fetch the file again",
         7 => {

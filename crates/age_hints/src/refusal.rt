@@ -192,11 +192,17 @@ fn hint_after<'t>(
         return Some(("\n\n  tip: ", hint, ""));
     }
     let word = unexpected(first)?;
-    if let Some(hint) = hint_of(word) {
+    // (Of a name that begins with one dash the parser shows no more than a letter.)
+    let is_whole = !word.starts_with('-') || gives(words, word);
+    if is_whole && let Some(hint) = hint_of(word) {
         return Some(("\n\n  tip: ", hint, ""));
     }
     let is_name = rest.starts_with("  tip: to pass '");
-    is_name.then_some(("\n\n  tip: for a file of that name, write './", word, "'"))
+    is_name.then_some((
+        "\n\n  tip: ",
+        "write ./ before a name that begins with a dash",
+        "",
+    ))
 }
 
 /// The options of which one is missing, where a command needs one of several: the parser doesn't

@@ -8,7 +8,9 @@ use age_cli_args::read_request;
 use age_disk::{HostFiles, HostOut, Watched};
 use age_hints::{Heard, Refusals, explain, row_asked};
 use age_io::{Reading, Writing};
-use age_messages::{LineStyle, ProgressLine, RunFailures, announce_reading, explain_words};
+use age_messages::{
+    Escaped, LineStyle, ProgressLine, RunFailures, announce_reading, explain_words,
+};
 use clap::error::ErrorKind;
 use std::alloc::Global;
 use std::io::{self, IsTerminal};
@@ -57,6 +59,29 @@ fn print_row(rt: &HostRuntime, row: &str) -> ExitCode {
             ExitCode::from(1)
         }
     }
+}
+
+/// A word that begins with `-h`, such as the name `-holiday.jpg`. The parser would show the help, with
+/// status 0, and a script would take the file for done.
+fn taken_for_help<'w>(words: &[&'w str]) -> Option<&'w str> {
+    for word in words {
+        if *word == "--" {
+            return None;
+        }
+        if word.len() > 2 && word.starts_with("-h") {
+            return Some(*word);
+        }
+    }
+    None
+}
+
+/// Refuses such a word.
+fn refuse_word(rt: &HostRuntime, word: &str) -> ExitCode {
+    let word = Escaped(word.as_bytes());
+    let _ = eprintln!(rt;
+        "age_tool: unexpected argument '{word}'\n\n  tip: write --help for help, and './{word}' for a file of that name"
+    );
+    ExitCode::from(2)
 }
 
 /// Runs the program on the words after its name, over the machine's files and its own standard
@@ -108,9 +133,13 @@ fn main(rt: HostRuntime) -> ExitCode {
         Err(error) => return unread(&rt, &error),
     };
     match words_of(rt.alloc(), args.as_slice()) {
-        Ok(words) => match row_asked(words.as_slice()) {
-            Some(row) => print_row(&rt, row),
-            None => run_words(&rt, words.as_slice()),
+        Ok(words) => match (
+            row_asked(words.as_slice()),
+            taken_for_help(words.as_slice()),
+        ) {
+            (Some(row), _) => print_row(&rt, row),
+            (None, Some(word)) => refuse_word(&rt, word),
+            (None, None) => run_words(&rt, words.as_slice()),
         },
         Err(error) => unread(&rt, &error),
     }
