@@ -532,6 +532,15 @@ class LanguagesTest(ProgramsCase):
         self.see("the library is there", run.returncode == 0 and "warning: " not in run.stderr, run.stderr[-2000:])
         run = build()
         self.see("nothing changed", run.returncode == 0 and "Fresh age-c-sys" in run.stderr and "Dirty" not in run.stderr, run.stderr[-2000:])
+        if shutil.which("pkg-config") is None:
+            return self.leave_out("Rust with pkg-config", "needs pkg-config")
+        shutil.move(self.path("bindings") / "out", self.path("a folder"))
+        shutil.copy(LIBRARY / "libage_c.so", self.path("a folder"))
+        named = str(self.path("a folder")).replace(" ", "\\ ")
+        self.write("a folder/age_c.pc", f"Name: age_c\nDescription: it\nVersion: 1.3.0\nLibs: -L{named} -lage_c\n".encode())
+        env["PKG_CONFIG_PATH"] = str(self.path("a folder"))
+        run = build()
+        self.see("pkg-config finds it in a folder with a space", run.returncode == 0 and "warning: " not in run.stderr, run.stderr[-2000:])
 
     @needs("go")
     def test_go(self):

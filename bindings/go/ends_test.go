@@ -111,6 +111,49 @@ func TestSourcesThatAreCut(t *testing.T) {
 	}
 }
 
+// nearlyFull is a disk that has room for so many bytes.
+type nearlyFull struct{ room int }
+
+var errFull = errors.New("no space left")
+
+func (f *nearlyFull) Write(text []byte) (int, error) {
+	n := len(text)
+	if n > f.room {
+		n = f.room
+	}
+	f.room -= n
+	if n < len(text) {
+		return n, errFull
+	}
+	return n, nil
+}
+
+// A source may give bytes and an error that doesn't come again, as io.TeeReader does if the copy can't be
+// written on: it gives a part of what it read. So what follows is missing, and the error has to be told.
+func TestErrorsThatComeOnce(t *testing.T) {
+	data := sealed(textOf(20_000))
+	for _, room := range []int{1, 50, 200, len(data) - 1} {
+		tee := func() io.Reader { return io.TeeReader(bytes.NewReader(data), &nearlyFull{room}) }
+		reader, err := Open(tee(), pw())
+		if err == nil {
+			_, err = records(reader)
+		}
+		if !errors.Is(err, errFull) {
+			t.Error("a Reader:", room, err)
+		}
+		_, file, err := ReadHeader(tee())
+		if err == nil {
+			_, err = io.Copy(io.Discard, file)
+		}
+		if !errors.Is(err, errFull) {
+			t.Error("what ReadHeader returns:", room, err)
+		}
+		if _, err := Salvage(io.Discard, tee(), pw()); !errors.Is(err, errFull) {
+			t.Error("Salvage:", room, err)
+		}
+	}
+}
+
 // hungUp is a file whose server hangs up from a place on: net/http's error wraps io.EOF.
 type hungUp struct {
 	*bytes.Reader
@@ -135,6 +178,10 @@ func TestSourcesThatHangUp(t *testing.T) {
 		}
 		if !errors.Is(err, ErrTruncated) || errors.Is(err, io.EOF) {
 			t.Error("a Reader:", from, err)
+		}
+		var said *url.Error // by which a program may try again
+		if !errors.As(err, &said) || said.Op != "Get" {
+			t.Error("what the source said:", from, err)
 		}
 	}
 	under := &hungUp{bytes.NewReader(data), size}

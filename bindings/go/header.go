@@ -32,12 +32,12 @@ func ReadHeader(file io.Reader) (*Header, io.Reader, error) {
 	if file == nil {
 		return nil, nil, errNil
 	}
-	h, r := &Header{}, &Reader{file: file, block: make([]byte, C.AGE_C_BLOCK)}
+	h, r := &Header{}, &Reader{file: &source{file: file}, block: make([]byte, C.AGE_C_BLOCK)}
 	look := func(front []byte, _ *C.age_c_reader) C.uint32_t { return h.look(front) }
 	if err := r.begin(Key{open: look}); err != nil {
 		return nil, nil, err
 	}
-	return h, io.MultiReader(bytes.NewReader(r.front), file), nil
+	return h, io.MultiReader(bytes.NewReader(r.front), r.file), nil
 }
 
 // look takes what the header that these bytes begin with says.

@@ -33,7 +33,7 @@ func Open(file io.Reader, key Key) (*Reader, error) {
 	if file == nil {
 		return nil, errNil
 	}
-	r := &Reader{file: file, block: make([]byte, C.AGE_C_BLOCK), chunk: make([]byte, C.AGE_C_CHUNK)}
+	r := &Reader{file: &source{file: file}, block: make([]byte, C.AGE_C_BLOCK), chunk: make([]byte, C.AGE_C_CHUNK)}
 	if err := r.begin(key); err != nil {
 		return nil, err
 	}
@@ -75,21 +75,33 @@ func (r *Reader) more() error {
 	}
 	n, err := readSome(r.file, room)
 	r.front = append(r.front, room[:n]...)
-	if n > 0 {
-		return nil
-	}
 	return err
 }
 
-// readSome reads at least a byte, or says why there is none. What comes with an error counts first.
+// A source gives what comes with an error first, and the error at the next read: it may come only once.
+type source struct {
+	file io.Reader
+	err  error
+}
+
+func (s *source) Read(room []byte) (int, error) {
+	if err := s.err; err != nil {
+		s.err = nil
+		return 0, err
+	}
+	n, err := s.file.Read(room)
+	if n > 0 {
+		s.err, err = err, nil
+	}
+	return n, err
+}
+
+// readSome reads at least a byte of a source, or says why there is none.
 func readSome(file io.Reader, room []byte) (int, error) {
 	for idle := 0; idle < 100; idle++ {
 		n, err := file.Read(room)
 		if n < 0 || n > len(room) {
 			return 0, errRead
-		}
-		if n > 0 && err == io.EOF {
-			err = nil // it comes again
 		}
 		if n > 0 || err != nil {
 			return n, ofSource(err)
@@ -100,17 +112,20 @@ func readSome(file io.Reader, room []byte) (int, error) {
 
 // cutSource is what a source that was truncated itself says, such as the body of a response. It is
 // ErrTruncated, and no longer io.ErrUnexpectedEOF or io.EOF.
-type cutSource struct{ text string }
+type cutSource struct{ err error }
 
-func (s *cutSource) Error() string { return "agefile: what the file is read from: " + s.text }
+func (s *cutSource) Error() string { return "agefile: what the file is read from: " + s.err.Error() }
 
 func (s *cutSource) Is(target error) bool { return target == ErrTruncated }
+
+// As finds what the source said, as a *url.Error, by which programs try again. (Unwrap would lead to io.EOF.)
+func (s *cutSource) As(target any) bool { return errors.As(s.err, target) }
 
 // ofSource is the error of a source as it is passed on. errors.Is may not find an end in it: net/http's
 // wraps io.EOF if the server hangs up.
 func ofSource(err error) error {
 	if err != io.EOF && errors.Is(err, io.EOF) || errors.Is(err, io.ErrUnexpectedEOF) {
-		return &cutSource{err.Error()}
+		return &cutSource{err}
 	}
 	return err
 }

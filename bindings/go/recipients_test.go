@@ -132,6 +132,12 @@ func TestRecipients(t *testing.T) {
 			t.Error(bad, err)
 		}
 	}
+	if _, err := CreateX25519(os.Stdout, nil, newChacha, public(text)); err == nil {
+		t.Error("without X25519")
+	}
+	if _, err := CreateX25519(os.Stdout, exchange, nil, public(text)); err == nil {
+		t.Error("without a cipher")
+	}
 	// (what computes X25519 gives zeros for a point of low order, or fails)
 	zero := func(secret, point []byte) ([]byte, error) { return make([]byte, 32), nil }
 	fails := func(secret, point []byte) ([]byte, error) {

@@ -210,6 +210,9 @@ func CreateX25519(out io.Writer, exchange Exchange, aead func(key []byte) (ciphe
 	if len(recipients) == 0 {
 		return nil, errors.New("agefile: no recipient")
 	}
+	if exchange == nil || aead == nil {
+		return nil, errors.New("agefile: exchange or aead is nil")
+	}
 	fileKey := make([]byte, 16)
 	defer copy(fileKey, make([]byte, 16))
 	if _, err := rand.Read(fileKey); err != nil {

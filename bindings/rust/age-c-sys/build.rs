@@ -27,9 +27,10 @@ fn installed() -> Option<Vec<String>> {
     if !asked.status.success() {
         return None;
     }
-    let said = String::from_utf8_lossy(&asked.stdout);
+    // (it writes a space in a name with a backslash)
+    let said = String::from_utf8_lossy(&asked.stdout).replace("\\ ", "\0");
     let folders = said.split_whitespace().filter_map(|it| it.strip_prefix("-L"));
-    Some(folders.map(String::from).collect())
+    Some(folders.map(|it| it.replace('\0', " ")).collect())
 }
 
 /// Says that there is no library, and lets the next build look again.

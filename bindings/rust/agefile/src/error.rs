@@ -1,6 +1,7 @@
 //! What is wrong with a file.
 
 use age_c_sys::{age_c_fault_name, age_c_runs_here, AgeCReader, AGE_C_MISUSED, AGE_C_MORE};
+use std::error::Error;
 use std::ffi::CStr;
 use std::fmt;
 use std::io::{self, ErrorKind};
@@ -73,9 +74,19 @@ impl AgeError {
         }
     }
 
-    /// The fault that an error of a reader or writer carries; none if the file under it failed.
+    /// The fault that an error of a reader or writer carries, even inside other errors, as a reader
+    /// of archives puts it; none if the file under it failed.
     pub fn of(error: &io::Error) -> Option<AgeError> {
-        error.get_ref()?.downcast_ref().copied()
+        let mut it: &(dyn Error + 'static) = error;
+        loop {
+            if let Some(fault) = it.downcast_ref() {
+                return Some(*fault);
+            }
+            it = match it.downcast_ref::<io::Error>() {
+                Some(outer) => outer.get_ref()?, // which its `source` passes over
+                None => it.source()?,
+            };
+        }
     }
 
     /// The name of the fault, as age_tool prints it.
@@ -149,7 +160,7 @@ impl fmt::Display for AgeError {
     }
 }
 
-impl std::error::Error for AgeError {}
+impl Error for AgeError {}
 
 impl From<AgeError> for io::Error {
     fn from(fault: AgeError) -> io::Error {

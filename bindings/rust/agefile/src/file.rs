@@ -90,7 +90,8 @@ impl<R: Read + Seek> AgeFile<R> {
     }
 
     /// Opens the same age file once more, over another source, for another thread, say: without its
-    /// key, and without the work of a passphrase. Another file is refused.
+    /// key, and without the work of a passphrase. Another file is refused. The source needs a
+    /// position of its own, which a `try_clone` of a [`File`](std::fs::File) doesn't have.
     ///
     /// # Errors
     ///

@@ -10,6 +10,7 @@ use std::ops::RangeInclusive;
 
 /// What opens the header of a file. Its `Debug` shows no secret.
 #[derive(Clone, Copy)]
+#[non_exhaustive]
 pub enum Key<'a> {
     /// A passphrase.
     Passphrase {

@@ -16,6 +16,7 @@ const LAST_SEEN: u32 = 2;
 
 /// What [`salvage`] wrote.
 #[derive(Clone, Debug, Default, PartialEq, Eq)]
+#[must_use = "it says what is lost"]
 pub struct Salvaged {
     /// The length of the plaintext that was written.
     pub size: u64,

@@ -11,7 +11,8 @@ use std::thread;
 
 /// Decrypts a file by 1 to [`MAX_WORKERS`] threads, each a part of it, and returns the length of
 /// the plaintext. Each reads its own file, which `source` opens, and gives `out` pieces of the
-/// plaintext and their places.
+/// plaintext and their places. A `source` that calls [`File::try_clone`](std::fs::File::try_clone)
+/// won't do: those files share one position, so the threads read at each other's places.
 ///
 /// `out` has all of the plaintext only if this returns `Ok`: the last chunk, which proves the
 /// length, is opened first. If parts fail, the error is that of the first one; those after it stop.

@@ -57,7 +57,9 @@ impl Failure {
 /// Bytes of the system's random generator.
 pub(crate) fn random<const N: usize>() -> io::Result<State<[u8; N]>> {
     let mut bytes = State::new([0; N]);
-    File::open("/dev/urandom")?.read_exact(&mut *bytes)?;
+    // (else "No such file or directory" seems to be about what is written to)
+    let named = |error| io::Error::other(format!("/dev/urandom: {error}"));
+    File::open("/dev/urandom").and_then(|mut it| it.read_exact(&mut *bytes)).map_err(named)?;
     Ok(bytes)
 }
 

@@ -2,7 +2,9 @@
 
 use agefile::{salvage, AgeError, AgeFile, AgeReader, AgeWriter, Header, Key, Opening};
 use std::cell::RefCell;
+use std::fs::File;
 use std::io::{self, BufRead, Cursor, ErrorKind, Read, Seek, SeekFrom, Write};
+use std::process::Command;
 use std::rc::Rc;
 
 const LENGTHS: [usize; 7] = [0, 1, 65_535, 65_536, 65_537, 131_072, 200_000];
@@ -635,4 +637,22 @@ fn a_length_that_is_wrong() {
     let mut got = Vec::new();
     file.read_to_end(&mut got).unwrap();
     assert_eq!((file.len(), got), (200_000, text));
+}
+
+/// Without random bytes no file is begun, and the error says what failed: it isn't the writer below.
+#[test]
+fn without_random_bytes() {
+    const FEW: &str = "FEW_FILES";
+    if std::env::var_os(FEW).is_none() {
+        // (in a process of its own, since other tests open files)
+        let mut run = Command::new("sh");
+        run.args(["-c", "ulimit -n 30 && exec \"$0\" --exact without_random_bytes"]);
+        let run = run.arg(std::env::current_exe().unwrap()).env(FEW, "1").output().unwrap();
+        assert!(run.status.success(), "{}", String::from_utf8_lossy(&run.stdout));
+        return;
+    }
+    let files = std::iter::from_fn(|| File::open("/dev/null").ok()).take(30);
+    let held: Vec<File> = files.collect();
+    let error = AgeWriter::create(Vec::new(), b"pw", 1).unwrap_err();
+    assert!(held.len() < 30 && error.to_string().starts_with("/dev/urandom: "), "{error}");
 }

@@ -1,6 +1,8 @@
 //! What `std::io` says of readers and writers.
 
-use agefile::{decrypt, encrypt, salvage, AgeFile, AgeReader, AgeWriter, Key};
+use agefile::{decrypt, encrypt, salvage, AgeError, AgeFile, AgeReader, AgeWriter, Key};
+use std::error::Error;
+use std::fmt;
 use std::io::{self, BufRead, Cursor, ErrorKind, Read, Seek, SeekFrom, Write};
 
 const LENGTHS: [usize; 7] = [0, 1, 65_535, 65_536, 65_537, 131_072, 200_000];
@@ -187,5 +189,37 @@ fn a_flush_that_failed() {
     assert_eq!(file.flush().unwrap_err().to_string(), "lost");
     for later in [file.write_all(b"x"), file.flush(), file.finish().map(drop)] {
         assert!(later.unwrap_err().to_string().ends_with("failed: lost"));
+    }
+}
+
+/// An error as a reader of archives makes it: it says what it did, and holds why that failed.
+#[derive(Debug)]
+struct Unpacking(io::Error);
+
+impl fmt::Display for Unpacking {
+    fn fmt(&self, f: &mut fmt::Formatter<'_>) -> fmt::Result {
+        f.write_str("failed to unpack")
+    }
+}
+
+impl Error for Unpacking {
+    fn source(&self) -> Option<&(dyn Error + 'static)> {
+        Some(&self.0)
+    }
+}
+
+/// A fault is found inside other errors, and in others there is none.
+#[test]
+fn faults_inside_other_errors() {
+    let data = encrypt(&text_of(200_000), b"pw", 1).unwrap();
+    let fault = || decrypt(&data[..150_000], key()).unwrap_err();
+    let within = |it| io::Error::new(ErrorKind::InvalidData, Unpacking(it));
+    for error in [fault(), io::Error::other(fault()), within(fault()), within(within(fault()))] {
+        let found = AgeError::of(&error).map(|it| (it.number, it.chunk));
+        assert_eq!(found, Some((17, Some(2))), "{error:?}");
+    }
+    let reset = || io::Error::from(ErrorKind::ConnectionReset);
+    for error in [reset(), io::Error::other("text"), io::Error::other(reset()), within(reset())] {
+        assert_eq!(AgeError::of(&error), None, "{error:?}");
     }
 }
