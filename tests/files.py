@@ -1,7 +1,5 @@
 """What test_disk and test_saving run the program with: a folder with the files of a decryption that stops, and what the program says."""
 import os
-import pathlib
-import resource
 import shutil
 import stat
 import subprocess
@@ -55,12 +53,19 @@ def waits_for(holds):
         time.sleep(0.01)
 
 
-def is_deriving(run):
-    """Whether a run derives a key that takes some hundreds of MiB: so much memory it has touched. It hasn't if it ended."""
-    try:
-        return int(pathlib.Path(f"/proc/{run.pid}/statm").read_text().split()[1]) * resource.getpagesize() > 100 << 20
-    except (OSError, IndexError):
-        return False
+def opened(path, run):
+    """A pipe to be written, once a run reads it."""
+    until = time.monotonic() + SECONDS
+    while time.monotonic() < until:
+        try:
+            pipe = os.open(path, os.O_WRONLY | os.O_NONBLOCK)
+        except OSError:
+            time.sleep(0.01)
+            continue
+        os.set_blocking(pipe, True)
+        return os.fdopen(pipe, "wb")
+    run.kill()
+    raise TimeoutError(run.communicate()[1])
 
 
 class FilesCase(Case):
@@ -110,6 +115,13 @@ class FilesCase(Case):
         more = {"stdin": subprocess.DEVNULL, "stdout": subprocess.DEVNULL, "stderr": subprocess.PIPE} | more
         return subprocess.Popen([self.program, *words.split()], cwd=self.room, **more)
 
+    def deriving(self, words, held="held", **more):
+        """A run that begins to derive its key, and what it waits for then: until that is closed (tools/shim.c)."""
+        if not self.is_there(held):
+            os.mkfifo(self.path(held))
+        run = self.started(words, env=shim.loaded(HELD=self.path(held)), **more)
+        return run, opened(self.path(held), run)
+
     def ends(self, name, started, status, faults):
         """Counts whether what was started ends like this."""
         said = started.communicate(timeout=SECONDS)[1]
@@ -125,23 +137,10 @@ class Feeding:
         case.remove("in", *([] if "stdout" in more else ["out"]))
         os.mkfifo(case.path("in"))
         self.run = case.started(words, **more)
-        self.input = self.opened()
+        self.input = opened(case.path("in"), self.run)
         self.input.write(case.age[:140000])
         self.input.flush()
         waits_for(lambda: case.is_there("out") and case.path("out").stat().st_size >= 131072)
-
-    def opened(self):
-        """The pipe, once the program reads it."""
-        until = time.monotonic() + SECONDS
-        while time.monotonic() < until:
-            try:
-                pipe = os.open(self.case.path("in"), os.O_WRONLY | os.O_NONBLOCK)
-            except OSError:
-                time.sleep(0.01)
-                continue
-            os.set_blocking(pipe, True)
-            return os.fdopen(pipe, "wb")
-        raise TimeoutError(self.run.communicate()[1])
 
     def stops(self, name, faults):
         """Cuts the input, and counts whether the run ends so."""

@@ -79,6 +79,7 @@ class ChecksTest(unittest.TestCase):
         check, well = loaded(TOP / "check"), "1 passed, 0 failed, 0 skipped\n"
         files, (crates, edits) = sorted(TOP.glob("tests/test_*.py")), map(int, re.match(r"(\d+) crates, (\d+) edits", (TOP / "tests/ran").read_text()).groups())
         self.assertEqual(check.EDITS, ("checks/edits", "--core", "--beside"))
+        self.assertLessEqual({*check.LONGEST}, {it.stem for it in files})
         count, proofs, refused, ran = crates + edits + len(files), f"print('{crates} passed, 0 failed')", f"print('{edits} passed, 0 failed')", []
 
         def told(proofs, edits, said=well):

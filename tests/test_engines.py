@@ -220,7 +220,12 @@ class EnginesTest(Case):
     def test_passes_over(self):
         """What comes before a position isn't read of a file that has places, and has any bytes; of a pipe it is read."""
         text = random.Random(1).randbytes(64 * CHUNK)
-        file, start = file_of(text), len(FRONT) + 60 * (CHUNK + 16)
+        for name, held in (("pass", b"p"), ("random", KEY + bytes(32)), ("text", text)):
+            self.write(name, held)
+        self.tool(*"encrypt --pass pass --log 1 --random random text sealed".split(), check=True)
+        file = self.read("sealed")
+        begin = len(file) - 64 * (CHUNK + 16)
+        start = begin + 60 * (CHUNK + 16)
         self.decrypt(file[: start + 2 * CHUNK])
         saved, old = self.read("position"), text[: 61 * CHUNK]
         self.write("in", file)
@@ -228,7 +233,7 @@ class EnginesTest(Case):
         self.ends("a position far on", ended, 0, text)
         self.see("what comes before it isn't read", of_file - len(old) < 8 * CHUNK, of_file)
         with open(self.path("in"), "r+b") as sparse:
-            sparse.truncate(len(FRONT))
+            sparse.truncate(begin)
             sparse.seek(start)
             sparse.write(file[start:])
         self.ends("a hole before it", self.counted(saved, old, "in")[0], 0, text)

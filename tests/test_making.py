@@ -5,9 +5,9 @@ import resource
 import signal
 
 from tests.case import needs
-from tests.files import PLAIN, WRITE, FilesCase, as_nobody, chunk_fault, is_deriving, reason, refused, unwritten, waits_for
+from tests.files import PLAIN, WRITE, FilesCase, as_nobody, chunk_fault, reason, refused, unwritten
 
-ENCRYPT = "encrypt --pass pass --log 18 plain new"
+ENCRYPT = "encrypt --pass pass --log 14 plain new"
 DECRYPT = "decrypt --pass pass costly new"
 HEADER = b"age-encryption.org/v1\n-> scrypt AAAAAAAAAAAAAAAAAAAAAA 22\n%s\n--- %s\n" % (b"A" * 43, b"A" * 43)
 
@@ -25,43 +25,42 @@ class MakingTest(FilesCase):
     def setUp(self):
         super().setUp()
         self.write("wrong", b"another passphrase\n")
-        self.expect(0, b"", "encrypt --pass pass --log 18 plain costly")
+        self.expect(0, b"", "encrypt --pass pass --log 14 plain costly")
+        os.mkfifo(self.path("held"))
         self.names = sorted(os.listdir(self.room))
 
     def left(self):
         """The files that came since."""
         return [it for it in sorted(os.listdir(self.room)) if it not in self.names]
 
-    def deriving(self, words):
-        """A run that derives its key now."""
-        run = self.started(words, preexec_fn=hears_sigint)
-        waits_for(lambda: is_deriving(run))
-        return run
-
+    @needs("cc")
     def test_signals(self):
         """A run that is stopped while it derives its key leaves nothing, and the same command does its work then."""
         for words in (ENCRYPT, DECRYPT, f"{DECRYPT} --no-clobber"):
             for it in (signal.SIGINT, signal.SIGTERM, signal.SIGKILL):
-                run = self.deriving(words)
+                run, pause = self.deriving(words, preexec_fn=hears_sigint)
                 self.see(f"{words}, {it.name}: nothing yet", not self.left(), self.left())
                 run.send_signal(it)
                 self.ends(f"{words}, {it.name}", run, -it, b"")
+                pause.close()
                 self.see(f"{words}, {it.name}: nothing is left", not self.left(), self.left())
             self.expect(0, b"", words, f"{words}, once more")
             self.remove("new")
 
+    @needs("cc")
     def test_wrong_passphrase(self):
         """A wrong passphrase leaves nothing, at no time, also where there are no locks; nor does a file that is damaged at its beginning."""
         words = DECRYPT.replace("pass pass", "pass wrong")
         for held in (None, b"another's", b""):
-            run = self.deriving(words)
+            run, pause = self.deriving(words)
             self.see("nothing while it is tried", not self.left(), self.left())
             if held is not None:
                 self.write("new", held)
+            pause.close()
             self.ends("a wrong passphrase", run, 1, b"age_tool: 13 WrongKey\n")
             self.see(f"after it just what came: {held}", (self.read("new") if self.left() else None) == held)
             self.remove("new")
-        self.write("damaged", self.age[:400] + b"?" + self.age[401:])
+        self.write("damaged", self.age[:400] + bytes([self.age[400] ^ 1]) + self.age[401:])
         self.names.append("damaged")
         self.expect(1, chunk_fault(0), "decrypt --pass pass damaged new")
         self.see("nothing after a damaged chunk", not self.left(), self.left())
@@ -111,35 +110,43 @@ class MakingTest(FilesCase):
             self.expect(1, said, words, **as_nobody())
         self.path("folder").chmod(0o755)
 
+    @needs("cc")
     def test_taken_meanwhile(self):
         """What comes to OUT's name while the key is derived is kept, and the run fails. (`encrypt` opens OUT after that.)"""
         for words in (f"{ENCRYPT} --no-clobber", DECRYPT, f"{DECRYPT} --no-clobber"):
             for held, more in ((b"another's", ""), (b"", "; it is empty: a run that was killed may have left it")):
                 said = refused("new", more) if "clobber" in words else unwritten("new", os.strerror(errno.EEXIST) + more)
-                run = self.deriving(words)
+                run, pause = self.deriving(words)
                 self.write("new", held)
+                pause.close()
                 self.ends(f"{words}: {held} came", run, 1, said)
                 self.see(f"{words}: {held} is kept", self.read("new") == held)
                 self.remove("new")
-            run = self.deriving(words)
+            run, pause = self.deriving(words)
             os.symlink("elsewhere", self.path("new"))
+            pause.close()
             self.ends(f"{words}: a link came", run, 1, refused("new") if "clobber" in words else unwritten("new", errno.EEXIST))
             self.see(f"{words}: a link isn't followed", not self.is_there("elsewhere"))
             self.remove("new")
 
+    @needs("cc")
     def test_turned_link(self):
         """A link to nothing that comes to lead elsewhere while the key is derived is followed nowhere, and nothing is left."""
         os.symlink("one", self.path("link"))
-        run = self.deriving("decrypt --pass pass costly link")
+        run, pause = self.deriving("decrypt --pass pass costly link")
         self.remove("link")
         os.symlink("other", self.path("link"))
+        pause.close()
         self.ends("a link that turned", run, 1, unwritten("link", errno.ENOENT))
         self.see("a link that turned: nothing is left", self.left() == ["link"], self.left())
 
+    @needs("cc")
     def test_two_runs(self):
         """Of two runs into one new OUT the second to come to a byte is refused, and leaves the first one's."""
-        first, second = self.deriving(DECRYPT), self.deriving(DECRYPT)
-        ended = {(it.communicate(), it.returncode)[1] for it in (first, second)}
+        runs = [self.deriving(DECRYPT, it) for it in ("held", "held-2")]
+        for _, pause in runs:
+            pause.close()
+        ended = {(it.communicate(), it.returncode)[1] for it, _ in runs}
         self.see("one is refused", ended == {0, 1}, ended)
         self.see("OUT is complete", self.read("new") == PLAIN)
 

@@ -230,7 +230,7 @@ class ProgramTest(Case):
 
     def test_names_like_help(self):
         """A name that begins with -h is refused: a script that removes what was encrypted would lose it after the help, which ends with 0."""
-        self.write("-holiday", b"all there is")
+        self.write("-holiday", b"all there is\n")
         for words in ("encrypt --pass pass -holiday out", "encrypt --pass pass plain -hout", "decrypt --pass -hx plain.age out", "-help", "inspect -hx"):
             word = next(it for it in words.split() if it.startswith("-h"))
             tip = f"age_tool: unexpected argument '{word}'\n\n  tip: write --help for help, and './{word}' for a file of that name\n"

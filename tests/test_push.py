@@ -8,7 +8,7 @@ import subprocess
 import sys
 
 from tests.bindings import LENGTHS, PYTHON, BindingsCase, agefile, plain_of, python_with, raised, setUpModule
-from tests.test_bindings import sample_of
+from tests.test_languages import sample_of
 from tests.test_python_files import interrupted_at, together
 from tools.workspace import LIBRARY
 

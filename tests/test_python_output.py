@@ -9,6 +9,7 @@ import signal
 import stat
 import subprocess
 import sys
+import termios
 import time
 import unittest.mock
 
@@ -211,8 +212,7 @@ class OutputTest(BindingsCase):
                 run = self.begin(sys.executable, "-m", "agefile", command, "--pass", "pw", "--no-clobber", "-", "out")
                 run.stdin.write(self.data[:begin])
                 run.stdin.flush()
-                # (it waits for the payload once it has read all that is there)
-                self.wait_until(lambda: "pipe_read" in self.waits(run) or not self.waits(run) and time.sleep(1) is None)
+                self.wait_until(lambda: self.waits(run))
                 take()
                 _, said = run.communicate(self.data[begin:])
                 self.see(f"{command}, and {kind} meanwhile", (run.returncode, said) == (1, b"agefile: out: File exists\n"), run.returncode, said)
@@ -222,9 +222,9 @@ class OutputTest(BindingsCase):
         self.see("salvage to a new file", run.returncode == 0 and self.read("new") == self.text, run.stderr)
 
     def waits(self, run):
-        """Where in the kernel a process waits, if it says so."""
-        with open(f"/proc/{run.pid}/wchan") as file:
-            return file.read().replace("0", "")
+        """Whether a run waits for more of its input: it has read all that is there, and sleeps."""
+        with open(f"/proc/{run.pid}/stat") as file:
+            return not any(fcntl.ioctl(run.stdin, termios.FIONREAD, bytes(4))) and ") S " in file.read()
 
     def test_salvage_mode(self):
         self.write("out", b"as it was, and longer")

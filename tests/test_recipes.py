@@ -10,7 +10,7 @@ import subprocess
 import sys
 import time
 
-from tests.case import Case, needs
+from tests.case import SECONDS, Case, needs
 from tools import terminal
 from tools.workspace import TOP
 
@@ -117,16 +117,16 @@ class RecipesTest(PageCase):
         """Typed at an interactive bash, as the page says: the passphrase is neither shown nor kept in the history."""
         text = self.make_archive("f.age")
         [typed] = [it for _, script in blocks("sh") for it in script.splitlines() if "read -rsp" in it]
-        child, tty = terminal.start(["env", "-C", str(self.path("work")), "bash", "--norc", "-i"], {"PATH": self.env["PATH"], "HISTFILE": ""})
+        child, tty = terminal.start(["env", "-C", str(self.path("work")), "bash", "--norc", "-i"], {"PATH": self.env["PATH"], "HISTFILE": "", "PS1": "$ "})
         os.write(tty, typed.encode() + b"\n")
         seen = b""
         # The line itself has the words of the prompt.
-        while not seen.endswith(b"Passphrase: ") and (piece := terminal.output(tty, b"Passphrase: ", 10)):
+        while not seen.endswith(b"Passphrase: ") and (piece := terminal.output(tty, b"Passphrase: ")):
             seen += piece
         os.write(tty, b"to type\n")
-        seen += terminal.output(tty, b"$ ", 10)
+        seen += terminal.output(tty, b"$ ")
         os.write(tty, b"history; exit\n")
-        seen += terminal.output(tty, None, 10)
+        seen += terminal.output(tty)
         os.close(tty)
         os.waitpid(child, 0)
         self.see("a passphrase that is typed opens the file", self.is_there("work/f") and self.read("work/f") == text, seen)
@@ -188,13 +188,15 @@ class RecipesTest(PageCase):
 HELD = {
     # What tar gives first, and then nothing more.
     "tar": """#!/bin/bash
-if [ -n "${HOLD_TAR:-}" ] && [ "$1" = -c ]; then /bin/tar "$@" | head -c 1000000; exec sleep 100; fi
+if [ -n "${HOLD_TAR:-}" ] && [ "$1" = -c ]; then /bin/tar "$@" | head -c 1000000; exec sleep 1000; fi
 exec /bin/tar "$@"
 """,
     # Holds a decryption until the file `on` is there. Lets an encryption of `large` get no more than its beginning, or all of it, and then
     # holds it in the same way.
     "age_tool": """#!/bin/bash
 real=$(readlink -f "$0.real")
+# (with little work for each key, which is what takes these commands longest)
+if [ "$1" = encrypt ]; then set -- encrypt --log 10 "${@:2}"; fi
 if [ "$1" = decrypt ] && [ -n "${HOLD_READING:-}" ]; then touch reading; until [ -e on ]; do sleep 0.02; done; fi
 if [ "$1" = encrypt ] && [ -n "${HOLD_LARGE:-}" ] && [[ $* = *photos/large* ]]; then
     words=("$@")
@@ -202,7 +204,7 @@ if [ "$1" = encrypt ] && [ -n "${HOLD_LARGE:-}" ] && [[ $* = *photos/large* ]]; 
     if [ "$HOLD_LARGE" = read ]; then
         { cat photos/large; touch reading; until [ -e on ]; do sleep 0.02; done; } | "$real" "${words[@]}"
     else
-        { head -c 1000000 photos/large; exec sleep 100; } | "$real" "${words[@]}"
+        { head -c 1000000 photos/large; exec sleep 1000; } | "$real" "${words[@]}"
     fi
     exit
 fi
@@ -234,7 +236,7 @@ class MishapsTest(PageCase):
         environment, self.env = self.env, {**self.env, **held}
         run = self.begin(script)
         self.env = environment
-        limit = time.monotonic() + 20
+        limit = time.monotonic() + SECONDS
         while run.poll() is None and not until() and time.monotonic() < limit:
             time.sleep(0.02)
         return run

@@ -1,18 +1,18 @@
 """Runs the built program in places where a careless one loses a position, or another file for it: names that change while it runs,
 folders and file systems that refuse a new file, an OUT that holds less than was written to it."""
+import contextlib
 import errno
 import fcntl
 import os
+import pathlib
 import random
 import signal
 import stat
 import subprocess
-import threading
-import time
 
 from tests.case import SECONDS, needs, twice
 from tests.files import LOCKED, NOBODY, PLAIN, WRITE, Feeding, FilesCase
-from tests.files import as_nobody, chunk_fault, reason, unsaved, unsynced, unwritten
+from tests.files import as_nobody, chunk_fault, reason, unsaved, unsynced, unwritten, waits_for
 from tests.test_runs import feed
 from tools import shim
 
@@ -215,7 +215,7 @@ class SavingTest(FilesCase):
 
     def test_first_chunk(self):
         """A position at chunk 0 is put only where nothing has the name: it takes the place of nothing."""
-        self.write("first", self.age[:400] + b"?" + self.age[401:])
+        self.write("first", self.age[:400] + bytes([self.age[400] ^ 1]) + self.age[401:])
         words = "decrypt --pass pass --save saved first out"
         self.expect(1, chunk_fault(0), words, "nothing has the name")
         self.see("nothing has the name: a position", self.is_position("saved", 0) and not self.is_there("out"))
@@ -415,13 +415,19 @@ class SavingTest(FilesCase):
         self.expect(1, chunk_fault(2), words, "a pipe that somebody reads")
         self.see("a pipe that somebody reads: a position", os.read(reader, 1000).startswith(b"age-position/v2 2 "))
         os.close(reader)
-        said = []
-        thread = threading.Thread(target=lambda: said.append(self.read("pipe")))
-        thread.start()
-        time.sleep(0.2)
-        self.expect(1, chunk_fault(2), words, "a pipe that somebody waits at")
-        thread.join()
-        self.see("a pipe that somebody waits at: a position", said[0].startswith(b"age-position/v2 2 "))
+        with self.waiting_at("pipe") as reader:
+            self.expect(1, chunk_fault(2), words, "a pipe that somebody waits at")
+            self.see("a pipe that somebody waits at: a position", reader.communicate(timeout=SECONDS)[0].startswith(b"age-position/v2 2 "))
+
+    @contextlib.contextmanager
+    def waiting_at(self, pipe):
+        """A reader that waits until somebody opens a pipe to write: it sleeps there alone."""
+        with subprocess.Popen(["cat", pipe], cwd=self.room, stdout=subprocess.PIPE) as reader:
+            waits_for(lambda: ") S " in pathlib.Path(f"/proc/{reader.pid}/stat").read_text())
+            try:
+                yield reader
+            finally:
+                reader.kill()
 
     @needs(root=True)
     def test_unreadable_pipe(self):
@@ -433,7 +439,7 @@ class SavingTest(FilesCase):
         self.expect(1, unwritten("inbox", errno.EACCES), words, "a pipe that may only be written", **as_nobody())
         self.see("a pipe that may only be written: nothing was begun", not self.is_there("new"))
         os.mkfifo(self.path("pipe"))
-        with subprocess.Popen(["cat", "pipe"], cwd=self.room, stdout=subprocess.PIPE) as reader:
+        with self.waiting_at("pipe") as reader:
             self.expect(0, b"", "decrypt --pass pass --save pipe age out", "a run that saves no position")
             self.see("a run that saves no position: its reader ends", reader.communicate(timeout=SECONDS) == (b"", None))
 

@@ -11,7 +11,7 @@ import threading
 import time
 
 from tests.bindings import BLOCK, KEY, LENGTHS, PYTHON, BindingsCase, agefile, flipped, limited, plain_of, python_with, raised, setUpModule
-from tests.test_bindings import sample_of
+from tests.test_languages import sample_of
 from tests.test_python import fault_of
 from tools.workspace import LIBRARY
 
@@ -61,13 +61,16 @@ class WorkersTest(BindingsCase):
 
     def test_later_parts(self):
         """A part stops if one before it failed."""
-        data, puts = self.sealed(bytes(160 * 65_536)), []
+        data, puts, first, has_begun = self.sealed(bytes(160 * 65_536)), [], [], threading.Event()
 
         def put(at, _):
             if at == 0:
+                first.append(threading.current_thread())
+                has_begun.set()
                 raise OSError("full")
             puts.append(at)
-            time.sleep(0.3 if len(puts) == 1 else 0)
+            has_begun.wait(60)
+            first[0].join()
 
         self.see("a sink that fails", raised(OSError, self.copied, data, lambda: io.BytesIO(data), put, 2))
         self.see("what is written then", len(puts) <= 2, puts)
@@ -87,15 +90,20 @@ class WorkersTest(BindingsCase):
             self.see("one that a writer with the key made", raised(agefile.Truncated, self.copied, data, lambda: io.BytesIO(shorter), lambda *_: None))
         other = agefile.encrypt(plain_of(LENGTH), passphrase="pw", work=1)
         self.see("a source that is another file", raised(agefile.WrongKey, self.copied, data, lambda: io.BytesIO(other), lambda *_: None))
-        wait = threading.Event()
-        kept = signal.signal(signal.SIGUSR1, signal.default_int_handler)
+        all_put, wait = threading.Barrier(4), threading.Event()
+
+        def put(*_):
+            if all_put.wait() == 0:
+                os.kill(os.getpid(), signal.SIGUSR1)
+            wait.wait()
+
+        def interrupts(*_):
+            wait.set()
+            raise KeyboardInterrupt
+
+        kept = signal.signal(signal.SIGUSR1, interrupts)
         with limited(60):
-            timers = [threading.Timer(0.3, os.kill, (os.getpid(), signal.SIGUSR1)), threading.Timer(0.6, wait.set)]
-            for it in timers:
-                it.start()
-            self.see("an interruption", raised(KeyboardInterrupt, self.copied, data, lambda: io.BytesIO(data), lambda *_: wait.wait()))
-            for it in timers:
-                it.join()
+            self.see("an interruption", raised(KeyboardInterrupt, self.copied, data, lambda: io.BytesIO(data), put))
         signal.signal(signal.SIGUSR1, kept)
         left = [it for it in threading.enumerate() if it is not threading.current_thread() and it.is_alive()]
         self.see("threads that go on", left == [], left)

@@ -2,6 +2,8 @@
  *
  * REFUSED: that allocation fails, counted from 1; with ON all after it too. COUNT names a file that is made then.
  *
+ * HELD names a pipe: the first allocation of 8 MiB or more, for a passphrase's key, waits until it was opened to be written, and closed.
+ *
  * FSYNC, FTRUNCATE, FLOCK, RENAME, LINK and WRITE (from write number AT on):
  * these fail with that error. ONLY says of which kind of file FSYNC fails: d, f or b; or 1, standard output alone, or out, the file of
  * that name. FROM: it fails from that call on. CLOSE: what is written to such a file is lost, and its next close, but no later one, fails
@@ -52,7 +54,18 @@ static int is_refused(void) {
     errno = ENOMEM;
     return 1;
 }
-void *malloc(size_t n) { return is_refused() ? NULL : __libc_malloc(n); }
+static void wait_at_key(size_t n) {
+    const char *held = getenv("HELD");
+    if (!held || n < 8 << 20) return;
+    int fd = NEXT(open)(held, O_RDONLY);
+    if (fd < 0 || NEXT(read)(fd, &(char){0}, 1) < 0) abort();
+    NEXT(close)(fd);
+    unsetenv("HELD");
+}
+void *malloc(size_t n) {
+    wait_at_key(n);
+    return is_refused() ? NULL : __libc_malloc(n);
+}
 void *calloc(size_t n, size_t m) { return is_refused() ? NULL : __libc_calloc(n, m); }
 void *realloc(void *p, size_t n) { return is_refused() ? NULL : __libc_realloc(p, n); }
 

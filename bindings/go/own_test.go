@@ -56,7 +56,7 @@ func ownFiles(number int) error {
 	return nil
 }
 
-// Goroutines with files of their own. test_bindings runs it under the race detector.
+// Goroutines with files of their own. test_languages runs it under the race detector.
 func TestFilesOfTheirOwn(t *testing.T) {
 	faults := make([]error, 8)
 	var all sync.WaitGroup

@@ -110,14 +110,19 @@ func TestDecryptToGoesOn(t *testing.T) {
 	}
 }
 
-// halting fails at its beginning, and counts what is written elsewhere, where the first write takes long.
-type halting struct{ writes *int32 }
+// halting fails at its beginning, and counts what is written elsewhere, which takes long after that.
+type halting struct {
+	writes *int32
+	failed chan struct{}
+}
 
 func (h halting) WriteAt(p []byte, at int64) (int, error) {
 	if at == 0 {
+		close(h.failed)
 		return 0, io.ErrClosedPipe
 	}
 	if atomic.AddInt32(h.writes, 1) == 1 {
+		<-h.failed
 		time.Sleep(300 * time.Millisecond)
 	}
 	return len(p), nil
@@ -126,7 +131,8 @@ func (h halting) WriteAt(p []byte, at int64) (int, error) {
 // A part stops if one before it failed.
 func TestDecryptToStops(t *testing.T) {
 	data, writes := sealed(make([]byte, 160*65_536)), int32(0)
-	_, err := DecryptTo(halting{&writes}, bytes.NewReader(data), int64(len(data)), pw(), 2)
+	out := halting{&writes, make(chan struct{})}
+	_, err := DecryptTo(out, bytes.NewReader(data), int64(len(data)), pw(), 2)
 	if err != io.ErrClosedPipe || writes > 2 {
 		t.Error(err, writes)
 	}

@@ -121,19 +121,27 @@ fn goes_on_before_a_fault() {
     assert_eq!(AgeError::of(&error).unwrap().chunk, Some(1));
 }
 
+/// What another part does once this one has begun: so slowly that its end has seconds to get out.
+fn go_on_slowly(begun: &AtomicUsize, written: &AtomicUsize) {
+    while begun.load(Ordering::Relaxed) == 0 {
+        std::thread::sleep(std::time::Duration::from_millis(1));
+    }
+    std::thread::sleep(std::time::Duration::from_millis(20));
+    written.fetch_add(1, Ordering::Relaxed);
+}
+
 /// Parts after one that failed stop: they write a few chunks at most, of thousands.
 #[test]
 fn stops_after_a_fault() {
     const MANY: usize = 1_000;
     let data = encrypt(&vec![0; MANY * 65_536], b"pw", 1).unwrap();
-    let written = AtomicUsize::new(0);
+    let (written, begun) = (AtomicUsize::new(0), AtomicUsize::new(0));
     let out = |_: &[u8], at: u64| {
         if at == 0 {
+            begun.store(1, Ordering::Relaxed);
             return Err(ErrorKind::WriteZero.into());
         }
-        while written.fetch_add(1, Ordering::Relaxed) == 0 {
-            std::thread::sleep(std::time::Duration::from_millis(300));
-        }
+        go_on_slowly(&begun, &written);
         Ok(())
     };
     let error = decrypt_to(out, || Ok(Cursor::new(&data)), key(), 2).unwrap_err();
@@ -163,12 +171,7 @@ fn stops_after_a_panic() {
             begun.store(1, Ordering::Relaxed);
             panic!("the first piece");
         }
-        // (the other part goes on after that, so slowly that the panic has seconds to get out)
-        while begun.load(Ordering::Relaxed) == 0 {
-            std::thread::sleep(std::time::Duration::from_millis(1));
-        }
-        std::thread::sleep(std::time::Duration::from_millis(20));
-        written.fetch_add(1, Ordering::Relaxed);
+        go_on_slowly(&begun, &written);
         Ok(())
     };
     let all = std::panic::AssertUnwindSafe(|| decrypt_to(out, || Ok(Cursor::new(&data)), key(), 2));
