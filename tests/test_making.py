@@ -115,7 +115,8 @@ class MakingTest(FilesCase):
         """What comes to OUT's name while the key is derived is kept, and the run fails. (`encrypt` opens OUT after that.)"""
         for words in (f"{ENCRYPT} --no-clobber", DECRYPT, f"{DECRYPT} --no-clobber"):
             for held, more in ((b"another's", ""), (b"", "; it is empty: a run that was killed may have left it")):
-                said = refused("new", more) if "clobber" in words else unwritten("new", os.strerror(errno.EEXIST) + more)
+                # (without --no-clobber another run has made it, and may still be at it)
+                said = refused("new", more) if "clobber" in words else unwritten("new", os.strerror(errno.EEXIST))
                 run, pause = self.deriving(words)
                 self.write("new", held)
                 pause.close()

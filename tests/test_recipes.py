@@ -297,7 +297,7 @@ class MishapsTest(PageCase):
         """The newest backup is checked, also where an earlier one has the short name and the shell goes on after a failure."""
         check = f"set +e\n{self.blocks['Checking a backup without restoring it']}"
         for night in (1, 2):
-            encrypt = f"tar -c photos | age_tool encrypt --log 1 --pass passphrase.txt /dev/stdin photos-2027-01-0{night}.tar.age"
+            encrypt = f"tar -c photos | age_tool encrypt --pass passphrase.txt /dev/stdin photos-2027-01-0{night}.tar.age"
             self.assertEqual(self.run_script(encrypt).returncode, 0)
             said = self.run_script(check).stdout
             self.see(f"night {night}: no fault", "age_tool: " not in said, said)
