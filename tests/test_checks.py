@@ -111,10 +111,15 @@ class ChecksTest(unittest.TestCase):
 
     def test_interrupt(self):
         """Whatever ends `check` early ends what it started."""
-        # (what a shell runs in the background ignores the first of these signals)
+        # (what a shell runs in the background ignores the first of these signals; one that comes just before a read is seen after it, so
+        # that the proofs go on saying something)
         words = """import signal, sys; from tools.workspace import TOP, loaded; check = loaded(TOP / "check")
 signal.signal(signal.SIGINT, signal.default_int_handler)
-check.PROOFS = check.EDITS = (sys.executable, "-c", "import os, time; print(os.getpid(), flush=True); time.sleep(60)")
+check.PROOFS = check.EDITS = (sys.executable, "-c", '''import contextlib, os, time
+for _ in range(600):
+    with contextlib.suppress(OSError):
+        print(os.getpid(), flush=True)
+    time.sleep(0.1)''')
 check.main()"""
         for stop in (signal.SIGINT, signal.SIGTERM):
             with self.subTest(stop), subprocess.Popen([sys.executable, "-c", words], cwd=TOP, stdout=subprocess.PIPE, stderr=subprocess.DEVNULL, text=True) as run:
