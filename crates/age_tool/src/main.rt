@@ -79,7 +79,8 @@ fn taken_for_help<'w>(words: &[&'w str]) -> Option<&'w str> {
 fn refuse_word(rt: &HostRuntime, word: &str) -> ExitCode {
     let word = Escaped(word.as_bytes());
     let _ = eprintln!(rt;
-        "age_tool: unexpected argument '{word}'\n\n  tip: write --help for help, and './{word}' for a file of that name"
+        "age_tool: unexpected argument '{word}'\n\n  tip: \
+         write --help for help, and './{word}' for a file of that name"
     );
     ExitCode::from(2)
 }
