@@ -15,7 +15,7 @@ import unittest.mock
 from tests import counted, test_runs
 from tests.case import SECONDS, Case
 from tools import older_kit, sources
-from tools.workspace import TOP, loaded, with_room
+from tools.workspace import TOP, loaded
 
 EMPTY = "import unittest\n\nclass EmptyTest(unittest.TestCase):\n    pass\n"
 LEFT_OUT = "import unittest\n\nclass LeftOutTest(unittest.TestCase):\n    @unittest.skip('needs %s')\n    def test_it(self): pass\n"
@@ -148,10 +148,6 @@ check.main()"""
                 os.write(begins, word.encode())
                 os.close(begins)
                 self.assertEqual(([*found], ended), (rest, ["after"] if word else ["it has", "after"]))
-
-    def test_room(self):
-        """A count may grow by 2 % until the next release, and by 1 at least."""
-        self.assertEqual([*map(with_room, (0, 5, 100, 1_000))], [1, 6, 102, 1_020])
 
     def transcript(self, text):
         """The cases of a transcript, with their lines joined."""

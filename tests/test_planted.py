@@ -17,9 +17,6 @@ PLANTED = {
         ("README.md", "`arrayvec`,", "", "README.md: arrayvec isn't among what is trusted"),
         ("README.md", "| encrypt 512 MiB | 0.82 s", "| encrypt 512 MiB | 0.42 s", "README.md"),
         ("HANDLES", "none", "Net", "HANDLES: something is allowed"),
-        ("CONTRIBUTING.md", "`tests/test_memory.py`", "`tests/memory`", "CONTRIBUTING.md: nothing of tests/test_memory.py"),
-        ("CONTRIBUTING.md", None, "\n" + "It is long, and " * 20 + "ends.\n", "CONTRIBUTING.md: a sentence of"),
-        ("CONTRIBUTING.md", None, "\n" + "wide" * 26 + "\n", "CONTRIBUTING.md: more than 100 columns"),
         ("CONTRIBUTING.md", None, "\n`tests/nothing` and `NothingLemmas`\n", "CONTRIBUTING.md: no tests/nothing"),
         ("CONTRIBUTING.md", None, "", "CONTRIBUTING.md: no lemma file NothingLemmas"),
         ("docs/DEFINITIONS.md", "`Payload.nonce_bytes`", "`Payload.nothing`", "docs/DEFINITIONS.md: no definition Payload.nothing"),
@@ -46,8 +43,6 @@ PLANTED = {
         ("crates/age_disk/src/files.rt", None, "\nfn spoil() {\n    let _ = std::fs::remove_file(rt, name);\n}\n", "age_disk/src/files.rt: fs::remove_file may stand in"),
         ("crates/age_kdf/specs/Derivation.antt", None, "\nabbrev pub idle : ℕ → ℕ\nidle n = n\n", "age_kdf/specs/Derivation: idle is reached by no public contract"),
         ("crates/age_calls/specs/Outs.antt", "-- (in any order: no call gives a lock back)\n", "", "age_calls/specs/Outs: line 79: no comment says why the order"),
-        ("checks/trusted", '"run": (2137, ', '"run": (1037, ', "lines for run, more than"),
-        ("checks/trusted", "58_900", "28_900", "lines of all crates, more than"),
     ),
     "unused": (
         ("crates/age_kdf/specs/Derivation.antt", None, "", "age_kdf/specs/Derivation.antt: nothing uses idle"),

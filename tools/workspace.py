@@ -83,11 +83,6 @@ def library():
     return LIBRARY
 
 
-def with_room(released):
-    """How far a count may grow until the next release: 2 % above that of the last one, and by 1 at least."""
-    return max(released + 1, released * 102 // 100)
-
-
 def answer_help(head):
     """Prints the head of a script and ends, if that is what the words ask for."""
     if {"-h", "--help"} & {*sys.argv[1:]}:
