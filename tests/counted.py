@@ -4,7 +4,8 @@ nothing ran), or one of whose threads ended by an exception; and, if AGE_TEST_AL
 something that tests/optional doesn't list.
 
 usage: python3 -m tests.counted FILE     as test_disk; the last line is `N passed, M failed, K skipped`, and the status 0 if none failed;
-                                         each test that took a second or more has a line before it, `S s TEST`
+                                         each test that took a second or more has a line before it, `S s TEST`, and before those stand
+                                         `N tests ran: TEST ..` and `N tests were left out: TEST ..`, for want of what tests/optional lists
 """
 import functools
 import os
@@ -22,7 +23,7 @@ class Counted(unittest.TextTestResult):
 
     def __init__(self, *words):
         super().__init__(*words)
-        self.took = []
+        self.took, self.ran, self.left_out = [], [], []
 
     def startTest(self, test):
         super().startTest(test)
@@ -33,6 +34,11 @@ class Counted(unittest.TextTestResult):
         threading.excepthook = threading.__excepthook__
         if (took := time.monotonic() - self.begun) >= 1:
             self.took.append((took, test.id().removeprefix("tests.")))
+        name, reasons = test.id().rpartition(".")[2], [why for it, why in self.skipped if it is test or getattr(it, "test_case", None) is test]
+        if self.checks or Counted.asserted:
+            self.ran.append(name)
+        elif reasons and all(map(may_lack, reasons)):
+            self.left_out.append(name)
         super().stopTest(test)
 
     def addSubTest(self, test, check, error):
@@ -82,6 +88,8 @@ def main():
     if not result.passed + failed + len(result.skipped):
         print(f"{sys.argv[1]}: no check was made")
         failed += 1
+    for names, what in ((result.ran, "ran"), (result.left_out, "were left out")):
+        print(f"{len(names)} tests {what}:", *names)
     for took, test in sorted(result.took, reverse=True):
         print(f"{took:.1f} s {test}")
     print(f"{result.passed} passed, {failed} failed, {len(result.skipped)} skipped")

@@ -14,11 +14,14 @@ import unittest.mock
 
 from tests import counted, test_runs
 from tests.case import SECONDS, Case
-from tools import older_kit, sources
+from tools import older_kit, promises, sources
 from tools.workspace import TOP, loaded
 
 EMPTY = "import unittest\n\nclass EmptyTest(unittest.TestCase):\n    pass\n"
 LEFT_OUT = "import unittest\n\nclass LeftOutTest(unittest.TestCase):\n    @unittest.skip('needs %s')\n    def test_it(self): pass\n"
+
+# What `check` hears if all goes well: of its proofs, of the edits, and of a file of tests.
+PROOFS, EDITS, WELL = "print('3 passed, 0 failed')", "print('2 passed, 0 failed')", "1 tests ran: test_it\n0 tests were left out:\n1 passed, 0 failed, 0 skipped\n"
 
 
 class ChecksTest(unittest.TestCase):
@@ -32,9 +35,9 @@ class ChecksTest(unittest.TestCase):
             (folder / "test_it.py").write_text(text)
             words = [sys.executable, "-m", "tests.counted", "test_it"]
             run = subprocess.run(words, cwd=made, capture_output=True, text=True, env=more)
-            last = run.stdout.splitlines()[-1]
-            self.assertEqual(run.returncode != 0, ", 0 failed," not in last)
-            return last
+            self.lines = run.stdout.splitlines()
+            self.assertEqual(run.returncode != 0, ", 0 failed," not in self.lines[-1])
+            return self.lines[-1]
 
     def test_nothing_is_tried(self):
         self.assertEqual(self.said(EMPTY), "0 passed, 1 failed, 0 skipped")
@@ -73,41 +76,66 @@ class ChecksTest(unittest.TestCase):
         text = EMPTY.replace("pass", "def test_it(self): raise KeyError\n    def test_more(self): self.assertTrue(True)")
         self.assertEqual(self.said(text), "1 passed, 1 failed, 0 skipped")
 
+    def check_told(self, proofs=PROOFS, edits=EDITS, said=WELL, promised=(), last=""):
+        """The status of `check`, what it says and what it keeps, if its commands are these scripts, the first file of tests says this, and these
+        tests are promised."""
+        check, files = loaded(TOP / "check"), sorted(TOP.glob("tests/test_*.py"))
+        self.ran, room = [], tempfile.TemporaryDirectory()
+        self.addCleanup(room.cleanup)
+        kept, released = pathlib.Path(room.name, "out", "ran"), pathlib.Path(room.name, "last")
+        released.write_text(last)
+        scripts = {name: (sys.executable, "-c", it) for name, it in (("PROOFS", proofs), ("EDITS", f"import sys; told = sys.stdin.read(); {edits}"))}
+        tests = {"run_file": lambda it: self.ran.append(it) or (said if it == files[0] else WELL), "program": str, "library": str}
+        tests |= {"promises": lambda: [types.SimpleNamespace(promise="it holds", test=it) for it in promised], "RAN": kept, "LAST": released}
+        patched = unittest.mock.patch.multiple(check, kit=lambda: types.SimpleNamespace(Kept=None), **scripts, **tests)
+        with contextlib.redirect_stdout(io.StringIO()) as shown, unittest.mock.patch.dict("os.environ"), patched:
+            status = check.main()
+        self.assertEqual(sorted(self.ran), files)
+        return status, shown.getvalue().splitlines(), kept.read_text() if kept.exists() else None
+
     def test_check(self):
-        """`check` tries the core of the edits and runs all files of tests; whatever fails, ends early, has no count or is gone shows in its
-        status."""
-        check, well = loaded(TOP / "check"), "1 passed, 0 failed, 0 skipped\n"
-        files, (crates, edits) = sorted(TOP.glob("tests/test_*.py")), map(int, re.match(r"(\d+) crates, (\d+) edits", (TOP / "tests/ran").read_text()).groups())
+        """`check` tries the core of the edits and runs all files of tests; whatever fails, ends early or has no count shows in its status."""
+        check, files = loaded(TOP / "check"), [*TOP.glob("tests/test_*.py")]
         self.assertEqual(check.EDITS, ("checks/edits", "--core", "--beside"))
         self.assertLessEqual({*check.LONGEST}, {it.stem for it in files})
-        count, proofs, refused, ran = crates + edits + len(files), f"print('{crates} passed, 0 failed')", f"print('{edits} passed, 0 failed')", []
-
-        def told(proofs, edits, said=well):
-            """The status of `check` and its last line, if its commands are these scripts, and one file of tests says this."""
-            ran.clear()
-            scripts = {name: (sys.executable, "-c", it) for name, it in (("PROOFS", proofs), ("EDITS", f"import sys; told = sys.stdin.read(); {edits}"))}
-            tests = {"run_file": lambda it: ran.append(it) or (said if it == files[0] else well), "program": str, "library": str}
-            patched = unittest.mock.patch.multiple(check, kit=lambda: types.SimpleNamespace(Kept=None), **scripts, **tests)
-            with contextlib.redirect_stdout(io.StringIO()) as shown, unittest.mock.patch.dict("os.environ"), patched:
-                status = check.main()
-            return status, shown.getvalue().splitlines()[-1]
-
-        for of, call in ((crates, lambda it: told(it, refused)), (edits, lambda it: told(proofs, it))):
-            well_said = f"print('{of} passed, 0 failed')"
+        for what, well in (("proofs", PROOFS), ("edits", EDITS)):
+            count = 5 + len(files)
+            of = int(re.search(r"\d+", well)[0])
             for script, less, failed in (
-                (well_said, 0, 0), (f"{well_said}; exit(1)", 0, 1), ("", of, 2), (f"print('{of - 1} passed, 1 failed'); exit(1)", 1, 2), (f"print('{of - 1} passed, 0 failed')", 1, 1),
+                (well, 0, 0), (f"{well}; exit(1)", 0, 1), ("", of, 1), (f"print('{of - 1} passed, 1 failed'); exit(1)", 1, 1), (f"print('{of - 1} passed, 0 failed')", 1, 0),
             ):
-                with self.subTest(script):
-                    self.assertEqual(call(script), (failed != 0, f"{count - less} passed, {failed} failed"))
-                    self.assertEqual(sorted(ran), files)
-        for script, word in ((proofs, "proved"), (f"print('{crates} passed, 1 failed'); exit(1)", "failed")):
+                with self.subTest(script, what=what):
+                    status, shown, kept = self.check_told(**{what: script})
+                    self.assertEqual((status, shown[-1], kept is None), (failed != 0, f"{count - less} passed, {failed} failed", failed != 0))
+        for script, word in ((PROOFS, "proved"), ("print('3 passed, 1 failed'); exit(1)", "failed")):
             with self.subTest(f"the edits hear: {word}"):
-                self.assertEqual(told(script, f"exit(1) if told != '{word}' else {refused}")[1], f"{count} passed, {int(word == 'failed')} failed")
-        for said, less in (("1 passed, 1 failed, 0 skipped\n", 0), ("it was killed\n", 1), (f"README.md says: nothing of that\n{well}", 0), ("", 1)):
+                self.assertEqual(self.check_told(script, f"exit(1) if told != '{word}' else {EDITS}")[1][-1], f"{count} passed, {int(word == 'failed')} failed")
+        for said, less in (("1 passed, 1 failed, 0 skipped\n", 0), ("it was killed\n", 1), (f"README.md says: nothing of that\n{WELL}", 0), ("", 1)):
             with self.subTest(said):
-                # (a file that doesn't come to its end fails, and is one less that ran)
-                self.assertEqual(told(proofs, refused, said), (True, f"{count - less} passed, {1 + less} failed"))
-                self.assertEqual(sorted(ran), files)
+                # (a file that doesn't come to its end has no count, and fails)
+                self.assertEqual(self.check_told(said=said)[1][-1], f"{count - less} passed, 1 failed")
+
+    def test_vanished(self):
+        """A test that is promised and neither ran nor was left out is named, and fails; a number that became smaller is shown, and doesn't."""
+        crate_test = sorted(promises.tests_of_crates())[0]
+        said = "1 tests ran: test_one\n1 tests were left out: test_two\n1 passed, 0 failed, 0 skipped\n"
+        first = sorted(TOP.glob("tests/test_*.py"))[0].stem
+        for test, is_there in ((f"{first}.test_one", True), (f"{first}.test_two", True), (f"{first}.test_three", False), (crate_test, True), ("age_tests.gone", False), ("-", True)):
+            with self.subTest(test):
+                status, shown, _ = self.check_told(said=said, promised=[test])
+                self.assertEqual((status, f"checks/promises: it holds: {test} neither ran nor was left out" in shown), (not is_there, not is_there))
+        status, shown, kept = self.check_told(said=said, last=f"# head\ncrates 3\nedits of the core 9\n{first} 10\ntest_gone 4\n")
+        self.assertFalse(status)
+        told = {" ".join(it.split()) for it in shown}
+        self.assertLessEqual({"crates 3 3", "edits of the core 2 9 fewer", f"{first} 1 10 fewer", "test_gone 0 4 fewer", "test_checks 1 -"}, told)
+        self.assertIn(f"crates 3\nedits of the core 2\n{first} 1\n", kept)
+
+    def test_names_of_tests(self):
+        """Which tests of a file ran, and which were left out for want of what tests/optional lists."""
+        text = EMPTY.replace("pass", "\n    ".join(("def test_it(self): self.assertTrue(True)", "def test_wrong(self): self.assertTrue(False)", "def test_none(self): pass", *(
+            f"@unittest.skip('needs {needed}')\n    def test_{needed}(self): pass" for needed in ("go", "cc")))))
+        self.said(text)
+        self.assertEqual(self.lines[-3:-1], ["2 tests ran: test_it test_wrong", "1 tests were left out: test_go"])
 
     def test_interrupt(self):
         """Whatever ends `check` early ends what it started."""

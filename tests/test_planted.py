@@ -37,6 +37,11 @@ PLANTED = {
         ("crates/age_kdf/edits/all.edit", "old: ", "old: nothing of ", "an old text isn't in its file exactly once"),
         ("checks/promises", "age_kdf lib::hmac |", "age_kdf lib::hmac3 |", "checks/promises: HMAC is RFC 2104's: no age_kdf lib::hmac3"),
         ("checks/promises", "age_kdf/pads-swapped", "age_kdf/pads-kept", "no age_kdf/pads-kept"),
+        ("tests/test_engines.py", "def test_resumed", "def test_resumes", "a resumption goes on only with its file and text: no test test_engines.test_resumed"),
+        ("tests/runs.d/drill.run", "case bad_lines", "case worse_lines", "each with a status and a count: no test test_runs.test_drill_bad_lines"),
+        ("checks/promises", "Derivation.hkdf32 | age_kdf/info-without-the-counter | test_engines.test_written", "Derivation.hkdf32 | age_kdf/info-without-the-counter | -", "HKDF is RFC 5869's: no test -"),
+        ("crates/age_scrypt/edits/all.edit", "core uncounted-step", "edit uncounted-step", "age_scrypt/uncounted-step is listed, and not of the core"),
+        ("checks/promises", " romix-without-look-ups", "", "age_scrypt/romix-without-look-ups is of the core, and not listed"),
         ("course/solution.patch", " pub fn hkdf32(", " pub fn hkdf64(", "course/solution.patch: crates/age_kdf/src/lib.rt isn't what it changes"),
     ),
     "trusted": (
