@@ -215,7 +215,7 @@ check.main()"""
 
     def test_unnoted_calls(self):
         """A call that changes files is found if it stands where no machine notes it."""
-        check = loaded(TOP / "checks/trusted")
+        check = loaded(TOP / "checks/noted")
         spoiling = ("let _ = File::create(rt, path);", "file.set_len(0)?;", "fs::rename(rt, one, other)?;", "calls::remove(rt, path)?;")
         spoiling += ("use age_machine::calls::{cut, close};", "use age_machine::calls as harmless;", "let _ = open_to_write(rt, name, 0o600);")
         spoiling += ("use std::io::{self, Write};", "io::Write::write(&mut file, b\"x\")?;", "use std::io::prelude::*;", "Writing::new(file).put(b\"x\")?;")

@@ -1,5 +1,5 @@
-"""Plants faults in a copy of the repository, at least one for each part of checks/documents, checks/trusted and checks/unused, and looks whether
-that check names each of them. None of it needs the program."""
+"""Plants faults in a copy of the repository, at least one for each part of checks/documents, checks/trusted, checks/noted and checks/unused, and looks
+whether that check names each of them. None of it needs the program."""
 import os
 import shutil
 import subprocess
@@ -45,9 +45,15 @@ PLANTED = {
         ("course/solution.patch", " pub fn hkdf32(", " pub fn hkdf64(", "course/solution.patch: crates/age_kdf/src/lib.rt isn't what it changes"),
     ),
     "trusted": (
-        ("crates/age_disk/src/files.rt", None, "\nfn spoil() {\n    let _ = std::fs::remove_file(rt, name);\n}\n", "age_disk/src/files.rt: fs::remove_file may stand in"),
         ("crates/age_kdf/specs/Derivation.antt", None, "\nabbrev pub idle : ℕ → ℕ\nidle n = n\n", "age_kdf/specs/Derivation: idle is reached by no public contract"),
         ("crates/age_calls/specs/Outs.antt", "-- (in any order: no call gives a lock back)\n", "", "age_calls/specs/Outs: line 79: no comment says why the order"),
+    ),
+    "noted": (
+        ("crates/age_disk/src/files.rt", None, "\nfn spoil() {\n    let _ = std::fs::remove_file(rt, name);\n}\n", "age_disk/src/files.rt: fs::remove_file: it may not change files"),
+        ("crates/age_machine/src/waiting.rt", "sync_whole", "sync_all_of_it", "checks/noted: age_machine/src/waiting.rt doesn't call sync_whole"),
+        ("checks/noted", '"fs", "File", ', '"fs", "File", "Gone", ', "checks/noted: nothing imports Gone of files"),
+        ("checks/noted", '"faults"', '"flaws"', "checks/noted: nothing matches"),
+        ("checks/noted", '"age_examples"', '"age_samples"', "checks/noted: no crate age_samples"),
     ),
     "unused": (
         ("crates/age_kdf/specs/Derivation.antt", None, "", "age_kdf/specs/Derivation.antt: nothing uses idle"),

@@ -1,7 +1,7 @@
 """The sources of the workspace, read once: each file's definitions with their lines, its imports, and what it cites.
 
-checks/trusted, checks/unused and checks/documents ask different questions about the same files. What a definition, an
-import and a public contract are is said here alone, so that the three agree on it.
+checks/trusted, checks/noted, checks/unused and checks/documents ask different questions about the same files. What a definition, an
+import and a public contract are is said here alone, so that they agree on it.
 """
 import collections
 import functools
