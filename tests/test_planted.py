@@ -26,6 +26,7 @@ PLANTED = {
         ("docs/LIBRARY.md", "```rust\n", "```rust\nlet nothing = 1;\n", "docs/LIBRARY.md: not in the examples: let nothing = 1;"),
         ("docs/TOUR.md", "age_stream/src/opener.rt", "age_stream/src/closer.rt", "docs/TOUR.md: no file age_stream/src/closer.rt"),
         ("docs/FAULTS.md", "| 17 | ChunkDamaged", "| 17 | ChunkHarmed", "docs/FAULTS.md: other faults"),
+        ("docs/FAULTS.md", "| 31 | ", "| 32 | Nothing | | | |\n| 31 | ", "docs/FAULTS.md: no sentences in the code: [17, 32]"),
         ("docs/FAULTS.md", None, "", "crates/age_hints/src/faults.rt: stale; run checks/documents --write"),
         ("docs/FORMAT.md", None, "\n| Edit | Test |\n|---|---|\n| `no-such-edit` | `test_nothing` |\n", "docs/FORMAT.md: no edit no-such-edit"),
         ("docs/FORMAT.md", None, "", "docs/FORMAT.md: no test test_nothing"),
