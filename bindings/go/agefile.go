@@ -165,7 +165,8 @@ func lengthRule(name string, bytes []byte, want int) rule {
 	return rule{len(bytes) == want, fmt.Sprintf("%s must have %d bytes", name, want)}
 }
 
-// A Key opens the header of a file.
+// A Key opens the header of a file. It holds copies of what it was made of, which the caller may
+// overwrite.
 type Key struct {
 	open  func(front []byte, reader *C.age_c_reader) C.uint32_t
 	rules []rule // for its arguments
@@ -176,17 +177,19 @@ type Key struct {
 // 4 GiB of memory.
 func Passphrase(passphrase []byte, maxWork int) Key {
 	rules := []rule{passphraseRule(passphrase), workRule("maxWork", maxWork)}
+	held := copyOf(passphrase)
 	return Key{rules: rules, open: func(front []byte, reader *C.age_c_reader) C.uint32_t {
-		return C.age_c_open_passphrase(place(front), length(front), place(passphrase),
-			length(passphrase), work(maxWork), reader)
+		return C.age_c_open_passphrase(place(front), length(front), place(held), length(held),
+			work(maxWork), reader)
 	}}
 }
 
 // FileKey is the file key, 16 bytes.
 func FileKey(key []byte) Key {
 	rules := []rule{lengthRule("the file key", key, 16)}
+	held := copyOf(key)
 	return Key{byKey: true, rules: rules, open: func(front []byte, reader *C.age_c_reader) C.uint32_t {
-		return C.age_c_open_key(place(front), length(front), place(key), length(key), reader)
+		return C.age_c_open_key(place(front), length(front), place(held), length(held), reader)
 	}}
 }
 
@@ -196,6 +199,7 @@ func FileKey(key []byte) Key {
 // ("Files for an X25519 key").
 func SharedSecret(secret, recipient []byte) Key {
 	rules := []rule{lengthRule("secret", secret, 32), lengthRule("recipient", recipient, 32)}
+	secret, recipient = copyOf(secret), copyOf(recipient)
 	return Key{rules: rules, open: func(front []byte, reader *C.age_c_reader) C.uint32_t {
 		return openShared(front, secret, recipient, reader)
 	}}
@@ -208,6 +212,8 @@ func work(factor int) C.uint32_t {
 	}
 	return C.uint32_t(factor)
 }
+
+func copyOf(bytes []byte) []byte { return append([]byte(nil), bytes...) }
 
 // place is where bytes are, if there are any.
 func place(bytes []byte) *C.uint8_t {

@@ -603,6 +603,56 @@ func TestKeysAreOverwritten(t *testing.T) {
 	}
 }
 
+// A Key opens what it was made to open, though the caller overwrites what it was made of.
+func TestKeysAreCopies(t *testing.T) {
+	zero := func(parts ...[]byte) {
+		for _, it := range parts {
+			copy(it, make([]byte, len(it)))
+		}
+	}
+	data := sealed([]byte("text"))
+	passphrase, fileKey := []byte("pw"), make([]byte, 16)
+	for i, it := range open(bytes.NewReader(data)).reader.file_key {
+		fileKey[i] = byte(it)
+	}
+	for _, key := range []Key{Passphrase(passphrase, MaxWork), FileKey(fileKey)} {
+		zero(passphrase, fileKey)
+		reads(t, bytes.NewReader(data), key, "text")
+	}
+	one := ofAge(t, "one.age")
+	secret, _ := hex.DecodeString("a63e711bbe766ac02492dac2ddac009640a5dec3407e1d76637592c111245643")
+	recipient, _ := hex.DecodeString("ebaa24287c1e692527056fc5ea4806639e8c56c9257e953b6dc556e8be34d20f")
+	_, identities := keysOf(t, "key.txt")
+	for _, key := range []Key{SharedSecret(secret, recipient), X25519(exchange, identities...)} {
+		zero(secret, recipient)
+		identities[0] = Identity{}
+		reads(t, bytes.NewReader(one), key, "hello, recipient\n")
+	}
+}
+
+// A copy of a Writer is refused, and holds no key after Abandon; the Writer goes on.
+func TestCopiedWriter(t *testing.T) {
+	text := textOf(100_000)
+	for i, call := range []func(w *Writer) error{
+		func(w *Writer) error { return second(w.Write(text)) }, (*Writer).Close,
+		func(w *Writer) error { w.Abandon(); return w.Close() },
+	} {
+		var out bytes.Buffer
+		w := created(&out)
+		must(w.Write(text[:1000]))
+		size, other := out.Len(), *w
+		if err := call(&other); err != errCopied || out.Len() != size {
+			t.Error(i, err, out.Len(), size)
+		}
+		if other.Abandon(); other.stream != (Writer{}).stream {
+			t.Error("a copy's key is left")
+		}
+		must(w.Write(text[1000:]))
+		well(w.Close())
+		reads(t, &out, pw(), string(text))
+	}
+}
+
 // A size that isn't the file's, as a stale listing gives it, never makes a text of another length.
 func TestWrongSizes(t *testing.T) {
 	for _, n := range lengths {
@@ -720,7 +770,7 @@ func TestSalvage(t *testing.T) {
 				}
 			}
 			if turn == 1<<chunks-1 {
-				want = nil // nothing opens
+				want, lost = nil, nil // nothing opens
 			}
 			var out bytes.Buffer
 			found, err := Salvage(&out, iotest.HalfReader(bytes.NewReader(file)), pw())

@@ -16,7 +16,7 @@ type Range struct{ First, After int64 }
 // A Salvaged says what Salvage wrote.
 type Salvaged struct {
 	Size     int64   // of the text that was written
-	Lost     []Range // what is zeros in it
+	Lost     []Range // what is zeros in it; none if no chunk opens
 	Ends     bool    // whether the last chunk opened: else the text may have been longer
 	Followed bool    // whether something was appended to the file, which is left out
 }
@@ -71,10 +71,12 @@ func (s *salvager) run() (*Salvaged, error) {
 			s.lose(at)
 		}
 	}
-	if opens {
-		if err := s.put(s.size, nil); err != nil {
-			return nil, err
-		}
+	if !opens { // nothing is written
+		s.found.Lost = nil
+		return &s.found, nil
+	}
+	if err := s.put(s.size, nil); err != nil {
+		return nil, err
 	}
 	if s.found.Ends && have == C.AGE_C_BLOCK {
 		n, err := readSome(s.from.file, s.from.block[:1])

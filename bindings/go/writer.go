@@ -20,7 +20,11 @@ import (
 // Close.
 //
 // Short writes are held and sealed together, so the writer below may fail in a later call.
+//
+// A copy of a Writer isn't one: each of its calls fails. Two with one key would show their
+// plaintexts to whoever has both files.
 type Writer struct {
+	self   *Writer // which a copy isn't
 	out    io.Writer
 	stream C.age_c_write_stream
 	held   []byte // short writes that the stream hasn't got yet
@@ -33,6 +37,8 @@ type Writer struct {
 const gathered = 16_384
 
 var errClosed = errors.New("agefile: the file is closed")
+
+var errCopied = errors.New("agefile: the Writer is a copy of another one")
 
 var errPanic = errors.New("agefile: a Write of the writer below didn't return")
 
@@ -72,6 +78,7 @@ func begin(out io.Writer, key []byte, size int, front []byte, rules []rule,
 		return nil, errProcessor
 	}
 	w := &Writer{out: out, held: make([]byte, 0, gathered), block: make([]byte, C.AGE_C_BLOCK)}
+	w.self = w
 	random := make([]byte, size)
 	if _, err := rand.Read(random); err != nil {
 		return nil, err
@@ -97,6 +104,17 @@ func (w *Writer) GoString() string { return w.String() }
 // Format hides the key and the plaintext in every verb.
 func (w *Writer) Format(state fmt.State, _ rune) { io.WriteString(state, w.String()) }
 
+// own refuses a Writer that Create didn't return: its zero value, or a copy.
+func (w *Writer) own() error {
+	if w.out == nil {
+		return errNotOpen
+	}
+	if w.self != w {
+		return errCopied
+	}
+	return nil
+}
+
 // put passes on bytes.
 func (w *Writer) put(sealed []byte) error {
 	w.err = errPanic // unless that Write returns: without these bytes the file can't be finished
@@ -118,8 +136,8 @@ func (w *Writer) wrote(answer C.uint32_t, written C.size_t) error {
 
 // Write implements io.Writer. After an error the file can't be finished.
 func (w *Writer) Write(text []byte) (int, error) {
-	if w.out == nil {
-		return 0, errNotOpen
+	if err := w.own(); err != nil {
+		return 0, err
 	}
 	if w.err != nil {
 		return 0, w.err
@@ -160,8 +178,8 @@ func (w *Writer) feed(text []byte) (int, error) {
 // Close seals the last chunk, so that the file is complete, even if plaintext is missing: if the
 // source of the plaintext failed, call Abandon first. It doesn't close the writer below.
 func (w *Writer) Close() error {
-	if w.out == nil {
-		return errNotOpen
+	if err := w.own(); err != nil {
+		return err
 	}
 	if w.err != nil {
 		w.wipe()
@@ -183,6 +201,10 @@ func (w *Writer) Close() error {
 // Abandon leaves the file without its last chunk: every reader refuses it. After Close it does
 // nothing.
 func (w *Writer) Abandon() {
+	if w.own() != nil { // the short writes are another Writer's
+		w.stream = C.age_c_write_stream{}
+		return
+	}
 	if w.err == nil {
 		w.err = errClosed
 	}

@@ -129,6 +129,7 @@ func X25519(exchange Exchange, identities ...Identity) Key {
 	if exchange == nil {
 		return Key{}
 	}
+	held := append([]Identity(nil), identities...)
 	return Key{open: func(front []byte, reader *C.age_c_reader) C.uint32_t {
 		// (a pair that opens nothing, by which the library says what is wrong with the header: it is
 		// random, so that nobody could have made a stanza that it opens)
@@ -145,7 +146,7 @@ func X25519(exchange Exchange, identities ...Identity) Key {
 			return answer
 		}
 		tries := MaxTries
-		for _, it := range identities {
+		for _, it := range held {
 			if answer := it.try(exchange, &header, front, reader, &tries); answer != NumberWrongKey {
 				return answer
 			}

@@ -20,7 +20,7 @@ const LAST_SEEN: u32 = 2;
 pub struct Salvaged {
     /// The length of the plaintext that was written.
     pub size: u64,
-    /// The parts of it that are zeros, since their chunks didn't open.
+    /// The parts of it that are zeros, since their chunks didn't open: none if no chunk did.
     pub lost: Vec<Range<u64>>,
     /// Whether the last chunk opened: otherwise the plaintext may have been longer.
     pub ends: bool,
@@ -98,6 +98,8 @@ pub fn salvage<R: Read, W: Write>(mut file: R, key: Key, out: W) -> io::Result<S
     if opens {
         out.put(size, &[])?;
         found.size = size;
+    } else {
+        found.lost.clear();
     }
     if found.ends && have == AGE_C_BLOCK {
         let mut more = 0;

@@ -591,6 +591,7 @@ fn salvages_what_opens() {
             }
             if damage == (1 << chunks) - 1 {
                 want.clear();
+                lost.clear();
             }
             let mut out = Vec::new();
             let found = salvage(&file[..], PW, &mut out).unwrap();
