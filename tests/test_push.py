@@ -1,5 +1,6 @@
 """Tries what decrypts and encrypts bytes that come by themselves, in Python: the same faults and text as a reader finds, whatever the pieces
 are; calls after a fault, an interruption, a fork; two threads on one object; and the handler in bindings/README.md."""
+import contextlib
 import copy
 import io
 import os
@@ -113,7 +114,7 @@ class PushTest(BindingsCase):
         self.see("no bytes of it", raised(TypeError, agefile.Decryptor(passphrase="pw").update, "text"))
         endless = agefile.Decryptor(passphrase="pw")
         endless.update(b"age-encryption.org/v1\n")
-        self.see("a header without an end", raised(agefile.Damaged, lambda: [endless.update(b"-> x\n" * 20_000) for _ in range(40)]))
+        self.see("a header without an end", raised(agefile.NotWhole, lambda: [endless.update(b"-> x\n" * 20_000) for _ in range(40)]))
 
     def test_encryptor(self):
         for length in LENGTHS:
@@ -141,7 +142,7 @@ class PushTest(BindingsCase):
             begun = it.update(data[:end])
             state, held = it._state, (it._room.block.held, it._room.text.held)
             self.see(f"after {what}: what is held before", begun == text[:65_536 * (end > 70_000)] and any(bytes(state)) == (end > 100))
-            with it as same:
+            with contextlib.suppress(ValueError), it as same:
                 pass
             self.see(f"after {what}: what is left", same is it and not any(bytes(state)) and not any(map(any, held)))
             self.see(f"after {what}: later calls", raised(ValueError, it.update, data[end:]) and raised(ValueError, it.finish))
@@ -149,7 +150,7 @@ class PushTest(BindingsCase):
         with agefile.Decryptor(passphrase="pw") as it:
             whole = it.update(data) + it.finish()
         self.see("a file that was decrypted to its end", whole == text and raised(ValueError, it.finish))
-        with agefile.Encryptor(passphrase="pw", work=1) as it:
+        with contextlib.suppress(ValueError), agefile.Encryptor(passphrase="pw", work=1) as it:
             made = it.update(text)
             stream = it._writer._stream
             self.see("a writer's key is held", any(bytes(stream.writer)))
@@ -158,6 +159,53 @@ class PushTest(BindingsCase):
         with agefile.Encryptor(passphrase="pw", work=1) as it:
             made = it.update(text) + it.finish()
         self.see("a file that was finished", agefile.decrypt(made, passphrase="pw") == text)
+
+    def left(self, it, *calls):
+        """What a `with` block raises in which these calls are made, whose own exceptions it keeps."""
+        try:
+            with it:
+                for call, *words in calls:
+                    with contextlib.suppress(Exception):
+                        getattr(it, call)(*words)
+        except Exception as fault:
+            return fault
+        return None
+
+    def test_unfinished(self):
+        """A `with` block that ends without finish() raises, unless something else did, or close() was called."""
+        text = plain_of(200_000)
+        data = sealed(text)
+        damaged = bytearray(data)
+        damaged[len(data) - 100_000] ^= 1
+        for what, kind, calls in (
+            ("nothing", ValueError, []), ("no bytes", ValueError, [("update", b"")]), ("a part of the header", ValueError, [("update", data[:50])]),
+            ("a truncated file", ValueError, [("update", data[:-1])]), ("all of it", ValueError, [("update", data)]), ("what is no bytes", ValueError, [("update", "text")]),
+            ("a damaged chunk after others", agefile.NotWhole, [("update", damaged)]), ("the fault of it", None, [("update", damaged), ("finish",)]),
+            ("another file", None, [("update", b"text\n")]), ("the end", None, [("update", data), ("finish",)]), ("no end", None, [("update", data[:-1]), ("finish",)]),
+            ("close", None, [("update", data[:100]), ("close",)]),
+        ):
+            it = agefile.Decryptor(passphrase="pw")
+            fault = self.left(it, *calls)
+            is_right = fault is None if kind is None else type(fault) is kind and ("finish()" in str(fault)) == (kind is ValueError)
+            self.see(f"Decryptor: {what}", is_right and not any(bytes(it._state)), repr(fault))
+        for what, kind, calls in (
+            ("nothing", ValueError, []), ("a text", ValueError, [("update", text)]), ("what is no bytes", ValueError, [("update", "text")]),
+            ("the end", None, [("update", text), ("finish",)]), ("close", None, [("update", text), ("close",)]),
+        ):
+            it = agefile.Encryptor(passphrase="pw", work=1)
+            fault = self.left(it, *calls)
+            self.see(f"Encryptor: {what}", fault is None if kind is None else type(fault) is kind and "finish()" in str(fault), repr(fault))
+            self.see(f"Encryptor: {what}: what is left", it._writer._stream is None)
+        for made in (lambda: agefile.Decryptor(passphrase="pw"), lambda: agefile.Encryptor(passphrase="pw", work=1)):
+            try:
+                with made() as it:
+                    it.update(b"")
+                    raise KeyError("another")
+            except BaseException as fault:
+                self.see(f"{type(it).__name__}: another exception", type(fault) is KeyError and fault.__context__ is None, repr(fault))
+        it = agefile.Encryptor(passphrase="pw", work=1)
+        it._out.write = lambda _: 1 / 0
+        self.see("a call that failed", self.left(it, ("update", text)) is None)
 
     def test_interrupted(self):
         """An exception at each place where Python runs a signal's handler, and the same call again: it is refused, or the result is right."""

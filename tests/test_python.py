@@ -4,6 +4,7 @@ import contextlib
 import errno
 import gzip
 import io
+import itertools
 import mmap
 import os
 import pickle
@@ -128,6 +129,12 @@ def paired(data):
         yield file
 
 
+def pushed(data, **key):
+    """The text of a file by a Decryptor."""
+    with agefile.Decryptor(**key) as it:
+        return it.update(data) + it.finish()
+
+
 class PythonTest(BindingsCase):
     """What a program in Python can rely on."""
 
@@ -249,16 +256,22 @@ class PythonTest(BindingsCase):
             ("no payload", data[:payload], {"file_key": KEY}, agefile.Truncated, 20),
             ("a missing chunk", data[:payload + BLOCK], {"file_key": KEY}, agefile.Truncated, 20),
             ("a cut chunk", data[:payload + BLOCK + 9], {"file_key": KEY}, agefile.Truncated, 18),
-            ("a changed byte", flipped, {"file_key": KEY}, agefile.Damaged, 17),
-            ("bytes after the end", self.sealed(bytes(CHUNK)) + b"0", {"file_key": KEY}, agefile.Damaged, 21),
+            ("a changed byte", flipped, {"file_key": KEY}, agefile.NotWhole, 17),
+            ("bytes after the end", self.sealed(bytes(CHUNK)) + b"0", {"file_key": KEY}, agefile.NotWhole, 21),
             ("a changed header", data.replace(b"\n-> scrypt", b"\n-> scrYpt"), {"passphrase": "pw"}, other, 12),
-            ("no age file", b"x\n", {"passphrase": "pw"}, agefile.AgeError, 1),
+            ("no age file", b"x\n", {"passphrase": "pw"}, agefile.NotWhole, 1),
+            ("a low limit", self.sealed(b"").replace(b" 1\n", b" 3\n", 1), {"passphrase": "pw", "max_work": 2}, agefile.WorkTooHigh, 11),
         ):
             fault = fault_of(lambda: agefile.open(io.BytesIO(given), **keys).read())
             self.see(what, type(fault) is kind and fault.number == number, fault)
         fault = pickle.loads(pickle.dumps(agefile._library.fault_of(17, 3)))
-        self.see("a pickled fault", (type(fault), fault.args) == (agefile.Damaged, (17, 3)), fault)
+        self.see("a pickled fault", (type(fault), fault.args) == (agefile.NotWhole, (17, 3)), fault)
         self.see("a fault is an OSError", not issubclass(agefile.AgeError, OSError))
+        kinds = {11: agefile.WorkTooHigh, 12: other, 13: other, 28: agefile.OutOfMemory, **dict.fromkeys((8, 16, 18, 20, 254), agefile.Truncated)}
+        for number in (*range(1, 23), 28, 254):
+            kind = type(agefile._library.fault_of(number))
+            self.see(f"the kind of fault {number}", kind is kinds.get(number, agefile.NotWhole), kind)
+        self.see("a truncated file isn't whole", issubclass(agefile.Truncated, agefile.NotWhole))
         for fault, told in (
             (agefile.WrongKey(13), "the passphrase or key doesn't open the file (13 WrongKey)"), (agefile.Truncated(20, 2), "the file was cut (20 Truncated chunk 2)"),
         ):
@@ -268,6 +281,33 @@ class PythonTest(BindingsCase):
             fault = agefile.AgeError(number)
             meaning, _, rest = str(fault).partition(" (")
             self.see(f"what is said of fault {number}: {fault}", "read" not in meaning and rest == f"{number} {fault.name})" and fault.name != "Unknown")
+
+    def test_changed_bits(self):
+        """One changed bit, at each place of a file: the key isn't its own, or it isn't whole, or its work factor is too high."""
+        text = b"ten bytes."
+        data = self.sealed(text)
+        work, mac = data.index(b" 1\n") + 1, data.index(b"\n--- ") + 1
+        ways = {
+            "read": lambda given, **key: agefile.open(io.BytesIO(given), **key).read(),
+            "read at any place": lambda given, **key: self.at_any_place(io.BytesIO(given), **key).read(),
+            "decrypt": agefile.decrypt, "Decryptor": pushed,
+        }
+
+        def is_right(fault, place, by_key):
+            if getattr(fault, "number", None) == 14:
+                return isinstance(fault, agefile.WrongKey if by_key else agefile.NotWhole)
+            of_header = place < (mac + 48 if by_key else mac)
+            kinds = (agefile.NotWhole, *[agefile.WrongKey] * of_header, *[agefile.WorkTooHigh] * (place == work and not by_key))
+            return isinstance(fault, kinds)
+
+        places = list(itertools.product(range(len(data)), range(8)))
+        for key, (what, way) in itertools.product(({"passphrase": "pw", "max_work": 4}, {"file_key": KEY}), ways.items()):
+            found = [(place, bit, fault_of(way, flipped(data, place, 1 << bit), **key)) for place, bit in places]
+            wrong = [it for it in found if not is_right(it[2], it[0], "file_key" in key)]
+            self.see(f"{len(found)} bits, {what} by {[*key]}", wrong == [] and len(found) == 1_528, wrong[:5])
+            self.see(f"none of them, {what} by {[*key]}", way(data, **key) == text)
+        high = [bit for bit in range(8) if isinstance(fault_of(agefile.decrypt, flipped(data, work, 1 << bit), passphrase="pw", max_work=4), agefile.WorkTooHigh)]
+        self.see("work factors 5 and 9, of 1", high == [2, 3], high)
 
     def test_early_answers(self):
         """A header that is there is answered, though its sender sends nothing more and doesn't close."""
@@ -350,7 +390,7 @@ class PythonTest(BindingsCase):
         data = self.path("made.age").read_bytes()
         self.see("-m agefile encrypt: age_tool doesn't read it", self.judged(data) == ((0, None), text))
         run = self.command("decrypt", "--pass", "pw", "-", "-", given=data[:-1])
-        said = f"agefile: standard input: {agefile.Damaged(17, 2)}\nagefile: OUT has the first {2 * CHUNK} bytes of the text\n".encode()
+        said = f"agefile: standard input: {agefile.NotWhole(17, 2)}\nagefile: OUT has the first {2 * CHUNK} bytes of the text\n".encode()
         self.see("-m agefile", (run.returncode, run.stdout, run.stderr) == (1, text[:2 * CHUNK], said), run.stderr)
         self.write("first.age", flipped(data, -len(text) - 3 * 16))
         run = self.command("decrypt", "--pass", "pw", "first.age", "back")
@@ -448,7 +488,7 @@ class PythonTest(BindingsCase):
                     if after > first:
                         lost[-1:] = [(lost[-1][0], after)] if lost and lost[-1][1] == first else [*lost[-1:], (first, after)]
                 ends = chunks - 1 not in bad
-                wanted = (bytes(want) if len(bad) < chunks else b"", lost, ends, False)
+                wanted = (bytes(want), lost, ends, False) if len(bad) < chunks else (b"", [], False, False)
                 for what, under in (("a file", io.BytesIO(held)), ("a pipe", Pieces(bytes(held), 5_000))):
                     got = self.saved(under)
                     self.see(f"{what} of {length} bytes, chunks {bad} damaged", got == wanted, got[1:], wanted[1:])
@@ -457,7 +497,7 @@ class PythonTest(BindingsCase):
         begin = len(data) - 200_000 - 4 * 16
         for end in (begin, begin + 1, begin + 16, begin + 17, begin + BLOCK - 1, begin + BLOCK, begin + BLOCK + 10, begin + 2 * BLOCK, len(data) - 1):
             whole, rest = divmod(end - begin, BLOCK)
-            lost = [(whole * CHUNK, whole * CHUNK + rest - 16)] if rest > 16 else []
+            lost = [(whole * CHUNK, whole * CHUNK + rest - 16)] if whole and rest > 16 else []
             want = text[:whole * CHUNK] + bytes(sum(after - first for first, after in lost)) if whole else b""
             got = self.saved(data[:end])
             self.see(f"a file that is cut at {end - begin}", got == (want, lost, False, False), got[1:], lost)
@@ -476,7 +516,7 @@ class PythonTest(BindingsCase):
                 return super().readinto(room)
 
         altered = flipped(data, data.index(b"\n--- ") + 9)
-        for given, keys, kind in ((data, {"file_key": bytes(16)}, agefile.WrongKey), (altered, {"passphrase": "pw"}, agefile.Damaged)):
+        for given, keys, kind in ((data, {"file_key": bytes(16)}, agefile.WrongKey), (altered, {"passphrase": "pw"}, agefile.NotWhole)):
             fault = fault_of(self.saved, given, **keys)
             self.see(f"a MAC that doesn't fit, {keys}", (type(fault), fault.number) == (kind, 14), repr(fault))
         want, rotten = text[:CHUNK] + bytes(CHUNK) + text[2 * CHUNK:], Rotten(data)
@@ -495,6 +535,16 @@ class PythonTest(BindingsCase):
         for out in (path, linked, str(path)):
             refused = raised(ValueError, agefile.salvage, path, out, file_key=KEY)
             self.see(f"a file that is saved into itself, {type(out).__name__}", refused and path.stat().st_size == len(data))
+        held = path.read_bytes()
+        with open(path, "rb") as file, open(linked, "r+b") as other, open(path, "ab", buffering=0) as end, open(path, "r+b") as both:
+            in_memory = io.BytesIO(held)
+            for what, one, out in (
+                ("two file objects", file, other), ("one that appends", file, end), ("one file object", both, both), ("a path and a file object", path, other),
+                ("a file object and a descriptor's path", file, f"/dev/fd/{other.fileno()}"), ("one file object in memory", in_memory, in_memory),
+            ):
+                self.see(f"what is saved into itself: {what}", raised(ValueError, agefile.salvage, one, out, file_key=KEY))
+                self.see(f"it stays: {what}", path.read_bytes() == in_memory.getvalue() == held)
+                file.seek(0), both.seek(0), in_memory.seek(0)
 
         class Sink:
             """Takes all, and says something else."""
@@ -665,7 +715,7 @@ class PythonTest(BindingsCase):
             data = agefile.encrypt(text, passphrase="pw", work=1)
             self.see(f"encrypt, {length} bytes", self.judged(data) == ((0, None), text))
             self.see(f"decrypt, {length} bytes", agefile.decrypt(self.sealed(text), file_key=KEY) == text)
-        self.see("decrypt a damaged file", isinstance(fault_of(agefile.decrypt, flipped(data, -1), passphrase="pw"), agefile.Damaged))
+        self.see("decrypt a damaged file", isinstance(fault_of(agefile.decrypt, flipped(data, -1), passphrase="pw"), agefile.NotWhole))
 
     def test_inspect(self):
         """What a file says of itself, as age_tool inspect says it; a file object stands where it stood."""
@@ -723,8 +773,8 @@ class PythonTest(BindingsCase):
             self.see("a reader's name", (str(file.name), file.mode, file.size) == (str(path), "rb", 4) and isinstance(file, io.BufferedIOBase))
             self.see("a reader is no io.BufferedReader", not isinstance(file, io.BufferedReader))
 
-    def at_any_place(self, file):
-        return agefile.open(file, file_key=KEY, random_access=True)
+    def at_any_place(self, file, **key):
+        return agefile.open(file, **(key or {"file_key": KEY}), random_access=True)
 
     def test_any_place(self):
         """A file that is read at any place is as io.BytesIO is, but that a place after the end is the end."""
@@ -783,14 +833,14 @@ class PythonTest(BindingsCase):
                 fault = got = None
                 try:
                     got = file.read(10)
-                except agefile.Damaged as it:
+                except agefile.NotWhole as it:
                     fault = (it.number, it.place)
                 self.see(f"damage, at {place}", (got, fault) == ((None, (17, 1)) if wrong else (text[place:place + 10], None)), got, fault)
             file.seek(CHUNK)
-            self.see("a fault that is asked for again", [type(fault_of(file.read, 1)) for _ in range(2)] == [agefile.Damaged] * 2)
+            self.see("a fault that is asked for again", [type(fault_of(file.read, 1)) for _ in range(2)] == [agefile.NotWhole] * 2)
         for end in [*range(begin, len(data), 4_099), len(data) - 1, begin + BLOCK, begin + 2 * BLOCK, begin + 3 * BLOCK + 16]:
             fault = fault_of(self.at_any_place, io.BytesIO(data[:end]))
-            self.see(f"a file cut at {end} is opened at any place", isinstance(fault, (agefile.Truncated, agefile.Damaged)), fault)
+            self.see(f"a file cut at {end} is opened at any place", isinstance(fault, agefile.NotWhole), fault)
         for what, more in (("a byte", b"0"), ("a block", data[begin:begin + BLOCK])):
             for size in (200_000, 131_072):
                 fault = fault_of(self.at_any_place, io.BytesIO(self.sealed(text[:size]) + more))

@@ -534,7 +534,7 @@ class PythonFilesTest(BindingsCase):
                     while piece := file.read1(size):
                         got += piece
                     self.see("a damaged chunk is read", False)
-                except agefile.Damaged as fault:
+                except agefile.NotWhole as fault:
                     self.see(f"before a damaged chunk, by {size}", (fault.place, got) == (3, text[:3 * 65_536]), fault, len(got))
 
     def test_seeks(self):
@@ -702,7 +702,7 @@ class PythonFilesTest(BindingsCase):
                 with slow(data, 30_000, buffering) as under:
                     self.see(f"{what} of a slow source, buffering {buffering}", read(agefile.open(under, file_key=KEY)) == text)
             with slow(data[:-1], 60_000) as under:
-                self.see(f"{what} of a slow source that is cut", raised(agefile.Damaged, read, agefile.open(under, file_key=KEY)))
+                self.see(f"{what} of a slow source that is cut", raised(agefile.NotWhole, read, agefile.open(under, file_key=KEY)))
         begun = time.process_time()
         with slow(data, len(data) // 4, pause=0.4) as under:
             self.see("a source that pauses", agefile.open(under, file_key=KEY).read() == text)

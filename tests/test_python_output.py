@@ -1,16 +1,19 @@
-"""Tries what `python3 -m agefile` does to OUT: two runs on one file, also beside one of age_tool; a name that is taken while a run goes on; and
-what is left of runs by several threads that are stopped, on a file system that has files without a name, and on one that hasn't."""
+"""Tries what `python3 -m agefile` does to OUT: two runs on one file, also beside one of age_tool; an OUT that is an input, where faults are
+told, or open already; a name that is taken while a run goes on; and what is left of runs by several threads that are stopped, on a file
+system that has files without a name, and on one that hasn't."""
 import contextlib
 import errno
 import fcntl
 import io
 import os
 import signal
+import socket
 import stat
 import subprocess
 import sys
 import termios
 import time
+import types
 import unittest.mock
 
 from tests.bindings import BLOCK, KEY, PYTHON, BindingsCase, agefile, flipped, plain_of, raised, setUpModule
@@ -159,6 +162,127 @@ class OutputTest(BindingsCase):
         """The same by a shell, which may close streams."""
         line = f'exec "{sys.executable}" -m agefile {words} {redirections}'
         return subprocess.run(["sh", "-c", line], cwd=self.room, env={**self.env, **more}, capture_output=True)
+
+    def shell(self, line, **more):
+        """Runs a line of a shell, in which $A is the program."""
+        env = {**self.env, "A": f"{sys.executable} -m agefile"}
+        return subprocess.run(["sh", "-c", line], cwd=self.room, env=env, stdout=subprocess.PIPE, stderr=subprocess.PIPE, **more)
+
+    def test_what_is_open_already(self):
+        """What a name such as /dev/stdout leads to is written where it stands, after what is there; it isn't replaced, nor read by itself."""
+        os.symlink("/dev/stdout", self.path("to-stdout"))
+        log = "echo precious > log"
+        names = ("/dev/stdout", "/dev/fd/1", "/proc/self/fd/1", "/proc/thread-self/fd/1", "to-stdout", "/dev/fd/../fd/1", "-", "/dev/fd/3 3")
+        for command, out in (*(("decrypt", it) for it in names), ("salvage", "/dev/stdout"), ("salvage", "-"), ("salvage", "/dev/fd/3 3")):
+            run = self.shell(f"{log}; $A {command} --pass pw in.age {out}>> log")
+            self.see(f"{command} to {out}, appended", run.returncode == 0 and self.read("log") == b"precious\n" + self.text, run.stderr)
+        run = self.shell("(echo precious; $A decrypt --pass pw in.age /dev/stdout; echo more) > log")
+        self.see("among other output", run.returncode == 0 and self.read("log") == b"precious\n" + self.text + b"more\n", run.stderr)
+        run = self.shell("($A encrypt --pass pw --log 1 pw /dev/stdout; $A encrypt --pass pw --log 1 other /dev/stdout) > two")
+        two = self.read("two").partition(b"\n")[2].partition(b"age-encryption.org/v1\n")
+        found = [self.judged(b"age-encryption.org/v1\n" + it)[1] for it in (two[0], two[2])]
+        self.see("two files, one after another", run.returncode == 0 and found == [b"pw\n", b"other\n"], run.stderr, found)
+        self.write("kept", b"kept")
+        for what, line, said in (
+            ("--no-clobber", f"{log}; $A decrypt --pass pw --no-clobber in.age /dev/stdout >> log", b"/dev/stdout: File exists"),
+            ("--workers", f"{log}; $A decrypt --pass pw --workers 2 in.age /dev/stdout >> log", b"--workers writes a regular file"),
+            ("what is read alone", f"{log}; $A decrypt --pass pw in.age /dev/fd/3 3< kept", b"/dev/fd/3: it is open for reading alone"),
+            ("the program's own", f"{log}; $A decrypt --pass pw in.age /dev/fd/3", b"/dev/fd/3: it is open for reading alone"),
+            ("what is closed", f"{log}; $A decrypt --pass pw in.age /dev/stdout >&-", None), ("both that are closed", f"{log}; $A decrypt --pass pw in.age /dev/stdout >&- 2>&-", b""),
+        ):
+            run = self.shell(line)
+            is_said = said is None or run.stderr == (said and b"agefile: %s\n" % said)
+            self.see(f"{what} is refused", run.returncode == 1 and is_said and b"Traceback" not in run.stderr, run.returncode, run.stderr)
+            self.see(f"{what}: the files", (self.read("log"), self.read("kept"), self.read("in.age")) == (b"precious\n", b"kept", self.data))
+
+    def test_out_is_an_input(self):
+        """Standard output that is also an input, or a named OUT that is: nothing is written."""
+        self.write("d.age", flipped(self.data, 150_000))
+        self.write("key", b"# AGE-SECRET-KEY-1\n")
+        self.path("b").touch()
+        os.link(self.path("b"), self.path("linked"))
+        encrypts = "encrypt --log 1 --pass"
+        for words, of, one, other in (
+            ("decrypt --pass pw b - >> b", "in.age", "standard output", "b"), ("decrypt --pass pw b - 1<> b", "in.age", "standard output", "b"),
+            ("salvage --pass pw b - >> b", "d.age", "standard output", "b"), (f"{encrypts} pw b - >> b", "in", "standard output", "b"),
+            ("decrypt --pass pw b /dev/stdout >> b", "in.age", "/dev/stdout", "b"), ("decrypt --pass pw linked - >> b", "in.age", "standard output", "linked"),
+            ("decrypt --pass pw - - < b >> b", "in.age", "standard output", "standard input"), ("decrypt --pass pw - b < b", "in.age", "b", "standard input"),
+            ("salvage --pass pw /dev/fd/3 /dev/fd/4 3< b 4<> b", "d.age", "/dev/fd/4", "/dev/fd/3"), ("decrypt --pass b in.age - >> b", "pw", "standard output", "b"),
+            ("decrypt --identity b in.age - >> b", "key", "standard output", "b"), ("encrypt --recipients-file b in - >> b", "key", "standard output", None),
+            ("resume --pass pw --position pw --old b in.age - >> b", "in", "standard output", "b"),
+            ("resume --pass pw --position b --old in in.age - >> b", "pw", "standard output", "b"),
+        ):
+            held = self.read(of)
+            self.path("b").write_bytes(held)
+            run = self.shell(f"ulimit -f 4000; $A {words}")
+            said = other is None or run.stderr == f"agefile: {one} and {other} are one file\n".encode()
+            self.see(words, run.returncode == 1 and said and b"Traceback" not in run.stderr, run.returncode, run.stderr)
+            self.see(f"{words}: the file", self.read("b") == held)
+
+    def test_out_is_where_faults_are_told(self):
+        """OUT that is standard error, a file or a pipe: the message alone is there."""
+        self.write("d.age", flipped(self.data, 150_000))
+        for words, name in (
+            ("d.age o 2> o", "o"), ("in.age o 2> o", "o"), ("d.age o 2>> o", "o"), ("d.age - > o 2>&1", "standard output"), ("d.age - >> o 2>&1", "standard output"),
+            ("d.age /dev/stdout > o 2>&1", "/dev/stdout"), ("d.age /dev/stderr 2> o", "/dev/stderr"), ("d.age - 2>&1 | cat > o", "standard output"),
+        ):
+            for command in ("decrypt", "salvage"):
+                self.write("o", b"old\n")
+                self.shell(f"$A {command} --pass pw {words}")
+                said = (b"old\n" if ">> o" in words else b"") + f"agefile: {name} and standard error are one file\n".encode()
+                self.see(f"{command} {words}", self.read("o") == said, self.read("o")[:100])
+        for words in ("in.age - > o 2> /dev/null", "in.age o 2> log", "- o < in.age", "in.age - | cat > o", "in.age /dev/stdout | cat > o"):
+            self.remove("o")
+            run = self.shell(f"$A decrypt --pass pw {words}")
+            self.see(f"decrypt {words}", run.returncode == 0 and self.read("o") == self.text, run.stderr)
+        self.see("one device", self.shell("$A decrypt --pass pw in.age /dev/null > /dev/null 2>&1").returncode == 0)
+
+    def test_one_socket(self):
+        """One socket is read and written, as a server's is that inetd starts."""
+        one, other = socket.socketpair()
+        with one, other:
+            words = [sys.executable, "-m", "agefile", "decrypt", "--pass", "pw", "-", "-"]
+            run = subprocess.Popen(words, cwd=self.room, env=self.env, stdin=other, stdout=other, stderr=subprocess.PIPE)
+            self.addCleanup(run.stderr.close)
+            other.close()
+            small = self.sealed(b"a text")
+            one.sendall(small)
+            one.shutdown(socket.SHUT_WR)
+            got = one.makefile("rb").read()
+            self.see("one socket", got == b"a text" and run.wait() == 0, got, run.stderr.read())
+
+    def test_one_file(self):
+        """Disks are one if their numbers are, whatever their names; terminals aren't compared."""
+        def of(kind, inode=1, number=1):
+            return types.SimpleNamespace(st_mode=kind | 0o600, st_dev=7, st_ino=inode, st_rdev=number)
+
+        for kind, same, links, numbers in (
+            (stat.S_IFREG, True, False, True), (stat.S_IFIFO, True, False, True), (stat.S_IFCHR, False, False, False), (stat.S_IFSOCK, False, False, False),
+            (stat.S_IFBLK, True, True, False),
+        ):
+            found = [agefile._output.is_one(of(kind), it) for it in (of(kind), of(kind, 2), of(kind, number=2))]
+            self.see(f"files of kind {kind:o}", found == [same, links, numbers], found)
+
+    def test_endless_files(self):
+        """What is read whole is refused at its limit, and not read on."""
+        self.write("short", b"x" * 65_537)
+        self.write("long", b"x" * 65_538)
+        self.write("most", b"x" * 65_536 + b"\n")
+        self.write("keys", b"#" * (1 << 24) + b"\n")
+        self.write("all", b"#" * ((1 << 24) - 1) + b"\n")
+        more = "{} has more than {} bytes".format
+        for words, said in (
+            ("encrypt --pass /dev/zero in new", more("/dev/zero", "65,537")), ("decrypt --pass /dev/zero in.age new", more("/dev/zero", "65,537")),
+            ("salvage --pass long in.age new", more("long", "65,537")), ("decrypt --pass short in.age new", "short: passphrase has 1 to 65,536 bytes, not 65,537"),
+            ("decrypt --identity /dev/zero in.age new", more("/dev/zero", "16,777,216")), ("test --identity keys in.age", more("keys", "16,777,216")),
+            ("decrypt --identity all in.age new", "all: identity has no key: one begins with AGE-SECRET-KEY-1"), ("shared /dev/zero in.age", more("/dev/zero", "16,777,216")),
+            ("encrypt --recipients-file /dev/zero in new", more("/dev/zero", "16,777,216")), ("encrypt --recipients-file keys in new", more("keys", "16,777,216")),
+            ("encrypt --recipients-file all in new", "all has no recipient"),
+        ):
+            run = self.shell(f"ulimit -v 800000; $A {words}", timeout=60)
+            self.see(words, (run.returncode, run.stderr) == (1, f"agefile: {said}\n".encode()) and not self.is_there("new"), run.returncode, run.stderr[-300:])
+        run = self.shell("$A encrypt --pass most --log 1 in new && $A decrypt --pass most new back")
+        self.see("the longest passphrase", run.returncode == 0 and self.read("back") == self.text, run.stderr)
 
     def test_unbuffered(self):
         """A standard output that isn't buffered takes all, or the run fails."""

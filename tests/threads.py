@@ -119,7 +119,7 @@ def forgets(rnd):
 def faults(_):
     try:
         agefile.decrypt(CUT, file_key=FILE_KEY)
-    except agefile.Damaged as fault:
+    except agefile.NotWhole as fault:
         return "" if fault.place == 3 else f"a cut file: {fault}"
     return "a cut file that is whole"
 

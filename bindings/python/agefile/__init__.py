@@ -18,10 +18,10 @@ finds. `python3 -m agefile` encrypts, decrypts and tests files.
 Reading: no byte is returned before its chunk (65,536 bytes of plaintext) has been authenticated,
 and the end of the file (b"") is reported only after the last chunk has been. So a loop that reads
 to the end without an exception has seen the complete plaintext; one that stops earlier may have
-seen the beginning of a truncated file. What is wrong with a file raises AgeError, usually one of
-its kinds: WrongKey, Damaged and Truncated. Most truncated files are Damaged, since they end within
-a chunk. A read() that runs into a damaged chunk returns nothing of what comes before it; read1()
-returns all of that first.
+seen the beginning of a truncated file. What is wrong with a file raises AgeError, as one of its
+kinds: WrongKey, NotWhole (and of that Truncated, though most truncated files end within a chunk,
+and can't be told from damaged ones), WorkTooHigh or OutOfMemory. A read() that runs into a damaged
+chunk returns nothing of what comes before it; read1() returns all of that first.
 
 A read waits for bytes, even if the source doesn't block. BlockingIOError says that there is nothing
 to wait for: the source returned None, and has no fileno(). After a read that failed or was
@@ -48,7 +48,8 @@ until then becomes a complete file. After a write that an exception interrupts, 
 finished. The file object that is written to gets `bytes`, and may keep them. A forked child can't
 continue its parent's file.
 
-Decryptor and Encryptor take bytes as they arrive, as in an asynchronous server, and need no file.
+Decryptor and Encryptor take bytes as they arrive, as in an asynchronous server, and need no file. A
+`with` block of theirs that ends without finish() raises.
 
 A file object that you pass in is left open. Threads may share a file; calls are serialized. Two
 files share nothing, so threads with files of their own need no lock. Text ("rt", "wt") is for one
@@ -70,7 +71,7 @@ from ._arguments import Buffer, see_one, work_factor
 from ._file import AgeFile
 from ._inspection import Inspection, Stanza, inspect
 from ._keys import identities_in, identities_of
-from ._library import VERSION, AgeError, Damaged, OutOfMemory, TooManyStanzas, Truncated, WrongKey
+from ._library import VERSION, AgeError, NotWhole, OutOfMemory, TooManyStanzas, Truncated, WorkTooHigh, WrongKey
 from ._memory import decrypt, encrypt
 from ._push import Decryptor, Encryptor
 from ._reader import AgeReader, opening_of
@@ -79,13 +80,14 @@ from ._salvage import Salvage, salvage
 from ._writer import AgeWriter
 
 __all__ = ["open", "encrypt", "decrypt", "inspect", "Inspection", "Stanza", "salvage", "Salvage", "identities_in", "AgeError", "WrongKey",
-           "TooManyStanzas", "Truncated", "Damaged", "OutOfMemory", "AgeReader", "AgeFile", "AgeWriter", "Decryptor", "Encryptor"]
+           "TooManyStanzas", "NotWhole", "Truncated", "WorkTooHigh", "OutOfMemory", "AgeReader", "AgeFile", "AgeWriter", "Decryptor",
+           "Encryptor"]
 __version__ = f"{VERSION // 10_000}.{VERSION // 100 % 100}.{VERSION % 100}"
 # release/build replaces it by the commit that it was made from, as in age_tool.
 __build__ = "(not a release)"
 
 for _it in (encrypt, decrypt, inspect, Inspection, Stanza, salvage, Salvage, identities_in, AgeError, WrongKey, TooManyStanzas,
-            Truncated, Damaged, OutOfMemory, AgeReader, AgeFile, AgeWriter, Decryptor, Encryptor):
+            NotWhole, Truncated, WorkTooHigh, OutOfMemory, AgeReader, AgeFile, AgeWriter, Decryptor, Encryptor):
     _it.__module__ = __name__
 
 Path = Union[str, bytes, "os.PathLike[str]", "os.PathLike[bytes]"]

@@ -6,7 +6,6 @@ import contextlib
 import errno
 import getpass
 import os
-import stat
 import sys
 import time
 import warnings
@@ -14,15 +13,17 @@ from typing import Any, Iterator, NoReturn
 
 import agefile
 from agefile import _keys, _library
-from agefile._arguments import WORK_MAX, secret
+from agefile._arguments import PASSPHRASE_MAX, WORK_MAX, secret
 from agefile._inspection import report_of
-from agefile._output import new_name, opened_alone, reach_disk, replacing
+from agefile._output import descriptor_of, is_one, new_name, opened_alone, reach_disk, replacing
 from agefile._position import MOST, Position
 from agefile._recipients import beginning_of, points_of
 from agefile._source import filled, put, some
 from agefile._workers import WORKERS_MAX, Places, copy_text, put_at
 
 FACTORS = range(1, WORK_MAX + 1)
+# How many bytes a file of keys or of recipients may have, as for `age`.
+KEYS_MAX = 1 << 24
 
 # What only a write can fail with.
 FULL = (errno.ENOSPC, errno.EDQUOT, errno.EFBIG)
@@ -30,13 +31,21 @@ FULL = (errno.ENOSPC, errno.EDQUOT, errno.EFBIG)
 UNMADE = (errno.ENOENT, errno.ENOTDIR, errno.EACCES, errno.EROFS)
 
 
+def held_by(name: str, most: int) -> bytes:
+    """What a file holds. A longer one is refused, and not read to its end: it may have none, or was named by mistake."""
+    with open(name, "rb") as file:
+        held = file.read(most + 1)
+    if len(held) > most:
+        raise ValueError(f"{shown(name)} has more than {most:,} bytes")
+    return held
+
+
 def passphrase_of(words: argparse.Namespace, again: bool = False) -> bytes:
     """The passphrase in the file of --pass, without one newline at its end, or one that is asked for."""
     if words.passphrase is not None:
-        with open(words.passphrase, "rb") as file:
-            held = file.read().removesuffix(b"\n")
+        held = held_by(words.passphrase, PASSPHRASE_MAX + 1)
         try:
-            return secret(held)
+            return secret(held.removesuffix(b"\n"))
         except ValueError as fault:
             raise ValueError(f"{shown(words.passphrase)}: {fault}") from None
     given = asked("passphrase: ")
@@ -75,20 +84,25 @@ def source(name: str) -> Any:
 
 
 def see_apart(words: argparse.Namespace) -> None:
-    """Refuses to write to an input: IN, or the file of --pass, --identity or --recipients-file. With --no-clobber, to any existing file."""
-    if words.output == "-":
-        return
-    if words.no_clobber and os.path.lexists(words.output):
+    """Refuses to write to an input (IN, or a file of --pass, --identity, --recipients-file, --position or --old), or where faults are told.
+    With --no-clobber, to any existing file."""
+    if words.output != "-" and words.no_clobber and os.path.lexists(words.output):
         raise FileExistsError(errno.EEXIST, os.strerror(errno.EEXIST), words.output)
-    if not os.path.exists(words.output):
-        return
-    out = os.stat(words.output)
-    read = [getattr(words, it, None) for it in ("input", "passphrase", "keys", "position", "old")]
-    for name in (*read, *getattr(words, "files", [])):
-        if name is None or name != "-" and not os.path.exists(name):
-            continue
-        if os.path.samestat(out, os.fstat(0) if name == "-" else os.stat(name)) and not stat.S_ISCHR(out.st_mode):
-            raise ValueError(f"{shown(words.output)} and {shown(name)} are one file")
+    name, out = ("standard output", looked_at(1)) if words.output == "-" else (shown(words.output), looked_at(words.output))
+    read = [getattr(words, it, None) for it in ("passphrase", "keys", "position", "old")]
+    others = [(shown(it), looked_at(it)) for it in (*read, *getattr(words, "files", [])) if it is not None]
+    others += [(read_name(words), looked_at(0 if words.input == "-" else words.input)), ("standard error", looked_at(2))]
+    for other, found in others:
+        if out is not None and found is not None and is_one(out, found):
+            raise ValueError(f"{name} and {other} are one file")
+
+
+def looked_at(file: str | int) -> os.stat_result | None:
+    """What there is at a path, or what a descriptor has open. (If there is nothing, that is told where it is opened.)"""
+    try:
+        return os.stat(file)
+    except OSError:
+        return None
 
 
 @contextlib.contextmanager
@@ -123,8 +137,7 @@ def recipients_of(words: argparse.Namespace) -> list[str]:
         raise ValueError("--recipient is empty: one begins with age1")
     found = list(words.recipients)
     for name in words.files:
-        with open(name, encoding="ascii", errors="replace", newline="\n") as file:
-            lines = _keys.lines_of("recipient", file)
+        lines = _keys.identities_in(held_by(name, KEYS_MAX).decode("ascii", "replace"))
         if not lines:
             raise ValueError(f"{shown(name)} has no recipient")
         try:
@@ -158,7 +171,8 @@ def decrypt(words: argparse.Namespace) -> None:
 
 def decrypt_by_workers(words: argparse.Namespace) -> None:
     """The same by several threads. OUT gets its name once all of the plaintext is written, and on the disk; otherwise it is unchanged."""
-    if words.output == "-" or os.path.exists(words.output) and not os.path.isfile(words.output):
+    is_open = words.output == "-" or descriptor_of(words.output) is not None  # (what is open can't be replaced)
+    if is_open or os.path.exists(words.output) and not os.path.isfile(words.output):
         raise ValueError("--workers writes a regular file")
     out = os.path.realpath(words.output)
     with source(words.input) as under, opened(under, words, random_access=True) as first:
@@ -265,8 +279,7 @@ def shared(words: argparse.Namespace) -> None:
 
 
 def identities_of(name: str) -> list[str]:
-    with open(name, encoding="ascii", errors="replace", newline="\n") as file:
-        text = file.read()
+    text = held_by(name, KEYS_MAX).decode("ascii", "replace")
     if text.startswith(("age-encryption.org/", "-----BEGIN AGE ENCRYPTED FILE-----")):
         raise ValueError(f"{shown(name)} is an encrypted key file: decrypt it first")
     try:
@@ -342,10 +355,15 @@ def shown(name: str) -> str:
     return name if name and name.isprintable() and name == name.strip() else repr(name)
 
 
+def read_name(words: argparse.Namespace) -> str:
+    """What IN is called."""
+    return "standard input" if words.input == "-" else shown(words.input)
+
+
 def said(fault: Exception, words: argparse.Namespace) -> str:
     """What is wrong, after the name of the file that it is about."""
     if isinstance(fault, agefile.AgeError):
-        return f"{'standard input' if words.input == '-' else shown(words.input)}: {fault}"
+        return f"{read_name(words)}: {fault}"
     if isinstance(fault, OSError) and isinstance(fault.filename, str) and fault.strerror:
         return f"{shown(fault.filename)}: {fault.strerror}"
     return str(fault)
@@ -353,7 +371,11 @@ def said(fault: Exception, words: argparse.Namespace) -> str:
 
 def main() -> int:
     if sys.stderr is None:  # it is closed: print would write to standard output, which may be OUT
-        sys.stderr = open(os.devnull, "w")
+        null = os.open(os.devnull, os.O_WRONLY)
+        os.dup2(null, 2)  # (another number may be that of standard output, which is closed too)
+        if null != 2:
+            os.close(null)
+        sys.stderr = open(2, "w")
     words = words_of()
     try:
         return words.call(words) or 0

@@ -41,7 +41,8 @@ class AgeError(Exception):
 
 
 class WrongKey(AgeError):
-    """The key isn't the file's: another passphrase or secret (13), another file key (14), or another kind of key (12)."""
+    """The key isn't the file's: another passphrase or secret (13), another file key (14), or another kind of key (12). A header that was
+    damaged where it says whom the file is for can't be told from that."""
 
 
 class TooManyStanzas(WrongKey):
@@ -56,13 +57,18 @@ class TooManyStanzas(WrongKey):
         return f"the file has too many X25519 stanzas: none of the {self.tries:,} pairs of a key and a stanza that were tried opens it ({self.number} {self.name})"
 
 
-class Truncated(AgeError):
-    """The file ends too early: in its header (254), before a chunk (20), or in the first bytes of one (18). Most truncated files end
-    later in a chunk, which can't be told from damage: that is Damaged."""
+class NotWhole(AgeError):
+    """The file isn't as an age program left it: it was truncated, damaged, altered or forged, something was appended to it, or it never
+    was a binary age file (1 to 10, 14 to 22 and 254)."""
 
 
-class Damaged(AgeError):
-    """The file was truncated in a chunk, or isn't as its writer left it, or no age program writes such a file."""
+class Truncated(NotWhole):
+    """The file ends too early: in its header or nonce (8, 16, 254), before a chunk (20), or in the first bytes of one (18). Most truncated
+    files end later in a chunk, which can't be told from damage: they are NotWhole (17)."""
+
+
+class WorkTooHigh(AgeError):
+    """The work factor is above max_work (11)."""
 
 
 class OutOfMemory(AgeError, MemoryError):
@@ -70,8 +76,8 @@ class OutOfMemory(AgeError, MemoryError):
 
 
 _KINDS: dict[int, type[AgeError]] = {
-    **dict.fromkeys((12, 13), WrongKey), **dict.fromkeys((8, 16, 18, 20, MORE), Truncated),
-    **dict.fromkeys((3, 4, 5, 6, 7, 9, 10, 14, 15, 17, 19, 21, 22), Damaged), 28: OutOfMemory,
+    **dict.fromkeys((*range(1, 11), *range(14, 23)), NotWhole), **dict.fromkeys((8, 16, 18, 20, MORE), Truncated),
+    11: WorkTooHigh, **dict.fromkeys((12, 13), WrongKey), 28: OutOfMemory,
 }
 
 _MEANINGS = {

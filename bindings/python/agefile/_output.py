@@ -6,6 +6,7 @@ import contextlib
 import errno
 import fcntl
 import os
+import re
 import stat
 from typing import Any, Iterator
 
@@ -15,6 +16,8 @@ from typing import Any, Iterator
 _NO_LOCKS = (errno.EINVAL, errno.ENOSYS, errno.EOPNOTSUPP, errno.ENOLCK)
 # What one without hard links answers, as FAT does.
 _NO_LINKS = (errno.EPERM, errno.ENOSYS, errno.EOPNOTSUPP)
+# How many links the system follows.
+_LINKS_MAX = 40
 # As the folder of an absolute path: with one, os.link follows a link, such as that of a file without a name.
 _NO_FOLDER = 0
 
@@ -39,9 +42,40 @@ def lock(descriptor: int, path: Any) -> None:
         raise OSError(errno.EBUSY, "another program replaced it meanwhile", path)
 
 
+def is_one(out: os.stat_result, other: os.stat_result) -> bool:
+    """Whether what is written to the first file changes the second, as `age_tool` says: what is written to a terminal or another character
+    device, or to a socket, is never read from it."""
+    if stat.S_ISBLK(out.st_mode) and stat.S_ISBLK(other.st_mode):
+        return out.st_rdev == other.st_rdev
+    return os.path.samestat(out, other) and (stat.S_ISREG(out.st_mode) or stat.S_ISFIFO(out.st_mode))
+
+
+def descriptor_of(path: Any) -> int | None:
+    """The descriptor of this process that a path names, as /dev/stdout and /dev/fd/3 do."""
+    path, own = os.fsdecode(path), re.compile(re.escape(os.path.realpath("/proc/self")) + r"(/task/\d+)?/fd")
+    for _ in range(_LINKS_MAX):
+        if not os.path.islink(path):
+            return None
+        folder, name = os.path.split(path)
+        if own.fullmatch(os.path.realpath(folder)):
+            return int(name)
+        path = os.path.join(folder, os.readlink(path))
+    return None
+
+
+def _standing(number: int, path: Any) -> Any:
+    """What a descriptor has open, to be written from where it stands."""
+    if fcntl.fcntl(number, fcntl.F_GETFL) & os.O_ACCMODE == os.O_RDONLY:
+        raise OSError(errno.EBADF, "it is open for reading alone", path)
+    return builtins.open(os.dup(number), "wb")
+
+
 def opened_alone(path: Any, is_new: bool) -> Any:
     """The file at a path, which only this run writes, from its beginning; with `is_new`, only if it didn't exist. A regular file is
-    unchanged until it is locked."""
+    unchanged until it is locked. What a path such as /dev/stdout names is open already, perhaps to append, and for others too: it is written
+    from where it stands, without a lock."""
+    if not is_new and (number := descriptor_of(path)) is not None:
+        return _standing(number, path)
     how = os.O_WRONLY | os.O_CREAT | (os.O_EXCL if is_new else 0)
     file = builtins.open(path, "wb", opener=lambda name, _: os.open(name, how | os.O_CLOEXEC, 0o666))
     try:
@@ -92,7 +126,7 @@ def replacing(out: str, is_new: bool) -> Iterator[Any]:
         file = held.enter_context(builtins.open(descriptor, "wb", buffering=0))
         try:
             yield file
-            if mode not in (None, stat.S_IMODE(os.fstat(file.fileno()).st_mode)):  # (on FAT only the mount's owner may set even the same one)
+            if mode is not None and mode != stat.S_IMODE(os.fstat(file.fileno()).st_mode):  # (on FAT only the mount's owner may set even the same one)
                 os.fchmod(file.fileno(), mode)
             reach_disk(file)
             if nameless is not None:

@@ -1,6 +1,7 @@
 """What decrypts and encrypts bytes that a caller has, and reads and writes no file."""
 from __future__ import annotations
 
+from types import TracebackType
 from typing import Any, Callable, Iterable, NoReturn, TypeVar
 
 from ._arguments import Buffer
@@ -14,6 +15,7 @@ Decrypting = TypeVar("Decrypting", bound="Decryptor")
 Encrypting = TypeVar("Encrypting", bound="Encryptor")
 
 LOST = "a call failed or was interrupted, so that bytes are lost"
+UNFINISHED = "the `with` block ended without finish()"
 
 
 class Decryptor:
@@ -27,7 +29,7 @@ class Decryptor:
     The key is one of those that `open` takes. The update() that completes the header takes the time of the passphrase: give it to
     asyncio.to_thread; `opened` says whether the header is open. The plaintext before a damaged chunk is returned before the fault,
     which each later call raises again. finish() and close(), which `with` calls, overwrite the file key and the plaintext that is
-    held."""
+    held. A `with` block that ends before finish(), close() or a fault raises."""
 
     def __init__(self, *, passphrase: str | Buffer | None = None, file_key: Buffer | None = None, shared: tuple[Buffer, Buffer] | None = None,
                  identity: str | Iterable[str] | None = None, max_work: int = 22) -> None:
@@ -35,6 +37,7 @@ class Decryptor:
         self._calls, self._state, self._room = OneCall(), ReaderState(), Room()
         self._held, self._seen = bytearray(), 0  # bytes that aren't opened yet, and how many of a header were looked at
         self._fault: Exception | None = None  # of each later call
+        self._told = False  # whether the caller knows how it ended: by finish(), close() or a fault
         self.opened = False
 
     def update(self, data: Any, /) -> bytes:
@@ -46,6 +49,7 @@ class Decryptor:
             raise
         except BaseException:  # (here and not below, since one may come when that returns)
             self._fault = self._fault or OSError(LOST)
+            self._told = True
             raise
 
     def finish(self) -> bytes:
@@ -56,6 +60,7 @@ class Decryptor:
             raise
         except BaseException:
             self._fault = self._fault or OSError(LOST)
+            self._told = True
             raise
 
     def close(self) -> None:
@@ -65,14 +70,17 @@ class Decryptor:
     def __enter__(self: Decrypting) -> Decrypting:
         return self
 
-    def __exit__(self, *_: Any) -> None:
+    def __exit__(self, kind: type[BaseException] | None, value: BaseException | None, trace: TracebackType | None) -> None:
+        untold = None if self._told or kind is not None else self._fault or ValueError(f"{UNFINISHED}: the plaintext may not be whole")
         self.close()
+        if untold is not None:
+            raise again(untold)
 
     def __reduce_ex__(self, _: Any) -> NoReturn:
         raise TypeError("cannot pickle or copy a Decryptor")
 
     def _close(self) -> None:
-        self._fault = ValueError("the Decryptor is closed")
+        self._fault, self._told = ValueError("the Decryptor is closed"), True
         self._forget()
 
     def _forget(self) -> None:
@@ -106,7 +114,7 @@ class Decryptor:
         if not self.opened:
             self._try_header(True)
         fault = self._open_blocks(text) or self._open_block(C.age_c_end, self._held, text)
-        self._fault = fault or ValueError("finish() was called")
+        self._fault, self._told = fault or ValueError("finish() was called"), True
         self._forget()
         if fault is not None:
             raise again(fault)
@@ -175,10 +183,12 @@ class Encryptor:
             await response.write(file.finish())  # without it every reader refuses the file
 
     The key is a passphrase or a recipient, as for `open`. In a forked child, and after a call that an exception ended, each call is
-    refused. finish() and close(), which `with` calls, overwrite the file key and the plaintext that is held."""
+    refused. finish() and close(), which `with` calls, overwrite the file key and the plaintext that is held. A `with` block that ends
+    before finish(), close() or a call that failed raises."""
 
     def __init__(self, *, passphrase: str | Buffer | None = None, recipient: str | Iterable[str] | None = None, work: int = 18) -> None:
         self._calls, self._out = OneCall(), _Pieces()
+        self._told = False  # whether the caller knows how it ended: by finish(), close() or an exception
         self._writer = AgeWriter(self._out, beginning_of(passphrase, recipient, work))
 
     def update(self, data: Any, /) -> bytes:
@@ -190,6 +200,7 @@ class Encryptor:
             raise
         except BaseException:
             self._writer.spoil()
+            self._told = True
             raise
 
     def finish(self) -> bytes:
@@ -197,22 +208,29 @@ class Encryptor:
         if self._writer.closed:
             raise ValueError("finish() was called, or the file can't be finished")
         try:
-            return self._calls.make(self._taken, self._writer.close)
+            made = self._calls.make(self._taken, self._writer.close)
         except Inside:
             raise
         except BaseException:
             self._writer.spoil()
+            self._told = True
             raise
+        self._told = True
+        return made
 
     def close(self) -> None:
         """Overwrites the file key and the plaintext that is held. A file that wasn't finished stays unfinished: every reader refuses it."""
         self._calls.make(self._writer.abandon)
+        self._told = True
 
     def __enter__(self: Encrypting) -> Encrypting:
         return self
 
-    def __exit__(self, *_: Any) -> None:
+    def __exit__(self, kind: type[BaseException] | None, value: BaseException | None, trace: TracebackType | None) -> None:
+        is_told = self._told or kind is not None
         self.close()
+        if not is_told:
+            raise ValueError(f"{UNFINISHED}: every reader refuses the file")
 
     def __reduce_ex__(self, _: Any) -> NoReturn:
         raise TypeError("cannot pickle or copy an Encryptor")

@@ -7,7 +7,7 @@ from typing import Any, Callable, Iterable, Literal, NamedTuple
 
 from ._arguments import Buffer
 from ._library import BLOCK, CHUNK, C, ReaderState, Room, fault_of, wipe
-from ._output import new_name, opened_alone, reach_disk
+from ._output import is_one, new_name, opened_alone, reach_disk
 from ._reader import header_of, opening_of
 from ._source import can_seek, end_of, filled, put, read_by
 
@@ -18,7 +18,7 @@ TAG = 16
 class Salvage(NamedTuple):
     """What was saved. Where a chunk didn't open, the plaintext has zeros."""
     size: int  # of the text that was written
-    lost: list[tuple[int, int]]  # what is zeros: the first byte, and the byte after the last
+    lost: list[tuple[int, int]]  # what is zeros in it: the first byte, and the byte after the last
     ends: bool  # whether the last chunk opened: else the text may have been longer
     followed: bool  # whether something was appended to the file, which is left out
 
@@ -99,9 +99,10 @@ def _opened(state: ReaderState, room: Room, number: int, have: int) -> bytes | N
 def _see_apart(file: Any, out: Any) -> None:
     """Refuses to overwrite the file that is read."""
     try:
-        one = isinstance(out, (str, bytes, os.PathLike)) and os.path.samestat(os.fstat(file.fileno()), os.stat(out))
-    except (AttributeError, OSError):  # it has no descriptor, or there is no such file yet
-        return
+        given = os.stat(out) if isinstance(out, (str, bytes, os.PathLike)) else os.fstat(out.fileno())
+        one = is_one(given, os.fstat(file.fileno()))
+    except (AttributeError, OSError):  # one has no descriptor, or there is no such file yet
+        one = file is out
     if one:
         raise ValueError("file and out are one file")
 
@@ -112,7 +113,7 @@ def salvage(file: Any, out: Any, *, passphrase: str | Buffer | None = None, file
     """Writes each chunk of a damaged or truncated age file that still opens, at its place, to a path or a binary file object, and zeros
     for each chunk that doesn't. What is written is authentic: no tag is forged, and no chunk is in another one's place. The header must
     be complete. `out` isn't touched before a chunk has opened: a path is opened and locked then, in mode "xb" only if it doesn't exist by
-    then. `progress` is told the number of chunks after each."""
+    then. The file that is read is refused as `out`. `progress` is told the number of chunks after each."""
     if mode not in ("wb", "xb"):
         raise ValueError(f"mode is 'wb' or 'xb', not {mode!r}")
     opened = opening_of(passphrase, file_key, shared, identity, max_work)
@@ -148,6 +149,7 @@ def _saved(blocks: _Blocks, state: ReaderState, room: Room, out: _Out, progress:
             lost[-1:] = [(lost[-1][0], size)] if lost and lost[-1][1] == at else [*lost[-1:], (at, size)]
         number += 1
         progress(number)
-    if opens:
-        out.zeros(size)
-    return Salvage(size if opens else 0, lost, ends, ends and have == BLOCK and blocks.read(number, room.block.view)[0] > 0)
+    if not opens:
+        return Salvage(0, [], False, False)
+    out.zeros(size)
+    return Salvage(size, lost, ends, ends and have == BLOCK and blocks.read(number, room.block.view)[0] > 0)
