@@ -11,6 +11,9 @@ from tools import shim, workspace
 
 WRITE = b"age_tool: 27 Write\n"
 LOCKED = "another program holds its lock"
+OWN = "; name a file in a folder of your own"
+NO_FILE = f"it is no regular file{OWN}"
+IN_THE_WAY = "the .new file beside it exists; remove or rename it"
 NOBODY = 65534
 PLAIN = bytes(range(1, 251)) * 800
 
@@ -44,6 +47,11 @@ def refused(name, more=""):
 
 def unsaved(name, error):
     return WRITE + reason(f"save the position to {name}", error)
+
+
+def beside(name):
+    """What is said if the temporary file beside the file of --save would be another file of the command."""
+    return f"age_tool: same file named twice\nage_tool: {name} or the .new file beside it is another file of this command too\n".encode()
 
 
 def waits_for(holds):

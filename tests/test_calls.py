@@ -1,12 +1,11 @@
 """Compares the calls of the built program with the definitions that its contracts cite. It records what each run does to its files, also
 if a call fails (tools/shim.c), and computes what that leaves by `age_calls/specs/Disk.antt` itself (tools/definitions.py):
 
-- the disk that the definitions give is the real one, so they say rightly what calls do;
-- after status 0 a power cut leaves OUT as it is, and so a position, once it was said to be saved;
-- nothing but OUT, the file of --save and new files beside that is touched, wherever it is;
-- OUT is locked before it is changed, what was written is closed before status 0, and a file that the run didn't make is removed only if it
-  was locked: the room that a stopped run left;
-- at each moment it leaves a position as it was, or the new one, whole;
+- the OUT that the definitions give is the real one, so they say rightly what calls do;
+- after status 0 a power cut leaves OUT as it is;
+- nothing but OUT, the file of --save and the temporary file beside that is touched, wherever it is (what becomes of a position is for
+  tests/test_power_cut.py);
+- OUT is locked before it is changed, and what was written is closed before status 0;
 - a run that stops before there is a byte to write leaves OUT as it was, and makes none.
 
 A run with --no-sync has to be one after which OUT may hold anything: so the test can fail. Each run is a test."""
@@ -67,9 +66,6 @@ class Disk:
         found = {path: self.disk["file"](path) for path in self.paths}
         return {path: self.held(it[1]) for path, it in found.items() if it != NOTHING}
 
-    def path_of(self, file):
-        return next(path for path in self.paths if self.leads(path, file))
-
     def leads(self, path, file):
         return self.disk["file"](path) == ("Some", file)
 
@@ -84,23 +80,17 @@ class Disk:
 
     def is_answer(self, call, paths):
         """Whether it is what the definitions expect of a disk, for these paths (`IsAnswered`)."""
-        if call[0] == "Made":
-            return self.disk["file"](call[1]) == NOTHING and all(("Some", call[2]) not in self.may_lead(it) for it in paths)
-        return call[0] != "Linked" or self.disk["file"](call[2]) == NOTHING
+        return call[0] != "Made" or (self.disk["file"](call[1]) == NOTHING and all(("Some", call[2]) not in self.may_lead(it) for it in paths))
 
 
 def calls_of(record, disk):
     """The calls of a record as the definitions name them. The disk is the one at each of them."""
-    made, own = None, set()
+    made = None
     for name, words, held in record:
         if name == "make":
             made = int(words[0])
-        elif name == "link" and int(words[0]) == made:
-            yield "Made", words[1].encode(), made
-            own.add(words[1].encode())
-            made = None
         elif name == "link":
-            yield "Linked", disk.path_of(int(words[0])), words[1].encode()
+            yield "Made", words[1].encode(), made
         elif name == "write":
             yield "Wrote", int(words[0]), int(words[1]), held
         elif name == "cut":
@@ -113,10 +103,8 @@ def calls_of(record, disk):
             yield "Broke", int(words[0])
         elif name == "close":
             yield "Closed", int(words[0])
-        elif name == "rename":
-            yield "Renamed", words[0].encode(), words[1].encode()
         elif name == "unlink":
-            yield "Removed" if words[0].encode() in own else "Reclaimed", words[0].encode()
+            yield "Removed", words[0].encode()
         else:
             folder = pathlib.Path(words[0]).resolve()
             yield from (("SyncedNames", path) for path in sorted(disk.paths) if pathlib.Path(path.decode()).parent == folder)
@@ -144,23 +132,30 @@ class Run:
         folder = room.laid_out({name: room.read(held) for name, held in case.before.items()})
         self.out = bytes(folder / "out")
         saved = case.word_after("--save")
-        self.saved = bytes(folder / saved) if saved else None
+        self.saved = {bytes(folder / saved), bytes(folder / f"{saved}.new")} if saved else set()
         self.before, self.disk = files_in(folder), Disk(folder)
-        self.own = {self.disk.disk["file"](it)[1] for it in self.before if self.touches(it)}
+        self.numbers = {path: self.disk.disk["file"](path)[1] for path in self.before}
         room.path("record").write_bytes(b"")
         self.ended = room.run(folder, case.words, shim.loaded(RECORD=room.path("record"), **failing))
         self.after = files_in(folder)
         self.record = list(cuts.calls(room.path("record")))
 
-    def touches(self, path):
-        """Whether a run may do something to what is at a path, or is made there."""
-        return path in (self.out, self.saved) or self.saved and re.fullmatch(re.escape(self.saved) + rb"\.new-\d+", path)
-
-    def strays(self, call):
-        """Whether a call is about another file than those that were at such paths, or that the run has made there."""
-        paths = [it for it in call[1:3] if isinstance(it, bytes)]
-        self.own |= {call[2]} if call[0] == "Made" else set()
-        return call[0] != "SyncedNames" and not (all(map(self.touches, paths)) if paths else call[1] in self.own)
+    def calls_of_out(self):
+        """The calls about OUT, and the names of those about other files than that of --save and the temporary one beside it."""
+        out = {number for path, number in self.numbers.items() if path == self.out}
+        own = {number for path, number in self.numbers.items() if path in self.saved}
+        ours, strays = [], []
+        for call in self.record:
+            name, words, _ = call
+            paths = {it.encode() for it in words if it.startswith("/")}
+            numbers = {int(words[0])} if words[0].isdigit() else set()
+            if name == "link":
+                (out if paths == {self.out} else own if paths <= self.saved else set()).update(numbers)
+            if name in ("sync-names", "make") or paths == {self.out} or (numbers <= out and not paths):
+                ours.append(call)
+            elif not (paths <= self.saved and numbers <= own):
+                strays.append(name)
+        return ours, strays
 
     def wrong(self):
         """What is wrong with it: a sentence for each kind."""
@@ -168,18 +163,16 @@ class Run:
 
     def faults(self):
         yield from self.faults_now()
-        locked, open_to_write, paths = set(), set(), [it for it in (self.out, self.saved) if it]
-        for call in calls_of(self.record, self.disk):
-            if self.strays(call):
-                yield "another file is touched"
-            if not self.disk.is_answer(call, paths):
+        record, strays = self.calls_of_out()
+        yield from (f"{name} touches another file" for name in strays)
+        locked, open_to_write = set(), set()
+        for call in calls_of(record, self.disk):
+            if not self.disk.is_answer(call, [self.out]):
                 yield "a call that the definitions don't expect"
             if call[0] in LOCKS.values():
                 locked.add(call[1])
-            if call[0] in CHANGES and self.disk.leads(self.out, call[1]) and call[1] not in locked:
+            if call[0] in CHANGES and call[1] not in locked:
                 yield "OUT may have changed before it was locked"
-            if call[0] == "Reclaimed" and not any(self.disk.leads(call[1], it) for it in locked):
-                yield "a file of another run was removed without its lock"
             if call[0] in CHANGES:
                 open_to_write.add(call[1])
             elif call[0] == "Closed":
@@ -192,21 +185,17 @@ class Run:
 
     def faults_now(self):
         """What no moment may show."""
-        if self.saved and self.disk.leaves(self.saved) - {self.before.get(self.saved), self.after.get(self.saved)}:
-            yield "a position may be torn or lost"
         if self.case.keeps_out() and self.disk.leaves(self.out) != {self.before.get(self.out)}:
             yield "OUT may not be as it was"
 
     def faults_at_end(self):
-        if self.disk.now() != self.after:
-            yield "the disk of the definitions isn't the real one"
+        if self.disk.now().get(self.out) != self.after.get(self.out):
+            yield "the OUT of the definitions isn't the real one"
         may_be_lost = self.disk.leaves(self.out) != {self.after.get(self.out)}
         if self.ended.returncode == 0 and self.case.waits() and may_be_lost:
             yield "status 0, and OUT may be lost"
         if self.ended.returncode == 0 and not self.case.waits() and not may_be_lost:
             yield "OUT can't be lost, though nothing was waited for"
-        if b"position saved in" in self.ended.stderr and self.disk.leaves(self.saved) != {self.after[self.saved]}:
-            yield "a position was said to be saved, and may be lost"
 
 
 def files_in(folder):

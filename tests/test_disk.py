@@ -88,14 +88,11 @@ class DiskTest(FilesCase):
             self.expect(2, said, "decrypt --pass pass --save mixed cut /dev/stdout", "a position to standard output", stdout=mixed)
         self.see("a position to standard output: the file is empty", self.read("mixed") == b"")
         reader, writer = os.pipe()
-        words = f"decrypt --pass pass --save /dev/fd/{writer} cut /dev/null"
-        self.expect(1, chunk_fault(2), words, "a position to a descriptor", pass_fds=(writer,))
+        name = f"/dev/fd/{writer}"
+        self.expect(1, unsaved(name, NO_FILE), f"decrypt --pass pass --save {name} cut new", "a position to a descriptor", pass_fds=(writer,))
         os.close(writer)
-        self.see("a position to a descriptor: it", os.read(reader, 1000).startswith(b"age-position/v2 2 "))
+        self.see("a position to a descriptor: nothing was begun", os.read(reader, 1000) == b"" and not self.is_there("new"))
         os.close(reader)
-        os.symlink("/dev/null", self.path("nowhere"))
-        self.expect(1, chunk_fault(2), "decrypt --pass pass --save nowhere cut /dev/null")
-        self.remove("nowhere")
 
     def test_terminal_beside_a_device(self):
         """The terminal, whichever that is, isn't taken for a device that is none: what is said is that there is no terminal here."""
@@ -134,7 +131,7 @@ class DiskTest(FilesCase):
             self.expect(2, twice(to, age), ["encrypt", "--pass", "pass", "--log", "4", age, to])
             self.expect(2, twice(to, age), ["decrypt", "--pass", "pass", "--save", to, age, "new"])
         self.see("the device that is read is kept", pathlib.Path(age).read_bytes() == image and not self.is_there("new"))
-        said = WRITE + reason(f"write {other}", "it exists, and --no-clobber was given")
+        said = unsaved(other, NO_FILE)
         self.expect(1, said, ["decrypt", "--no-clobber", "--pass", "pass", "--save", other, "cut", "new"], "a device isn't replaced")
         with open(other, "rb") as device:
             self.see("a device isn't replaced: it", not any(device.read(4096)) and not self.is_there("new"))
@@ -317,8 +314,8 @@ class DiskTest(FilesCase):
             ("resume --position position --save position --old old --pass pass cut out", {}),
         ):
             for at in itertools.count(1):
-                # (a room that can't be looked at any more is left, and the next run would look at each)
-                self.remove("out", "new", "failed", *(it.name for it in self.room.glob("*.new-*")))
+                # (a temporary file that can't be looked at any more is left)
+                self.remove("out", "new", "failed", *(it.name for it in self.room.glob("*.new")))
                 self.write("position", position)
                 ended = self.tool(*words.split(), env=shim.loaded(STATX=errno.EIO, AT=at, COUNT=self.path("failed"), **more))
                 if not self.is_there("failed"):
@@ -358,9 +355,9 @@ class DiskTest(FilesCase):
         self.write("target", b"an old position")
         os.symlink(self.path("target"), folder / "saved")
         os.lchown(folder / "saved", NOBODY, NOBODY)
-        said = unwritten("sticky/saved", errno.EACCES)
+        said = unsaved("sticky/saved", os.strerror(errno.EACCES) + OWN)
         self.expect(1, said, "decrypt --pass pass --save sticky/saved cut new", "somebody else's link in a sticky folder")
-        self.expect(1, said, "decrypt --pass pass cut sticky/saved", "somebody else's link as OUT")
+        self.expect(1, unwritten("sticky/saved", errno.EACCES), "decrypt --pass pass cut sticky/saved", "somebody else's link as OUT")
         self.see("somebody else's link: kept", self.read("target") == b"an old position" and not self.is_there("new"))
 
     @needs(root=True)
@@ -372,13 +369,13 @@ class DiskTest(FilesCase):
         for name in ("a full file system", "a full file system, and an old position"):
             self.remove("small/out")
             self.expect(1, said, "decrypt --pass pass --save small/saved age small/out", name)
-            self.see(f"{name}: a position", self.is_position("small/saved", 2) and not self.is_there("small/saved.new-0"))
+            self.see(f"{name}: a position", self.is_position("small/saved", 2) and not self.is_there("small/saved.new"))
         words = "resume --position small/saved --old small/out --pass pass age whole"
         self.expect(0, b"", words, "resumed after a full file system")
         self.see("resumed after a full file system: the text", self.read("whole") == PLAIN)
         self.remove("small/saved")
         self.write_what_fits("small/filler")
-        refused = WRITE + reason("create small/saved", errno.ENOSPC)
+        refused = unsaved("small/saved", errno.ENOSPC)
         self.expect(1, refused, "decrypt --pass pass --save small/saved age new", "a file system that is full at the beginning")
         self.see("a file system that is full at the beginning: nothing was begun", not self.is_there("new") and not self.is_there("small/saved"))
         self.remove("small/filler", "small/out")
@@ -402,7 +399,7 @@ class DiskTest(FilesCase):
 
     @needs("mkfs.ext4", root=True)
     def test_no_inodes(self):
-        """Where no file can be made any more, an old position is written over, and a new one is refused before OUT is touched."""
+        """Where no file can be made any more, a position is refused before OUT is touched."""
         few = self.mount_ext4("few", 4, "-N", "16")
         (few / "saved").write_bytes(b"an old position")
         while os.statvfs(few).f_ffree:
@@ -410,10 +407,10 @@ class DiskTest(FilesCase):
         self.expect(1, WRITE + reason("create few/out", errno.ENOSPC), "decrypt --pass pass age few/out", "no inode for OUT")
         self.see("no inode for OUT: it isn't there", not self.is_there("few/out"))
         words = "decrypt --pass pass --save few/new cut out"
-        self.expect(1, WRITE + reason("create few/new", errno.ENOSPC), words, "no inode for a position")
+        self.expect(1, unsaved("few/new", errno.ENOSPC), words, "no inode for a position")
         self.see("no inode for a position: nothing was begun", not self.is_there("out") and not self.is_there("few/new"))
-        self.expect(1, chunk_fault(2), "decrypt --pass pass --save few/saved cut out", "no inode, and an old position")
-        self.see("no inode, and an old position: a new one", self.is_position("few/saved", 2))
+        self.expect(1, unsaved("few/saved", errno.ENOSPC), "decrypt --pass pass --save few/saved cut out", "no inode, and an old position")
+        self.see("no inode, and an old position: it", (few / "saved").read_bytes() == b"an old position" and not self.is_there("out"))
 
     # ---- what reaches the disk
 
@@ -438,7 +435,7 @@ class DiskTest(FilesCase):
         self.see("an OUT that goes at the last moment: the one that was made is synced", paths == ["out", here] and self.mode("out") == 0o644)
         self.see("nothing is synced", self.synced("decrypt --no-sync --pass pass age new", "no waiting") == [])
         paths = self.synced("decrypt --pass pass --save saved cut out", "a position", status=1, faults=chunk_fault(2))
-        self.see("a position is synced", paths == ["saved.new-0", "out", "out", here, "saved.new-0", here], paths)
+        self.see("a position is synced", paths == ["saved.new", "out", "out", here, "saved.new", here], paths)
         with open(self.path("new"), "wb") as new:
             self.see("a stream is synced", self.synced("decrypt --pass pass age /dev/stdout", "a stream to a file", stdout=new) == ["new"])
         words = "decrypt --pass pass short /dev/stdout"
@@ -460,9 +457,9 @@ class DiskTest(FilesCase):
             self.remove("new", "saved")
             failing = {"FSYNC": error, "ONLY": only}
             self.expect(1, unsynced("new", error), "decrypt --pass pass age new", f"a sync that fails, {only}", failing)
-            said = WRITE + reason("create saved", error) if only == "f" else chunk_fault(2) + unsaved("saved", error)
+            said = unsaved("saved", error) if only == "f" else chunk_fault(2) + unsaved("saved", error)
             self.expect(1, said, "decrypt --pass pass --save saved cut new", f"a position's sync that fails, {only}", failing)
-            self.see(f"a position's sync that fails, {only}: nothing beside it", not self.is_there("saved.new-0"))
+            self.see(f"a position's sync that fails, {only}: nothing beside it", not self.is_there("saved.new"))
 
     @needs("cc")
     def test_syncs_meanwhile(self):
@@ -547,7 +544,7 @@ class DiskTest(FilesCase):
                 said = chunk_fault(2) + unsaved(f"{at}/saved", error)
                 self.expect(1, said, f"decrypt --pass pass --save {at}/saved cut out", f"closing a position fails with {error}, {held}")
                 left = self.read(f"{at}-held/saved") if held else None
-                self.see(f"closing a position fails with {error}, {held}: kept", left == held and not self.is_there(f"{at}-held/saved.new-0"))
+                self.see(f"closing a position fails with {error}, {held}: kept", left == held and not self.is_there(f"{at}-held/saved.new"))
 
     @needs("cc")
     def test_name_of_an_option(self):
@@ -649,10 +646,10 @@ class DiskTest(FilesCase):
     def test_errors_of_writes(self):
         """A write that fails leaves the chunks before it, and no half position."""
         for error in (errno.EIO, errno.ENOSPC, errno.EDQUOT, errno.EFBIG):
-            said = WRITE + reason("create saved", error)
+            said = unsaved("saved", error)
             name = f"no room for a position: {errno.errorcode[error]}"
             self.expect(1, said, "decrypt --pass pass --save saved age new", name, {"WRITE": error, "AT": 1})
-            self.see(f"{name}: nothing was begun", not any(map(self.is_there, ("new", "saved", "saved.new-0"))))
+            self.see(f"{name}: nothing was begun", not any(map(self.is_there, ("new", "saved", "saved.new"))))
             for at in (1, 2, 3):
                 self.remove("saved", "out")
                 name = f"write {at} fails with {errno.errorcode[error]}"
@@ -660,7 +657,7 @@ class DiskTest(FilesCase):
                 self.expect(1, said, "decrypt --pass pass --save saved age out", name, {"WRITE": error, "AT": at + 1})
                 held = self.read("out") if self.is_there("out") else None
                 self.see(f"{name}: OUT", held == (PLAIN[:65536 * (at - 1)] if at > 1 else None))
-                self.see(f"{name}: nothing is left of a position", not self.is_there("saved") and not self.is_there("saved.new-0"))
+                self.see(f"{name}: nothing is left of a position", not self.is_there("saved") and not self.is_there("saved.new"))
 
     # ---- streams that aren't ready, aren't there, or are read and written elsewhere too
 
@@ -870,9 +867,9 @@ class DiskTest(FilesCase):
         for name, held in (("age", self.age), ("short", b"age-position/"), ("line", b"\n"), ("another", b"age-position/v2 1 ..\n")):
             self.write(name, held)
             ended = self.tool(*f"decrypt --no-clobber --pass pass --save {name} cut new".split())
-            wanted = WRITE + b"age_tool: can't write %s: %s\n" % (name.encode(), said)
+            wanted = unsaved(name, said.decode())
             self.see(f"{name} isn't replaced", (ended.returncode, ended.stderr) == (1, wanted), ended.stderr)
-            self.see(f"{name} is kept, and OUT isn't made", self.read(name) == held and not self.is_there("new") and not self.is_there(f"{name}.new-0"))
+            self.see(f"{name} is kept, and OUT isn't made", self.read(name) == held and not self.is_there("new") and not self.is_there(f"{name}.new"))
         self.write("empty", b"")
         for name in ("empty", "new-position"):
             self.expect(1, chunk_fault(2), f"decrypt --no-clobber --pass pass --save {name} cut {name}.part")
@@ -883,7 +880,7 @@ class DiskTest(FilesCase):
         resume = "resume --no-clobber --pass pass --position saved --save saved --old part cut again"
         self.expect(1, chunk_fault(2), resume)
         self.see("the position of this command is replaced", self.is_position("saved", 2))
-        self.expect(1, WRITE + reason("write empty", said.decode()), resume.replace("--save saved", "--save empty").replace("again", "third"))
+        self.expect(1, unsaved("empty", said.decode()), resume.replace("--save saved", "--save empty").replace("again", "third"))
         self.remove("part")
         self.expect(1, chunk_fault(2), "decrypt --pass pass --save short cut part")
         self.see("without --no-clobber any file is replaced", self.is_position("short", 2))

@@ -100,7 +100,7 @@ class FailingCallsTest(Case):
 
     def is_known(self, name, command):
         own = {"out", "log", command.saved} | {*self.kept} | {*command.files}
-        return name in own or bool(re.fullmatch(rf"(?:{command.saved}|out2|resumed|rest)(?:\.new-\d+)?", name))
+        return name in own or bool(re.fullmatch(rf"(?:{command.saved}|out2|resumed|rest)(?:\.new)?", name))
 
     def wrong_stop(self, command, numbers, advice):
         """What is wrong with what a stop left. Without a line standard error itself failed."""

@@ -94,7 +94,7 @@ MACHINE = (
     (27, "decrypt --pass pass plain.age folder", f"can't write folder: {FOLDER}"),
     (27, "decrypt --pass pass plain.age /dev/full", "can't write /dev/full: No space left on device"),
     (27, "decrypt --no-clobber --pass pass plain.age part", "part exists, and --no-clobber was given"),
-    (27, "decrypt --pass pass --save plain/saved plain.age back", "can't write plain/saved: Not a directory\nage_tool: no position was saved"),
+    (27, "decrypt --pass pass --save plain/saved plain.age back", "can't save the position to plain/saved: Not a directory\nage_tool: no position was saved"),
     (27, "decrypt --no-clobber --pass pass plain.age empty", "empty exists, and --no-clobber was given; it is empty: a run that was killed may have left it"),
 )
 
@@ -170,8 +170,10 @@ class MessagesTest(Case):
         known = {int(row["No."]) for row in tables((TOP / "docs" / "FAULTS.md").read_text()) if "No." in row}
         self.see("each fault", {it[0] for it in (*ROWS, *UNMADE, *MACHINE)} == known, known)
         for number, sentence, reason in UNMADE:
-            row, said = re.search(rf"^\| {number} \| .*$", page, re.M)[0], (TOP / "crates/age_hints/src/hints.rt").read_text()
-            self.see(f"FAULTS says to do the same after {number}", f'"{sentence}"' in said and sentence.partition(": ")[2] in row, reason)
+            row, said = re.search(rf"^\| {number} \| .*$", page, re.M)[0], (TOP / "crates/age_hints/src/sentences.rt").read_text()
+            what, _, to_do = sentence.partition(": ")
+            is_said = re.search(rf'"{re.escape(what)}",\s*"{re.escape(to_do)}"', said)
+            self.see(f"FAULTS says to do the same after {number}", is_said and to_do in row, reason)
 
     def test_answers(self):
         for number, words, said in MACHINE:

@@ -33,7 +33,7 @@ PLANTED = {
         ("docs/age_tool.1", "\\-\\-no\\-clobber", "\\-\\-no\\-slobber", "docs/age_tool.1: other options"),
         ("docs/age_tool.1", "1 to 65,536 bytes", "1 to 65,535 bytes", "docs/age_tool.1: PASSPHRASE_LIMIT"),
         ("docs/crates.svg", "<svg", "<svg id='a'", "crates.svg"),
-        ("crates/age_hints/src/hints.rt", "17 =>", "18 =>", "docs/FAULTS.md: row 18 hasn't the hint of the code"),
+        ("crates/age_hints/src/sentences.rt", "17 =>", "18 =>", "docs/FAULTS.md: row 18 hasn't the hint of the code"),
         ("crates/age_cli_args/src/help.rt", "One of --pass, --file-key", "One of --passing, --file-key", "names --passing"),
         ("crates/age_kdf/edits/all.edit", "old: ", "old: nothing of ", "an old text isn't in its file exactly once"),
         ("checks/promises", "age_kdf lib::hmac |", "age_kdf lib::hmac3 |", "checks/promises: HMAC is RFC 2104's: no age_kdf lib::hmac3"),

@@ -9,7 +9,8 @@ of them. On each state it tries what a user would do:
 - a position, or another file of the user's, that was there before is still there, and one that a run has saved is there once it ended;
 - a run that writes nothing, as with a wrong passphrase, leaves OUT as it was;
 - an OUT of `encrypt` that isn't whole is never read as another text;
-- the same command does the same once more.
+- a position that the temporary file beside it already holds is one from which `resume` completes;
+- the same command does the same once more, unless that file holds anything but blanks: then it says so, and leaves all as it is.
 
 A run with --no-sync passes if its states show each fault that a lost write can have: so the test can fail. Each run is a test.
 """
@@ -31,6 +32,8 @@ from tools import shim, workspace
 # Nothing has to reach a real disk.
 MEMORY = "/dev/shm" if os.access("/dev/shm", os.W_OK) else None
 BLOCK = 4096
+# What the temporary file beside the file of --save holds until it gets a position.
+BLANKS = b" " * 256
 CHUNK = 65536
 PLAIN = random.Random(1).randbytes(2 * CHUNK + 19000)
 OTHER = random.Random(2).randbytes(3 * CHUNK)
@@ -308,8 +311,13 @@ class Case(typing.NamedTuple):
         return self._replace(name=f"{self.name}, --no-sync", words=f"{self.words} --no-sync")
 
     def kept(self):
-        """What was there before and has to stay: all but the room that a stopped run left."""
-        return {name for name, held in self.before.items() if held != "room"}
+        """What was there before and has to stay: all but the temporary file that a killed run left."""
+        return {name for name, held in self.before.items() if held != "blanks"}
+
+    def temporary(self):
+        """The temporary file beside that of --save."""
+        name = self.word_after("--save")
+        return f"{name}.new" if name else None
 
     def faults_without_waiting(self):
         """What a power cut does to such a run."""
@@ -341,7 +349,8 @@ def cases():
         words = f"decrypt --save {save} --pass ../pass ../cut-2 out"
         yield Case(f"decrypt --save {save} over one, over its OUT, stopped", words, {"out": "old", save: "position"}, 1)
     words = "decrypt --save saved --pass ../pass ../cut-2 out"
-    yield Case("decrypt --save saved beside a room, stopped", words, {"saved.new-0": "room"}, 1)
+    yield Case("decrypt --save saved after a killed run, stopped", words, {"saved.new": "blanks"}, 1)
+    yield Case("decrypt --save saved over one after a killed run, stopped", words, {"saved": "position", "old": "old", "saved.new": "blanks"}, 1)
 
 
 def saving_cases(name, save, before, stopped):
@@ -363,7 +372,7 @@ class Room:
     def __init__(self, folder):
         self.folder = folder
         self.texts = {}
-        for name, held in {"pass": b"correct horse", "wrong": b"battery staple", "plain": PLAIN, "other": OTHER, "room": b" " * 256}.items():
+        for name, held in {"pass": b"correct horse", "wrong": b"battery staple", "plain": PLAIN, "other": OTHER, "blanks": BLANKS}.items():
             self.path(name).write_bytes(held)
         self.run(folder, "encrypt --pass pass --log 1 plain age")
         self.run(folder, "encrypt --pass pass --log 1 other other.age")
@@ -504,6 +513,9 @@ class Trial:
         for name in held:
             if name.endswith(("saved", "position")):
                 yield from self.position_faults(state, name)
+        made = held.get(case.temporary())
+        if made is not None and made == self.after.get(case.saved()) and self.room.resumed(state[case.temporary()], state.get("out")) != PLAIN:
+            yield REFUSED
         if case.can_be_repeated() and not self.is_repeated(held):
             yield UNREPEATED
 
@@ -526,8 +538,13 @@ class Trial:
             yield REFUSED
 
     def is_repeated(self, held):
-        """The same command ends as it did, and leaves what it left."""
+        """The same command ends as it did, and leaves what it left, once what may be somebody's is out of its way."""
         folder = self.room.laid_out(held)
+        if held.get(self.case.temporary(), BLANKS) != BLANKS:
+            ended = self.room.run(folder, f"{self.case.words} --no-sync")
+            if ended.returncode != 1 or b"remove or rename it" not in ended.stderr or held_in(folder) != held:
+                return False
+            (folder / self.case.temporary()).unlink()
         ended = self.room.run(folder, f"{self.case.words} --no-sync")
         left = held_in(folder)
         said, wanted = ended.stderr, self.ended.stderr

@@ -3,13 +3,14 @@ words that aren't UTF-8 or would forge a line, on a file and a pipe that are lon
 No contract sees the bytes of a real file, pipe or device. What a transcript can show is in tests/runs.d, and the report of a header
 from standard input is the stored run of crates/age_tool."""
 import os
+import random
 import re
 import resource
 import subprocess
 import time
 
-from tests.case import Case, twice, without_advice
-from tests.files import Feeding, FilesCase
+from tests.case import SECONDS, Case, twice, without_advice
+from tests.files import Feeding, FilesCase, waits_for
 from tools import terminal
 from tools.manual import sentence, tables
 from tools.workspace import TOP
@@ -233,9 +234,10 @@ class ProgramTest(Case):
         self.write("-holiday", b"all there is\n")
         for words in ("encrypt --pass pass -holiday out", "encrypt --pass pass plain -hout", "decrypt --pass -hx plain.age out", "-help", "inspect -hx"):
             word = next(it for it in words.split() if it.startswith("-h"))
-            tip = f"age_tool: unexpected argument '{word}'\n\n  tip: write --help for help, and './{word}' for a file of that name\n"
+            more = ", and ./-holiday for the file of that name" if word == "-holiday" else ""
+            said = f"age_tool: unexpected argument '{word}'\n\n  tip: write --help for help{more}\n"
             ended = self.tool(*words.split())
-            self.see(words, (ended.returncode, ended.stdout, ended.stderr.decode()) == (2, b"", tip) and not self.path("out").exists(), ended.stderr)
+            self.see(words, (ended.returncode, ended.stdout, ended.stderr.decode()) == (2, b"", said) and not self.path("out").exists(), ended.stderr)
         self.see("with ./", self.tool(*"encrypt --pass pass ./-holiday out".split()).returncode == 0)
         self.see("after --", self.tool(*"inspect -- -holiday".split()).stderr.startswith(b"age_tool: 1 NotAge"))
         self.see("help itself", self.tool("encrypt", "-h").stdout == self.tool("encrypt", "--help").stdout != b"")
@@ -263,7 +265,7 @@ class ProgramTest(Case):
             ("encrypt -R all plain back", "for recipients (a release's Python module): python3 -m agefile encrypt --recipients-file FILE IN OUT"),
             ("encrypt --armor plain back", "age_tool doesn't do armor: leave it out"), ("encrypt -f plain back", "without --no-clobber an existing OUT is overwritten"),
             ("-v", "--progress shows how far a run is, and age_tool --version the version"), ("decrypt --pass pass plain.age cut.age back", "a command takes one IN and one OUT at a time"),
-            ("encrypt --log -1 plain back", "write ./ before a name that begins with a dash"), ("decrypt --passs pass plain.age back", "a similar argument exists: '--pass'"),
+            ("encrypt --log -1 plain back", "no such option: age_tool encrypt --help lists them"), ("decrypt --passs pass plain.age back", "a similar option exists: '--pass'"),
             ("decrypt -q --pass pass plain.age back", "leave it out: without --progress a run that succeeds says little"),
             ("encrypt --overwrite plain back", "without --no-clobber an existing OUT is overwritten"),
         ):
@@ -272,21 +274,79 @@ class ProgramTest(Case):
             usage = re.search(rb"\n\nUsage: age_tool .*\n(?: {7}.*\n)?\nFor more information, try '--help'\.\n$", ended.stderr)
             self.see(words, (ended.returncode, tips) == (2, [hint.encode()]) and usage, ended.stderr)
 
+    def test_options_of_other_commands(self):
+        """An option that another command has says so, one that none has where they are listed, and a name that begins with a dash how to write it."""
+        for name in ("-dash", "--log", "-a b", "-o"):
+            self.write(name, b"")
+        keys, listed = "encrypt, decrypt, resume and drill", "no such option: age_tool {} --help lists them".format
+        for words, hint in (
+            ("decrypt --max-log 3 --random r plain.age back", "--random is an option of encrypt"), ("encrypt --max-log=9 plain back", "--max-log is an option of decrypt and resume"),
+            ("inspect --pass pass plain.age", f"--pass is an option of {keys}"), ("--pass pass plain.age back", f"--pass is an option of {keys}"),
+            ("drill --clear script plain --old part", "--old is an option of resume"), ("encrypt --clear plain back", "--clear is an option of drill"),
+            ("encrypt --xyzzy plain back", listed("encrypt")), ("inspect -z plain.age", listed("inspect")), ("resume --xyzzy=1", listed("resume")),
+            ("--xyzzy", "no such option: age_tool --help lists the commands"), ("decrypt --pass pass -none back", listed("decrypt")),
+            ("decrypt --pass pass -dash back", "write ./-dash for the file of that name"), ("decrypt --pass -dash plain.age back", "write ./-dash for the file of that name"),
+            ("inspect --log", "write ./--log for the file of that name"), ("inspect --log=3", "--log is an option of encrypt"), ("inspect -o", "write ./-o for the file of that name"),
+            ("inspect -p", "the passphrase is read from a file: --pass FILE"),
+        ):
+            ended = self.tool(*words.split())
+            self.see(words, (ended.returncode, re.findall(rb"(?m)^  tip: (.*)$", ended.stderr)) == (2, [hint.encode()]), ended.stderr)
+        ended = self.tool("inspect", "-a b")
+        self.see("a name with a blank", b"  tip: write ./'-a b' for the file of that name\n" in ended.stderr, ended.stderr)
+        self.write("IN", self.age)
+        ended = self.decrypt("IN", "-new")
+        self.see("a file that is to be made", b"--help lists them" in ended.stderr and not self.is_there("-new"), ended.stderr)
+
     def test_commands_of_others(self):
         """A word in the place of the command gets a tip, or the list of the commands, which is that of `--help`."""
         listed = self.tool("--help").stdout.decode().partition("\nCommands:\n")[2].partition("\n\n")[0]
         *commands, last = re.findall(r"(?m)^  (\w+) ", listed)
         known = f"the commands are {', '.join(commands)} and {last}"
-        for words, hint in (
-            ("verify plain.age", "age_tool decrypt --pass FILE IN /dev/null checks all of IN"), ("test plain.age", "age_tool decrypt --pass FILE IN /dev/null checks all of IN"),
-            ("ls plain.age", "age_tool inspect FILE shows its header"), ("restore plain.age back", "age_tool decrypt --pass FILE IN OUT decrypts"),
-            ("keygen", "age_tool makes no keys; age-keygen does"), ("version", "the version is shown by age_tool --version"), ("plain.age", known), ("help x", known),
-            ("help 32", known), ("encrpt", "some similar subcommands exist: 'decrypt', 'encrypt'"),
+        last_fault = max(int(it["No."]) for it in tables((TOP / "docs" / "FAULTS.md").read_text()) if "No." in it)
+        for words, what, hint in (
+            ("verify plain.age", "no such command: 'verify'", "age_tool decrypt --pass FILE IN /dev/null checks all of IN"),
+            ("test plain.age", "no such command: 'test'", "age_tool decrypt --pass FILE IN /dev/null checks all of IN"),
+            ("ls plain.age", "no such command: 'ls'", "age_tool inspect FILE shows its header"), ("keygen", "no such command: 'keygen'", "age_tool makes no keys; age-keygen does"),
+            ("restore plain.age back", "no such command: 'restore'", "age_tool decrypt --pass FILE IN OUT decrypts"),
+            ("version", "no such command: 'version'", "the version is shown by age_tool --version"), ("plain.age", "no such command: 'plain.age'", known),
+            ("help x", "no such command: 'x'", known), ("17", "no such command: '17'", known), ("--", "no command is given", known), ("-", "no such command: '-'", known),
+            ("encrpt", "no such command: 'encrpt'", "a similar command exists: 'encrypt'"), ("help inspct", "no such command: 'inspct'", "a similar command exists: 'inspect'"),
+            *((f"help {it}", f"no such fault: '{it}'", f"the faults are 1 to {last_fault}") for it in (0, last_fault + 1, 99, 256, 300)),
+            ("help 17 18", "unexpected argument '18'", "help takes one command or fault"), ("help drill x", "unexpected argument 'x'", "help takes one command or fault"),
         ):
             ended = self.tool(*words.split())
-            word = words.removeprefix("help ").split()[0]
-            said = f"age_tool: no such command: '{word}'\n\n  tip: {hint}\n\nUsage: age_tool [COMMAND]\n\nFor more information, try '--help'.\n"
+            said = f"age_tool: {what}\n\n  tip: {hint}\n\nUsage: age_tool [COMMAND]\n\nFor more information, try '--help'.\n"
             self.see(words, (ended.returncode, ended.stderr.decode()) == (2, said), ended.stderr)
+
+    def test_values_of_options(self):
+        for words, what in (
+            ("decrypt --pass", "a value is required for '--pass <FILE>' but none was supplied"), ("encrypt --pass pass --log= plain back", "a value is required for '--log <N>' but none was supplied"),
+            ("encrypt --pass pass --log 40 plain back", "invalid value '40' for '--log <N>': not a number from 1 to 22"),
+            ("decrypt --log=x --max-log 0 plain.age back", "unexpected argument '--log'"), ("decrypt --max-log 0 plain.age back", "invalid value '0' for '--max-log <N>': not a number from 1 to 22"),
+            ("decrypt --no-sync=x --pass pass plain.age back", "unexpected value 'x' for '--no-sync'"),
+            ("decrypt --pass pass --pass=pass plain.age back", "the argument '--pass <FILE>' cannot be used multiple times"),
+            ("encrypt --progress --pass pass --progress plain back", "the argument '--progress' cannot be used multiple times"),
+            ("decrypt --pass - plain.age back more", "unexpected argument 'more'"), ("inspect -- -x -y", "unexpected argument '-y'"),
+        ):
+            ended = self.tool(*words.split())
+            first, _, rest = ended.stderr.decode().partition("\n")
+            self.see(words, (ended.returncode, first) == (2, f"age_tool: {what}"), ended.stderr)
+            self.see(f"the usage after {words}", ("\nUsage: " in rest) != what.startswith(("invalid value", "a value is")), ended.stderr)
+
+    def test_refusals_are_found(self):
+        """The word that the parser refuses is found again, whatever the words are: no line says what is wrong without it."""
+        chance = random.Random(7)
+        words = [*"encrypt decrypt resume inspect drill help".split(), *"--pass --log --log=3 --max-log --save --position --old --clear --no-sync --progress=1 -x --xyzzy".split(),
+                 *"-- - a --log=40 --pass= --shared=s --file-key 22 0 --no-clobber".split()]
+        found = re.compile(
+            rb"age_tool: (?:no such (?:command|fault): '|unexpected (?:argument|value) '|invalid value '.*' for '--|a value is required for '--"
+            rb"|the argument '--.*' cannot|these arguments are missing:\n  |no command is given)"
+        )
+        for _ in range(300):
+            given = [chance.choice(words[:6]), *chance.choices(words, k=chance.randrange(8))]
+            ended = self.tool(*given)
+            is_refused = ended.returncode == 2 and b"\nFor more information, try '--help'.\n" in ended.stderr
+            self.see(given, not is_refused or found.match(ended.stderr), ended.stderr)
 
     def test_missing_arguments(self):
         """All of them are named at once, also what opens a file, of which the command needs one of several."""
@@ -410,7 +470,7 @@ class ProgramTest(Case):
             self.remove("new")
             lines = b"".join(it for it in ended.stderr.splitlines(keepends=True) if b"%" not in it)
             self.see(f"an old output of {chunks} chunks, {option}", (ended.returncode, lines) == (0, said), ended.stderr)
-        ended = self.decrypt("--no-sync", "--save", "/dev/full", "cut.age", "back")
+        ended = self.unsaved()
         self.see("a position that can't be saved", ended.returncode == 1 and b"no position was saved" not in ended.advice, ended.advice)
 
     def test_hints_of_names(self):
@@ -474,9 +534,6 @@ class ProgramTest(Case):
         with open(self.path("pass"), "rb") as word:
             ended = self.tool(*"decrypt --pass /proc/self/fd/0 --save position cut.age part".split(), stdin=word)
         self.see("the passphrase of a descriptor", ended.advice.endswith(command % b"--pass FILE cut.age"), ended.advice)
-        ended = self.decrypt("--save", "/dev/null", "cut.age", "part")
-        told = said.replace(b"saved in position", b"saved in /dev/null").replace(b"--position position", b"--position POSITION")
-        self.see("a position that a device took", ended.advice.endswith(told), ended.advice)
         with open(self.path("copy"), "wb") as out:
             ended = self.decrypt("--save=position", "cut.age", "/dev/fd/1", stdout=out)
         self.see("whose old output is that of a descriptor", ended.advice.endswith(said.replace(b"part", b"OLD")), ended.advice)
@@ -488,12 +545,25 @@ class ProgramTest(Case):
         ended = self.decrypt("cut.age", "part")
         self.see("none was asked for", b"position" not in ended.advice, ended.advice)
 
+    def unsaved(self):
+        """A decryption that stops, and whose position can't be saved, since its file was made meanwhile."""
+        self.remove("part", "taken")
+        words = "decrypt --no-sync --pass pass --save taken /dev/stdin part"
+        run = subprocess.Popen([self.program, *words.split()], cwd=self.room, stdin=subprocess.PIPE, stderr=subprocess.PIPE)
+        run.stdin.write(self.age[:150_000])
+        run.stdin.flush()
+        waits_for(lambda: self.is_there("part") and self.path("part").stat().st_size >= 131_072)
+        self.write("taken", b"")
+        ended = subprocess.CompletedProcess(words, 1, b"", run.communicate(timeout=SECONDS)[1])
+        ended.returncode, (ended.stderr, ended.advice) = run.returncode, without_advice(ended.stderr)
+        return ended
+
     def test_position_that_is_printed(self):
         """One that can't be saved is printed as a command of a shell, which puts it into a file from which a run goes on."""
         self.write("cut.age", self.age[:150_000])
         self.decrypt("--save", "position", "cut.age", "part")
         wanted = self.read("position")
-        ended = self.decrypt("--save", "/dev/full", "cut.age", "part")
+        ended = self.unsaved()
         command = re.search(rb"(?m)^age_tool: to save the position elsewhere: (.*) > FILE$", ended.advice)
         self.see("it is printed, and no more is said", command and ended.advice.count(b"\n") == 2 and ended.advice.endswith(b"> FILE\n"), ended.advice)
         for shell in ("bash", "dash"):

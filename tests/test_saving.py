@@ -1,26 +1,22 @@
 """Runs the built program in places where a careless one loses a position, or another file for it: names that change while it runs,
 folders and file systems that refuse a new file, an OUT that holds less than was written to it."""
-import contextlib
 import errno
 import fcntl
 import os
-import pathlib
 import random
 import signal
 import stat
 import subprocess
 
-from tests.case import SECONDS, needs, twice
-from tests.files import LOCKED, NOBODY, PLAIN, WRITE, Feeding, FilesCase
-from tests.files import as_nobody, chunk_fault, reason, unsaved, unsynced, unwritten, waits_for
+from tests.case import needs
+from tests.files import IN_THE_WAY, LOCKED, NO_FILE, NOBODY, OWN, PLAIN, WRITE, Feeding, FilesCase
+from tests.files import as_nobody, beside, chunk_fault, unsaved, unsynced, unwritten
 from tests.test_runs import feed
 from tools import shim
 
-USED = "this run uses the file"
 MOVED = "its folder has changed"
-NO_FILE = "it is no file any more"
 MADE = "another program made it meanwhile"
-SAME = b"age_tool: same file named twice\nage_tool: saved is another file of this command too\n"
+BLANKS = b" " * 256
 
 
 class SavingTest(FilesCase):
@@ -30,45 +26,51 @@ class SavingTest(FilesCase):
 
     def test_changing_links(self):
         """A file of `--save` that changes while the run goes on costs no other file."""
-        held = self.read("pass")
-        for first in (None, b"an old position"):
-            for leads_to in ("pass", "out", "plain"):
-                name = f"saved became a link to {leads_to}, {first}"
-                self.remove("saved")
-                if first:
-                    self.write("saved", first)
-                feeding = Feeding(self)
-                self.remove("saved")
-                os.symlink(leads_to, self.path("saved"))
-                feeding.stops(name, chunk_fault(2))
-                self.see(f"{name}: a position", not self.path("saved").is_symlink() and self.is_position("saved", 2))
-                self.see(f"{name}: kept", self.read("pass") == held and self.read("out") == PLAIN[:131072] and self.read("plain") == PLAIN)
-        for other in ("pass", "out"):
-            self.remove("saved")
-            feeding = Feeding(self)
-            os.link(self.path(other), self.path("saved"))
-            feeding.stops(f"saved became {other}", chunk_fault(2) + unsaved("saved", USED))
-            self.see(f"saved became {other}: kept", self.read("pass") == held and self.read("out") == PLAIN[:131072])
+        held, old = self.read("pass"), b"an old position"
+        for first in (None, old):
+            for leads_to in ("pass", "out", "plain", "nothing"):
+                for name, make in (("a link", os.symlink), ("a second name", os.link)):
+                    if (name, leads_to) == ("a second name", "nothing"):
+                        continue
+                    name = f"saved became {name} of {leads_to}, {first}"
+                    self.remove("saved")
+                    if first:
+                        self.write("saved", first)
+                    feeding = Feeding(self)
+                    self.remove("saved")
+                    make(self.path(leads_to), self.path("saved"))
+                    now = self.path("saved").lstat()
+                    feeding.stops(name, chunk_fault(2) + unsaved("saved", MADE))
+                    self.see(f"{name}: it stays", self.path("saved").lstat().st_ino == now.st_ino and not self.is_there("nothing"))
+                    self.see(f"{name}: kept", self.read("pass") == held and self.read("out") == PLAIN[:131072] and self.read("plain") == PLAIN)
         self.remove("saved")
         os.symlink("target", self.path("saved"))
         feeding = Feeding(self)
+        self.see("saved is a link: the temporary file", self.read("target.new") == BLANKS and not self.is_there("saved.new"))
         os.symlink("pass", self.path("target"))
-        feeding.stops("the target became a link", chunk_fault(2))
-        self.see("the target became a link: a position", self.path("saved").is_symlink() and self.is_position("target", 2))
-        self.see("the target became a link: kept", not self.path("target").is_symlink() and self.read("pass") == held)
+        feeding.stops("the target became a link", chunk_fault(2) + unsaved("saved", MADE))
+        self.see("the target became a link: kept", self.path("target").is_symlink() and self.read("pass") == held)
+        self.remove("target")
+        self.expect(1, chunk_fault(2), "decrypt --pass pass --save saved cut out", "saved is a link")
+        self.see("saved is a link: a position", self.path("saved").is_symlink() and self.is_position("target", 2))
         self.remove("saved", "target")
         feeding = Feeding(self)
         os.mkdir(self.path("saved"))
-        feeding.stops("saved became a folder", chunk_fault(2) + unsaved("saved", NO_FILE))
+        feeding.stops("saved became a folder", chunk_fault(2) + unsaved("saved", MADE))
         self.path("saved").rmdir()
-        for first in (None, b"an old position"):
+        for first in (None, old, b"another file"):
             if first:
-                self.write("saved", first)
+                self.write("saved", old)
             feeding = Feeding(self)
             self.remove("saved")
-            os.mkfifo(self.path("saved"))
-            feeding.stops(f"saved became a pipe, {first}", chunk_fault(2) + unsaved("saved", NO_FILE))
+            os.mkfifo(self.path("saved")) if first != b"another file" else self.write("saved", first)
+            feeding.stops(f"saved became a pipe or a file, {first}", chunk_fault(2) + unsaved("saved", MADE))
             self.remove("saved")
+        self.write("saved", old)
+        feeding = Feeding(self)
+        self.remove("saved")
+        feeding.stops("saved was removed", chunk_fault(2))
+        self.see("saved was removed: a position", self.is_position("saved", 2))
         os.mkdir(self.path("folder"))
         os.mkdir(self.path("other"))
         self.write("other/place", b"somebody's file")
@@ -82,12 +84,9 @@ class SavingTest(FilesCase):
     def test_links_at_the_last_moment(self):
         """The same, between two calls of the program."""
         self.write("saved", b"an old position")
-        feeding = Feeding(self, env=shim.loaded(PIPED=2))
-        self.remove("saved")
-        self.write("saved", b"another file")
-        with open(self.path("saved"), "rb"):
-            # (open, so that the pipe isn't the same inode)
-            feeding.stops("another saved becomes a pipe at the last moment", chunk_fault(2) + unsaved("saved", errno.ENOENT))
+        said = unsaved("saved", LOCKED)
+        self.expect(1, said, "decrypt --pass pass --save saved cut new", "saved becomes a pipe as it is opened", {"PIPED": 1})
+        self.see("saved becomes a pipe as it is opened: nothing was begun", not self.is_there("new") and not self.is_there("saved.new"))
         self.remove("saved")
         self.path("folder").mkdir()
         self.path("other").mkdir()
@@ -101,6 +100,7 @@ class SavingTest(FilesCase):
             self.see(f"{name}: kept", self.read("other/place") == b"somebody's file" and os.listdir(self.path("other")) == ["place"])
             self.path("folder").unlink()
             os.rename(self.path("moved"), self.path("folder"))
+            self.remove("folder/place.new")
 
     @needs("cc")
     def test_turned_link(self):
@@ -109,14 +109,14 @@ class SavingTest(FilesCase):
         for leads_to in ("pass", "cut"):
             name = f"saved comes to lead to {leads_to}"
             self.write("saved", b"an old position")
-            self.expect(2, SAME, "decrypt --pass pass --save saved cut new", name, {"TURNED": leads_to})
+            self.expect(2, beside("saved"), "decrypt --pass pass --save saved cut new", name, {"TURNED": leads_to})
             self.see(f"{name}: kept", self.read("pass") == held and self.read("cut") == self.age[:150000] and not self.is_there("new"))
 
     def test_two_saves(self):
         """Two runs don't save into one file."""
         self.write("saved", b"an old position")
         feeding = Feeding(self)
-        self.expect(1, unwritten("saved", LOCKED), "decrypt --pass pass --save saved cut new", "a second run with the file of --save")
+        self.expect(1, unsaved("saved", LOCKED), "decrypt --pass pass --save saved cut new", "a second run with the file of --save")
         self.see("a second run with the file of --save: nothing was begun", not self.is_there("new") and self.read("saved") == b"an old position")
         feeding.stops("the first run with the file of --save", chunk_fault(2))
         self.see("the first run with the file of --save: its position", self.is_position("saved", 2))
@@ -128,21 +128,24 @@ class SavingTest(FilesCase):
         self.write("saved", b"an old position")
         self.write("another", b"that run's position")
         name = "the file of --save is replaced before it is locked"
-        self.expect(1, unwritten("saved", LOCKED), "decrypt --pass pass --save saved cut new", name, {"REPLACED": 1})
+        self.expect(1, unsaved("saved", LOCKED), "decrypt --pass pass --save saved cut new", name, {"REPLACED": 1})
         self.see(f"{name}: nothing was begun", not self.is_there("new") and self.read("saved") == b"that run's position")
-        self.see(f"{name}: nothing is left beside it", not list(self.room.glob("saved.new-*")))
+        self.see(f"{name}: nothing is left beside it", not self.is_there("saved.new"))
 
     @needs("cc")
     def test_two_new_saves(self):
-        """Of two runs that save into one file that wasn't there, the second to stop is refused, and the first one's position stays."""
-        for name, failing in (("two new positions", {}), ("two new positions without links", {"LINK": errno.EPERM})):
+        """Of two runs that save into one file that isn't there yet, the second is refused; and a file that comes meanwhile stays."""
+        for name, failing in (("new positions", {}), ("new positions without links", {"LINK": errno.EPERM})):
             self.remove("saved", "new")
             feeding = Feeding(self, env=shim.loaded(**failing))
-            self.write("shorter", self.age[:100000])
-            self.expect(1, chunk_fault(1), "decrypt --pass pass --save saved shorter new", f"{name}: the first to stop", failing)
-            feeding.stops(f"{name}: the second to stop", chunk_fault(2) + unsaved("saved", MADE))
-            self.see(f"{name}: the first one's", self.is_position("saved", 1))
-            self.see(f"{name}: nothing is left beside it", not list(self.room.glob("saved.new-*")))
+            self.expect(1, unsaved("saved", LOCKED), "decrypt --pass pass --save saved cut new", f"{name}: a second run", failing)
+            self.see(f"{name}: nothing was begun", not self.is_there("new") and self.read("saved.new") == BLANKS)
+            self.write("saved", b"somebody's file")
+            feeding.stops(f"{name}: a file came meanwhile", chunk_fault(2) + unsaved("saved", MADE))
+            self.see(f"{name}: it stays", self.read("saved") == b"somebody's file" and not self.is_there("saved.new"))
+            self.remove("saved")
+            self.expect(1, chunk_fault(2), "decrypt --pass pass --save saved cut new", f"{name}: one that stops", failing)
+            self.see(f"{name}: a position", self.is_position("saved", 2) and not self.is_there("saved.new"))
 
     # ---- what OUT holds for certain
 
@@ -226,7 +229,7 @@ class SavingTest(FilesCase):
             ended = self.tool(*words.split())
             self.see(name, (ended.returncode, ended.stderr) == (1, chunk_fault(0)), ended.stderr)
             self.see(f"{name}: said", ended.advice.endswith(b"age_tool: no position was saved\n"), ended.advice)
-            self.see(f"{name}: as it was", self.read("saved") == held and os.listdir(self.room).count("saved.new-0") == 0)
+            self.see(f"{name}: as it was", self.read("saved") == held and not self.is_there("saved.new"))
         self.remove("saved")
         os.symlink("nothing", self.path("saved"))
         self.expect(1, chunk_fault(0), words, "a link to nothing")
@@ -272,229 +275,278 @@ class SavingTest(FilesCase):
             feeding.stops("standard output's file was cut off", chunk_fault(2))
         self.see("standard output's file was cut off: a position within it", self.is_position("saved", 1), self.read("saved"))
 
-    # ---- room for a position
+    # ---- the temporary file
 
-    def test_room(self):
-        """A place where no position can be saved is refused before OUT is touched, and the room for one goes with the run."""
-        folder = self.path("folder")
-        folder.mkdir()
-        folder.chmod(0o555)
-        said = WRITE + reason("create folder/saved", errno.EACCES)
-        words = ["decrypt", "--pass", "pass", "--save", "folder/saved", "cut", "new"]
-        self.expect(1, said, words, "a folder without permission", **as_nobody())
-        self.see("a folder without permission: nothing was begun", not self.is_there("new"))
-        folder.chmod(0o755)
+    def test_temporary_file(self):
+        """There is one while a run goes on, which is its owner's, and none after it, however it ends."""
         feeding = Feeding(self)
-        room = self.path("saved.new-0")
-        self.see("there is room while a run goes on", room.stat().st_size == 256 and self.mode("saved.new-0") == 0o600)
+        self.see("while a run goes on", self.read("saved.new") == BLANKS and self.mode("saved.new") == 0o600)
         feeding.input.write(self.age[140000:])
         feeding.input.close()
         self.ends("a run that ends well", feeding.run, 0, b"")
-        self.see("a run that ends well: no room is left", os.listdir(folder) == [] and not self.is_there("saved.new-0") and not self.is_there("saved"))
-        self.write("wrong", b"another passphrase\n")
-        self.expect(1, b"age_tool: 13 WrongKey\n", "decrypt --pass wrong --save saved age new", "a wrong passphrase")
-        self.see("a wrong passphrase: no room is left", not self.is_there("saved.new-0"))
-        said = twice("saved", "saved.new-0")
-        self.expect(2, said, "decrypt --pass pass --save saved age saved.new-0", "OUT is the room for the position")
-        self.see("OUT is the room for the position: it is gone", not self.is_there("saved.new-0"))
+        self.see("a run that ends well: what is left", self.names() == {"pass", "plain", "age", "cut", "in", "out"}, self.names())
         feeding = Feeding(self)
-        self.remove("saved.new-0")
-        feeding.stops("the room was removed meanwhile", chunk_fault(2))
-        self.see("the room was removed meanwhile: a position", self.is_position("saved", 2))
-
-    def rooms(self):
-        return {it.name: it.lstat().st_ino for it in self.room.glob("saved.new-*")}
-
-    def kill(self, *feeding):
-        for it in feeding:
-            it.run.kill()
-            it.input.close()
-            self.ends("a run that is killed", it.run, -signal.SIGKILL, b"")
-
-    def test_left_rooms(self):
-        """The room that a killed run left is used again, and not that of a run that goes on."""
-        for turn in range(3):
-            feeding = Feeding(self)
-            self.see(f"{turn} runs were killed: the room", [*self.rooms()] == ["saved.new-0"] and self.read("saved.new-0") == b" " * 256, self.rooms())
-            self.kill(feeding)
-        first = Feeding(self)
-        held = self.rooms()
-        second = Feeding(self)
-        self.see("two runs: each has its own", sorted(self.rooms()) == ["saved.new-0", "saved.new-1"] and held.items() <= self.rooms().items(), self.rooms())
-        held = self.rooms()
-        self.kill(first)
-        third = Feeding(self)
-        now = self.rooms()
-        self.see("a third: that of the one that was killed", now.keys() == held.keys() and now["saved.new-1"] == held["saved.new-1"], held, now)
-        self.kill(second)
-        third.stops("a third: its position", chunk_fault(2))
-        self.see("a third: its position", self.is_position("saved", 2))
-        self.see("a third: what is left", [*self.rooms()] == ["saved.new-1"], self.rooms())
-
-    def stays(self, name, **more):
-        """Saves a position, and counts whether what is where its room would be stays as it is."""
-        room = self.path("saved.new-0")
-        held, was = room.lstat(), room.read_bytes() if room.is_file() else None
+        self.remove("saved.new")
+        feeding.stops("it was removed meanwhile", chunk_fault(2))
+        self.see("it was removed meanwhile: a position", self.is_position("saved", 2))
         self.remove("saved")
-        self.expect(1, chunk_fault(2), "decrypt --pass pass --save saved cut out", name, **more)
-        now = room.lstat()
-        same = [getattr(held, it) == getattr(now, it) for it in ("st_ino", "st_mode", "st_nlink", "st_size", "st_mtime_ns", "st_ctime_ns")]
-        self.see(f"{name}: it stays", all(same) and (was is None or room.read_bytes() == was), held, now)
-        self.see(f"{name}: a position", self.is_position("saved", 2) and [*self.rooms()] == ["saved.new-0"])
+        feeding = Feeding(self)
+        self.remove("saved.new")
+        self.write("saved.new", b"somebody's file")
+        feeding.stops("another took its place", chunk_fault(2) + unsaved("saved", IN_THE_WAY))
+        self.see("another took its place: it stays", self.read("saved.new") == b"somebody's file" and not self.is_there("saved"))
 
-    def test_no_room(self):
-        """What isn't known to be a room that a stopped run left stays."""
-        room, blanks = self.path("saved.new-0"), b" " * 256
-        for held in (b"", blanks[1:], blanks + b" ", blanks[1:] + b"\n", b"\0" * 256, b"age-position/v2 1 0 " + b"1" * 236):
-            self.write("saved.new-0", held)
+    def names(self):
+        return set(os.listdir(self.room))
+
+    def test_what_is_left(self):
+        """What is in the folder after each end."""
+        self.write("wrong", b"another passphrase\n")
+        self.write("first", self.age[:400] + bytes([self.age[400] ^ 1]) + self.age[401:])
+        self.expect(1, chunk_fault(2), "decrypt --pass pass --save position cut old", "a stop")
+        self.expect(1, chunk_fault(0), "decrypt --pass pass --save start first nothing", "a stop at once")
+        self.path("folder").mkdir()
+        before = self.names()
+        resume = "resume --pass pass --position position --old old --save saved"
+        for status, faults, words, more in (
+            (0, b"", "decrypt --pass pass --save saved age out", {"out"}),
+            (0, b"", f"{resume} age out", {"out"}),
+            (0, b"", "resume --pass pass --position position --old old --save position age out", {"out"}),
+            (1, chunk_fault(2), "decrypt --pass pass --save saved cut out", {"out", "saved"}),
+            (1, chunk_fault(2), f"{resume} cut out", {"out", "saved"}),
+            (1, chunk_fault(2), "resume --pass pass --position position --old old --save position cut out", {"out"}),
+            (1, chunk_fault(0), "decrypt --pass pass --save saved first out", {"saved"}),
+            (1, chunk_fault(0), "decrypt --pass pass --save position first out", set()),
+            (1, b"age_tool: 13 WrongKey\n", "decrypt --pass wrong --save saved age out", set()),
+            (1, b"age_tool: 13 WrongKey\n", "decrypt --pass wrong --save position age out", set()),
+            (1, unwritten("folder", errno.EISDIR), "decrypt --pass pass --save saved age folder", set()),
+            (1, unsaved("folder", NO_FILE), "decrypt --pass pass --save folder age out", set()),
+            (2, beside("saved"), "decrypt --pass pass --save saved age saved.new", set()),
+            (2, beside("saved"), "decrypt --no-clobber --pass pass --save saved age saved.new", set()),
+            (2, beside("saved"), "decrypt --pass pass --save saved age ./folder/../saved.new", set()),
+            (2, beside("saved"), "resume --pass pass --position start --old saved.new --save saved age out", set()),
+        ):
+            self.expect(status, faults, words)
+            self.see(f"{words}: what is left", self.names() == before | more, self.names() ^ before)
+            self.remove("out", "saved")
+
+    def test_named_twice(self):
+        """A file of the command that is where the temporary one would be is refused, and stays as it is; so does anybody's note there."""
+        self.expect(1, chunk_fault(2), "decrypt --pass pass --save position cut old", "a stop")
+        resume = "resume --pass pass --position position --old old"
+        for name, of, words in (
+            ("the passphrase", "pass", "decrypt --pass saved.new --save saved age out"),
+            ("IN", "age", "decrypt --pass pass --save saved saved.new out"),
+            ("OUT", "plain", "decrypt --pass pass --save saved age saved.new"),
+            ("the position", "position", "resume --pass pass --position saved.new --old old --save saved cut out"),
+            ("the old output", "old", "resume --pass pass --position position --old saved.new --save saved cut out"),
+            ("the passphrase of a resumed run", "pass", "resume --pass saved.new --position position --old old --save saved cut out"),
+            ("IN of a resumed run", "cut", f"{resume} --save saved saved.new out"),
+            ("OUT of a resumed run", "plain", f"{resume} --save saved cut saved.new"),
+        ):
+            for how, make in (("it", lambda of, to: self.write("saved.new", self.read(of))), ("a second name", os.link), ("a link", os.symlink)):
+                self.remove("saved.new")
+                make(self.path(of), self.path("saved.new"))
+                held, now = self.read(of), self.path("saved.new").lstat()
+                self.expect(2, beside("saved"), words, f"{name}, {how}")
+                self.see(f"{name}, {how}: it stays", self.read("saved.new") == held and self.is_unchanged(now), held)
+                self.see(f"{name}, {how}: nothing was begun", not self.is_there("saved") and not self.is_there("out"))
+            # What a killed run would leave is still that of the command.
+            self.remove("saved.new")
+            self.write("saved.new", BLANKS)
+            now = self.path("saved.new").lstat()
+            ended = self.tool(*words.split())
+            # (of what is read it may be said first that it is no position, or no age file)
+            self.see(f"{name}, blanks: refused", ended.returncode == 2 or (name[:3] != "OUT" and ended.returncode == 1), ended)
+            self.see(f"{name}, blanks: it stays", self.read("saved.new") == BLANKS and self.is_unchanged(now))
+        with open(self.path("saved.new"), "wb") as errors:
+            self.expect(2, b"", "decrypt --pass pass --save saved age out", "standard error", stderr=errors)
+        self.see("standard error: the message", self.read("saved.new") == beside("saved"))
+
+    def is_unchanged(self, was):
+        now = self.path("saved.new").lstat()
+        return all(getattr(was, it) == getattr(now, it) for it in ("st_ino", "st_mode", "st_nlink", "st_size", "st_mtime_ns", "st_ctime_ns"))
+
+    def stays(self, name, said=IN_THE_WAY, **more):
+        """Counts whether a run is refused before it begins, and what is where its temporary file would be stays as it is."""
+        path = self.path("saved.new")
+        was, held = path.lstat(), path.read_bytes() if path.is_file() else None
+        self.expect(1, unsaved("saved", said), "decrypt --pass pass --save saved cut new", name, **more)
+        self.see(f"{name}: it stays", self.is_unchanged(was) and (held is None or path.read_bytes() == held))
+        self.see(f"{name}: nothing was begun", not self.is_there("saved") and not self.is_there("new"))
+
+    def test_in_the_way(self):
+        """What isn't known to be a file that a killed run left stays."""
+        path = self.path("saved.new")
+        for held in (b"", BLANKS[1:], BLANKS + b" ", BLANKS[1:] + b"\n", b"\0" * 256, b"age-position/v2 1 0 " + b"1" * 236, b"a note\n"):
+            self.write("saved.new", held)
             self.stays(f"a file of {held[-3:]}")
-        self.write("other", blanks)
+        self.write("other", BLANKS)
         for name, make in (("a second name", os.link), ("a link", os.symlink)):
-            self.remove("saved.new-0")
-            make(self.path("other"), room)
+            self.remove("saved.new")
+            make(self.path("other"), path)
             self.stays(name)
-        self.remove("saved.new-0")
-        os.mkfifo(room)
+        self.remove("saved.new")
+        os.mkfifo(path)
         self.stays("a pipe")
-        self.remove("saved.new-0")
-        room.mkdir()
+        self.remove("saved.new")
+        path.mkdir()
         self.stays("a folder")
-        room.rmdir()
-        self.write("saved.new-0", blanks)
-        with open(room, "rb") as locked:
+        path.rmdir()
+        self.write("saved.new", BLANKS)
+        with open(path, "rb") as locked:
             fcntl.flock(locked, fcntl.LOCK_EX)
-            self.stays("a room that somebody has locked")
-        self.expect(1, chunk_fault(2), "decrypt --pass pass --save saved cut out", "a room that nobody has locked")
-        self.see("a room that nobody has locked: it is gone", self.rooms() == {})
+            self.stays("one that somebody has locked", LOCKED)
+        self.expect(1, chunk_fault(2), "decrypt --pass pass --save saved cut out", "one that nobody has locked")
+        self.see("one that nobody has locked: it is a position", self.is_position("saved", 2) and not self.is_there("saved.new"))
 
     @needs("cc")
-    def test_room_without_locks(self):
-        """Where there are no locks, a room may be that of a run that goes on."""
-        self.write("saved.new-0", b" " * 256)
+    def test_in_the_way_without_locks(self):
+        """Where there are no locks, what a killed run left may be that of a run that goes on."""
+        self.write("saved.new", BLANKS)
         self.stays("a file system without locks", failing={"FLOCK": errno.ENOLCK})
 
     @needs(root=True)
-    def test_room_of_others(self):
-        """A room that may not be opened or removed stays."""
-        room = self.path("saved.new-0")
+    def test_in_the_way_of_others(self):
+        """Another user's file stays."""
         self.room.chmod(0o777)
-        self.write("saved.new-0", b" " * 256, 0o600)
-        self.write("out", b"", 0o666)
-        self.stays("a room of another user", **as_nobody())
-        folder = self.path("folder")
-        folder.mkdir()
-        (folder / "saved").write_bytes(b"")
-        (folder / "saved").chmod(0o666)
-        (folder / "saved.new-0").write_bytes(b" " * 256)
-        (folder / "saved.new-0").chmod(0o666)
-        folder.chmod(0o555)
-        words = ["decrypt", "--pass", "pass", "--save", "folder/saved", "cut", "/dev/null"]
-        self.expect(1, chunk_fault(2), words, "a folder that isn't writable", **as_nobody())
-        self.see("a folder that isn't writable: the room", (folder / "saved.new-0").read_bytes() == b" " * 256)
-        os.remove(room)
-        os.mknod(room, 0o600 | stat.S_IFCHR, os.makedev(1, 3))
+        for mode in (0o600, 0o666):
+            self.write("saved.new", BLANKS, mode)
+            self.stays(f"a file of another user, {mode:o}", **as_nobody())
+        self.remove("saved.new")
+        os.mknod(self.path("saved.new"), 0o600 | stat.S_IFCHR, os.makedev(1, 3))
         self.stays("a device")
+
+    def test_killed(self):
+        """What a killed run left is used by the next one, and not that of a run that goes on."""
+        inode = None
+        for turn in range(3):
+            feeding = Feeding(self)
+            found = self.path("saved.new").stat().st_ino
+            self.see(f"{turn} runs were killed: the temporary file", self.read("saved.new") == BLANKS and inode in (None, found))
+            inode = found
+            self.expect(1, unsaved("saved", LOCKED), "decrypt --pass pass --save saved cut new", "a run meanwhile")
+            self.see("a run meanwhile: nothing was begun", not self.is_there("new") and self.path("saved.new").stat().st_ino == inode)
+            feeding.run.kill()
+            feeding.input.close()
+            self.ends("a run that is killed", feeding.run, -signal.SIGKILL, b"")
+        self.write("wrong", b"another passphrase\n")
+        self.expect(1, b"age_tool: 13 WrongKey\n", "decrypt --pass wrong --save saved age new", "a run that ends before OUT")
+        self.see("a run that ends before OUT: nothing is left", not self.is_there("saved.new") and not self.is_there("saved"))
+        feeding = Feeding(self)
+        feeding.stops("a run that stops", chunk_fault(2))
+        self.see("a run that stops: its position", self.is_position("saved", 2) and not self.is_there("saved.new"))
+
+    @needs("cc")
+    def test_full_disk(self):
+        """Whichever call finds the disk full, no file of --save is harmed, and none is left beside it."""
+        for held in (None, b"an old position"):
+            for failing in (
+                *({"WRITE": errno.ENOSPC, "AT": at, "EVERY": every} for at in range(1, 6) for every in (0, 2)),
+                *({"FSYNC": errno.ENOSPC, "ONLY": "f", "FROM": turn} for turn in range(1, 5)),
+                {"FTRUNCATE": errno.ENOSPC}, {"FSYNC": errno.ENOSPC, "ONLY": "d"}, {"RENAME": errno.ENOSPC}, {"LINK": errno.ENOSPC},
+                {"RENAME": errno.ENOSPC, "LINK": errno.ENOSPC}, {"CLOSE": errno.ENOSPC},
+            ):
+                self.remove("saved", "out")
+                if held:
+                    self.write("saved", held)
+                ended = self.tool(*"decrypt --pass pass --save saved cut out".split(), env=shim.loaded(**failing))
+                now = self.read("saved") if self.is_there("saved") else None
+                is_whole = now == held or self.is_position("saved", 0) or self.is_position("saved", 1) or self.is_position("saved", 2)
+                self.see(f"{failing}, {held}: no harm", ended.returncode == 1 and is_whole and not self.is_there("saved.new"), now, ended)
+                if now == held and self.is_there("out") and self.path("out").stat().st_size:
+                    printed = b"to save the position elsewhere: " in ended.advice or b"no position was saved" in ended.advice or b"27 Write" in ended.stderr
+                    self.see(f"{failing}, {held}: said", printed, ended)
+
+    # ---- where no position can be saved
 
     @needs(root=True)
     def test_read_only(self):
         """A file system that can't be written is refused before OUT is touched."""
         self.path("still").mkdir()
         self.mount("-t", "tmpfs", "-o", "ro", "none", self.path("still"))
-        said = WRITE + reason("create still/saved", errno.EROFS)
+        said = unsaved("still/saved", os.strerror(errno.EROFS) + OWN)
         self.expect(1, said, "decrypt --pass pass --save still/saved cut new", "a read-only file system")
         self.see("a read-only file system: nothing was begun", not self.is_there("new"))
 
-    # ---- where a position goes
-
-    def test_waiting_pipes(self):
-        """A position isn't kept waiting by a pipe without a reader, and comes through one with a reader."""
-        os.mkfifo(self.path("pipe"))
-        words = "decrypt --pass pass --save pipe cut out"
-        self.expect(1, chunk_fault(2) + unsaved("pipe", errno.EPIPE), words, "a pipe that nobody reads")
-        reader = os.open(self.path("pipe"), os.O_RDONLY | os.O_NONBLOCK)
-        self.expect(1, chunk_fault(2), words, "a pipe that somebody reads")
-        self.see("a pipe that somebody reads: a position", os.read(reader, 1000).startswith(b"age-position/v2 2 "))
-        os.close(reader)
-        with self.waiting_at("pipe") as reader:
-            self.expect(1, chunk_fault(2), words, "a pipe that somebody waits at")
-            self.see("a pipe that somebody waits at: a position", reader.communicate(timeout=SECONDS)[0].startswith(b"age-position/v2 2 "))
-
-    @contextlib.contextmanager
-    def waiting_at(self, pipe):
-        """A reader that waits until somebody opens a pipe to write: it sleeps there alone."""
-        with subprocess.Popen(["cat", pipe], cwd=self.room, stdout=subprocess.PIPE) as reader:
-            waits_for(lambda: ") S " in pathlib.Path(f"/proc/{reader.pid}/stat").read_text())
-            try:
-                yield reader
-            finally:
-                reader.kill()
-
-    @needs(root=True)
-    def test_unreadable_pipe(self):
-        """A pipe that may only be written is refused at once: opening it would wait for a reader. A reader of another gets its end."""
-        os.umask(0)
-        os.mkfifo(self.path("inbox"), 0o222)
-        os.umask(0o022)
-        words = "decrypt --pass pass --save inbox cut new"
-        self.expect(1, unwritten("inbox", errno.EACCES), words, "a pipe that may only be written", **as_nobody())
-        self.see("a pipe that may only be written: nothing was begun", not self.is_there("new"))
-        os.mkfifo(self.path("pipe"))
-        with self.waiting_at("pipe") as reader:
-            self.expect(0, b"", "decrypt --pass pass --save pipe age out", "a run that saves no position")
-            self.see("a run that saves no position: its reader ends", reader.communicate(timeout=SECONDS) == (b"", None))
-
-    def test_direct(self):
-        """If no file can be made next to the one of `--save`, or take its place, that one is written itself."""
-        long = "s" * 250
-        for again in (1, 2):
-            self.expect(1, chunk_fault(2), f"decrypt --pass pass --save {long} cut out", f"a long name, {again}")
-            self.see(f"a long name, {again}: a position", self.is_position(long, 2) and self.mode(long) == 0o600)
-        self.remove(long)
-        long = "s" * 256
-        self.expect(1, unwritten(long, errno.ENAMETOOLONG), f"decrypt --pass pass --save {long} cut new", "a name that is too long")
-        self.see("a name that is too long: nothing was begun", not self.is_there("new"))
+    def test_closed_folders(self):
+        """A folder in which no file can be made is refused before OUT is touched, and so is a file that isn't writable, or a name that is too long."""
         folder = self.path("folder")
         folder.mkdir()
-        (folder / "saved").write_bytes(b"an old position, which is longer than the one that takes its place: " + b"x" * 200)
-        (folder / "saved").chmod(0o666)
         folder.chmod(0o555)
-        words = ["decrypt", "--pass", "pass", "--save", "folder/saved", "cut", "/dev/null"]
-        self.expect(1, chunk_fault(2), words, "a folder that isn't writable", **as_nobody())
-        self.see("a folder that isn't writable: a position", self.is_position("folder/saved", 2) and len(self.read("folder/saved")) == 150)
-        self.see("a folder that isn't writable: nothing else", os.listdir(folder) == ["saved"])
-        (folder / "saved").chmod(0o444)
-        self.expect(1, unwritten("folder/saved", errno.EACCES), words, "a file that isn't writable", **as_nobody())
+        self.addCleanup(folder.chmod, 0o755)
+        said = unsaved("folder/saved", os.strerror(errno.EACCES) + OWN)
+        words = ["decrypt", "--pass", "pass", "--save", "folder/saved", "cut", "new"]
+        self.expect(1, said, words, "a folder without permission", **as_nobody())
         folder.chmod(0o755)
+        (folder / "saved").write_bytes(b"an old position")
+        for name, mode, of_folder in (("an old position in a folder without permission", 0o666, 0o555), ("one that isn't writable", 0o444, 0o777)):
+            (folder / "saved").chmod(mode)
+            folder.chmod(of_folder)
+            self.expect(1, said, words, name, **as_nobody())
+            self.see(f"{name}: it stays", (folder / "saved").read_bytes() == b"an old position" and os.listdir(folder) == ["saved"])
+        for length in (252, 255, 256):
+            long = "s" * length
+            said = unsaved(long, os.strerror(errno.ENAMETOOLONG) + OWN)
+            self.expect(1, said, f"decrypt --pass pass --save {long} cut new", f"a name of {length} bytes")
+        self.see("nothing was begun", not self.is_there("new"))
+        self.expect(1, chunk_fault(2), f"decrypt --pass pass --save {'s' * 251} cut new", "the longest name")
+        self.see("the longest name: a position", self.is_position("s" * 251, 2))
+
+    def test_no_regular_files(self):
+        """What isn't a regular file is refused before OUT is touched, and nobody waits for the reader of a pipe."""
+        os.mkfifo(self.path("pipe"))
+        self.path("folder").mkdir()
+        os.symlink("/dev/null", self.path("nowhere"))
+        for name in ("pipe", "folder", ".", "/dev/null", "/dev/full", "nowhere", "/dev/stdout", "/dev/stderr", "/dev/stdin", "/dev/fd/1"):
+            self.expect(1, unsaved(name, NO_FILE), f"decrypt --pass pass --save {name} cut new", name)
+        self.see("nothing was begun", not self.is_there("new") and not list(self.room.glob("*.new")))
 
     @needs(root=True)
     def test_mounted(self):
-        """A mount point can't be renamed over."""
+        """Over a mount point nothing can be renamed: that is seen before OUT is touched if it is of another file system."""
         self.write("saved", b"under it")
+        self.path("other").mkdir()
+        self.mount("-t", "tmpfs", "none", self.path("other"))
+        self.write("other/over", b"an old position")
+        self.mount("--bind", self.path("other/over"), self.path("saved"))
+        said = unsaved("saved", f"it is a mount point{OWN}")
+        self.expect(1, said, "decrypt --pass pass --save saved cut new", "a mount point of another file system")
+        self.see("a mount point of another file system: nothing was begun", not self.is_there("new") and not self.is_there("saved.new"))
         self.write("over", b"an old position")
-        self.mount("--bind", self.path("over"), self.path("saved"))
-        self.expect(1, chunk_fault(2), "decrypt --pass pass --save saved cut out", "a mount point")
-        self.see("a mount point: a position", self.is_position("over", 2) and not self.is_there("saved.new-0"))
+        self.write("there", b"under it")
+        self.mount("--bind", self.path("over"), self.path("there"))
+        self.expect(1, chunk_fault(2) + unsaved("there", errno.EBUSY), "decrypt --pass pass --save there cut out", "a mount point")
+        self.see("a mount point: it stays", self.read("over") == b"an old position" and not self.is_there("there.new"))
 
-    @needs("cc")
-    def test_failing_renames(self):
-        for before in (None, b"an old position"):
-            self.remove("saved")
-            if before:
-                self.write("saved", before, 0o640)
-            failing = {"RENAME": errno.EBUSY, "LINK": errno.EPERM}
-            self.expect(1, chunk_fault(2), "decrypt --pass pass --save saved cut out", f"a rename that fails, {before}", failing)
-            self.see(f"a rename that fails, {before}: a position", self.is_position("saved", 2) and not self.is_there("saved.new-0"))
-            self.see(f"a rename that fails, {before}: its mode", self.mode("saved") == (0o640 if before else 0o600))
+    @needs(root=True)
+    def test_sticky_folder(self):
+        """Another user's file in a folder where only owners may replace files is refused before OUT is touched."""
+        folder = self.path("sticky")
+        folder.mkdir()
+        folder.chmod(0o1777)
+        self.room.chmod(0o777)
+        (folder / "saved").write_bytes(b"an old position")
+        (folder / "saved").chmod(0o666)
+        words = "decrypt --pass pass --save sticky/saved cut new"
+        self.expect(1, unsaved("sticky/saved", f"only its owner may replace it{OWN}"), words, "another user's", **as_nobody())
+        self.see("another user's: nothing was begun", not self.is_there("new") and os.listdir(folder) == ["saved"])
+        os.chown(folder / "saved", NOBODY, NOBODY)
+        self.expect(1, chunk_fault(2), words, "one's own", **as_nobody())
+        self.see("one's own: a position", self.is_position("sticky/saved", 2) and os.listdir(folder) == ["saved"])
 
     @needs("cc")
     def test_sick_disk(self):
         """An old position isn't written over where the disk is what fails."""
-        for error in (errno.EIO, errno.EROFS, errno.ESTALE, errno.ENOSPC, errno.EDQUOT):
-            self.write("saved", b"an old position")
+        for error in (errno.EIO, errno.EROFS, errno.ESTALE, errno.ENOSPC, errno.EDQUOT, errno.EBUSY, errno.EPERM):
+            self.write("saved", b"an old position", 0o640)
             name = f"a rename fails with {errno.errorcode[error]}"
             said = chunk_fault(2) + unsaved("saved", error)
             self.expect(1, said, "decrypt --pass pass --save saved cut out", name, {"RENAME": error})
-            self.see(f"{name}: the old position", self.read("saved") == b"an old position" and not self.is_there("saved.new-0"))
+            self.see(f"{name}: the old position", self.read("saved") == b"an old position" and self.mode("saved") == 0o640 and not self.is_there("saved.new"))
+            self.remove("saved")
+            self.expect(1, said, "decrypt --pass pass --save saved cut out", f"{name}, and so does a link", {"RENAME": error, "LINK": errno.EPERM})
+            self.see(f"{name}, and so does a link: nothing is left", not self.is_there("saved") and not self.is_there("saved.new"))
 
     def test_modes(self):
         """A position is its owner's, whoever could read the one that it replaces."""

@@ -66,8 +66,15 @@ def text_of_faults():
 
 ROWS_HEAD = """//! What `age_tool help N` prints of a fault. Made from docs/FAULTS.md by checks/documents --write.
 
-/// What a fault means, what it leaves and what to do, if there is one of this number.
-pub(crate) fn row_of(number: u8) -> Option<&'static str> {
+/// The number of the last fault.
+pub(crate) const LAST_FAULT: u8 = %d;
+
+/// The name of a fault, and what it means, what it leaves and what to do.
+pub(crate) type Row = (&'static str, &'static str);
+
+/// Finds the row of the fault of this number, if there is one.
+#[rattlefmt::skip]
+pub(crate) fn row_of(number: u8) -> Option<Row> {
     let row = match number {
 """
 
@@ -81,9 +88,10 @@ def plain(text):
 
 def rows_of_faults():
     """The file of the program that has a row for each fault."""
-    arms = []
+    rows = []
     for row in (it for it in tables(SOURCE.read_text()) if "No." in it):
+        assert int(row["No."]) == len(rows) + 1
         said = [f"{row['No.']} {row['Name']}", sentence(row["What it means"]), f"OUT: {row['What is left in OUT']}.", f"What to do: {row['What to do']}."]
         text = "\n".join(map(plain, said)).replace("\\", "\\\\").replace('"', '\\"')
-        arms.append(f'        {row["No."]} => "{text}",\n')
-    return f"{ROWS_HEAD}{''.join(arms)}        _ => return None,\n    }};\n    Some(row)\n}}\n"
+        rows.append(f'        {row["No."]} => ("{row["Name"]}", "{text}"),\n')
+    return f"{ROWS_HEAD % len(rows)}{''.join(rows)}        _ => return None,\n    }};\n    Some(row)\n}}\n"

@@ -173,7 +173,7 @@ FAULTS = {17: "ChunkDamaged", 20: "Truncated", 23: "BadPosition", 24: "OtherFile
 # all of the new bytes.
 WRITES = [
     ("OUT", "written in place", [("opened", "old"), ("first bytes written", "any"), ("truncated after them", "any"), ("all written", "any"), ("disk waited for", "new"), ("closed: status 0", "new")]),
-    ("FILE of --save", "written beside, as FILE.new-0", [("room made", "old"), ("room filled", "old"), ("disk waited for", "old"), ("renamed to FILE", "both"), ("names waited for", "new"), ("\u201cposition saved\u201d", "new")]),
+    ("FILE of --save", "written beside, as FILE.new", [("FILE.new made", "old"), ("filled", "old"), ("disk waited for", "old"), ("renamed to FILE", "both"), ("names waited for", "new"), ("\u201cposition saved\u201d", "new")]),
 ]
 LEFT = {"old": ("what was there", "#ffffff"), "any": ("may hold anything", "#ffebe9"), "both": ("the old or the new one", "#fff8c5"), "new": ("all of the new bytes", "#dafbe1")}
 

@@ -1,12 +1,14 @@
 -- A disk and calls, by values, namely what is at a path, how long a file is, and what calls contain.
 use Rattle.std.proofs.lemmas.Grind.{common_steps}
-use Rattle.std.proofs.Common.{◌≡◌, ◌⊎◌, inl, inr, ℕ, zero, suc, ◌-◌, ◌≤◌, List, [], ◌∷◌, ◌++◌, Bool, refl, ap, length, take, arith, ◌∙◌}
-use Rattle.std.specs.Prelude.{bytes_eq, if◌then◌else◌, Contains, replicate}
-use Rattle.std.proofs.lemmas.Bool.{false_from_ne_true, eq-eqb, ne_eqb}
+use Rattle.std.proofs.Common.{◌≡◌, ◌⊎◌, inl, inr, ℕ, zero, suc, ◌-◌, ◌≤◌, List, [], ◌∷◌, ◌++◌, Bool, refl, ap}
+use Rattle.std.proofs.Common.{length, take, arith, ◌∙◌}
+use Rattle.std.specs.Prelude.{if◌then◌else◌, Contains, replicate}
+use Rattle.std.proofs.lemmas.Bool.{eq-eqb, ne_eqb}
 use Rattle.std.proofs.lemmas.Slice.Eq.{bytes_eq-Decides}
 use Rattle.std.proofs.lemmas.List.{append-nil}
 use Rattle.std.proofs.lemmas.List.Elements.{Contains-append_left, Contains-append_right}
-use Rattle.age_calls.specs.{FileCall, Made, Opened, Locked, Unlockable, at_path, for_file, sized, opening_of, IsClaimed}
+use Rattle.age_calls.specs.{FileCall, Made, Opened, Locked, Unlockable, at_path, for_file, sized, opening_of}
+use Rattle.age_calls.specs.{IsClaimed}
 use Rattle.age_calls.specs.declared.opening.Kind.{Kind}
 use Rattle.age_calls.specs.declared.opening.Opening.{Opening}
 
@@ -14,9 +16,6 @@ use Rattle.age_calls.specs.declared.opening.Opening.{Opening}
 
 pub path_same : {X : Type 0} (p : List ℕ) (x : X) (f : List ℕ → X) → at_path p x f p ≡ x
 path_same p x f = ap (λ (b : Bool). if b then x else f p) ((bytes_eq-Decides p p).1 refl)
-
-pub path_other : {X : Type 0} (p q : List ℕ) (x : X) (f : List ℕ → X) → (p ≡ q → ⊥) → at_path p x f q ≡ f q
-path_other p q x f other = ap (λ (b : Bool). if b then x else f q) (false_from_ne_true (bytes_eq p q) (λ h. other ((bytes_eq-Decides p q).0 h)))
 
 pub file_same : {X : Type 0} (n : ℕ) (x : X) (f : ℕ → X) → for_file n x f n ≡ x
 file_same n x f = ap (λ (b : Bool). if b then x else f n) (eq-eqb n n refl)

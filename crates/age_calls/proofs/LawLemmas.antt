@@ -1,18 +1,21 @@
 -- A disk, and what a power cut leaves of it, for each law.
 use Rattle.std.proofs.lemmas.Grind.{common_steps}
-use Rattle.std.proofs.Common.{◌≡◌, inl, inr, ⊎_elim, ℕ, List, [], ◌∷◌, ◌++◌, Some, None, true, false, length, refl, sym, ◌∙◌, ap, subst, arith}
+use Rattle.std.proofs.Common.{◌≡◌, inl, inr, ⊎_elim, ℕ, List, [], ◌∷◌, ◌++◌, Some, true, false, length, refl}
+use Rattle.std.proofs.Common.{sym, ◌∙◌, ap, subst, arith}
 use Rattle.std.specs.Prelude.{Contains}
 use Rattle.std.proofs.lemmas.Bool.{false≢true}
 use Rattle.std.proofs.lemmas.List.{append-nil, drop_all, take_all}
-use Rattle.age_calls.specs.Calls.{Measured}
-use Rattle.age_calls.specs.{FileCall, Made, Opened, Wrote, Cut, Synced, Missing, Linked, SyncedNames, Locked, Regular, after_call}
-use Rattle.age_calls.specs.{after_calls, MayLead, MayLeave, IsAnswered, AllAnswered, IsSafe, CanLeave, filled, renamed, linked, bare, bare_but}
-use Rattle.age_calls.specs.{overwritten, put_out, HasOneLock, IsUnchanged, OutFile, opening_of, is_waited, IsOn, AllOn, MayChange, IsClaimed, LocksFirst, TouchesFile, HasMade}
+use Rattle.age_calls.specs.{FileCall, Made, Opened, Wrote, Cut, Synced, SyncedNames, Locked, Regular}
+use Rattle.age_calls.specs.{after_call, after_calls, MayLead, MayLeave, IsAnswered, AllAnswered, IsSafe}
+use Rattle.age_calls.specs.{CanLeave, bare, bare_but, overwritten, put_out, HasOneLock, IsUnchanged, OutFile}
+use Rattle.age_calls.specs.{opening_of, is_waited, IsOn, AllOn, MayChange, IsClaimed, LocksFirst, TouchesFile}
+use Rattle.age_calls.specs.{HasMade}
 use Rattle.age_calls.specs.declared.opening.Opening.{Opening}
 use Rattle.age_calls.specs.declared.opening.Opening.TheVariants as way
 use Rattle.age_calls.specs.Disk.{Disk}
-use Rattle.age_calls.proofs.DiskLemmas.{path_same, path_other, file_same, file_other, sized_within, contains_first, contains_later, contains_none, contains_cases}
-use Rattle.age_calls.proofs.DiskLemmas.{claimed_later, no_claim}
+use Rattle.age_calls.proofs.DiskLemmas.{path_same, file_same, file_other, sized_within, contains_first}
+use Rattle.age_calls.proofs.DiskLemmas.{contains_later, contains_none, contains_cases, claimed_later}
+use Rattle.age_calls.proofs.DiskLemmas.{no_claim}
 
 -- ---- What a power cut may leave.
 
@@ -27,28 +30,6 @@ torn n path bytes disk leads unkept = (Some n, inl (sym leads), (0 ∷ bytes, re
 
 garbage : (bytes : List ℕ) → Some (0 ∷ bytes) ≡ Some bytes → ⊥
 garbage bytes same = let same_list : (0 ∷ bytes) ≡ bytes = cc in omega (arith, ap length same_list)
-
--- ---- A file that is put to a path.
-
-module _ (n : ℕ) (from path bytes : List ℕ) (apart : from ≡ path → ⊥) where
-  -- the disk when the new file is empty, when it was written, and when the disk was waited for
-  abbrev begun : Disk
-  begun = after_call (Made from n) bare
-
-  abbrev wrote : Disk
-  wrote = after_call (Wrote n 0 bytes) begun
-
-  held : wrote.bytes n ≡ bytes
-  held = grind (arith, common_steps, append-nil, drop_all, file_same)
-
-  answered : AllAnswered path (filled n from bytes) bare
-  answered = (ap length held, (tt, ((refl, nowhere path n), tt)))
-
-  free : wrote.file path ≡ None
-  free = path_other from path (Some n) bare.file apart
-
-  pub both_answered : AllAnswered path (renamed n from path bytes) bare × AllAnswered path (linked n from path bytes) bare
-  both_answered = ((tt, (tt, (tt, (tt, answered)))), (tt, (tt, (free, (tt, (tt, answered))))))
 
 -- ---- Two runs.
 
@@ -198,9 +179,6 @@ module _ (path : List ℕ) (n : ℕ) where
   later_answered : (call first : FileCall) (calls : List FileCall) (disk : Disk) → IsOn path n (first ∷ calls) call → IsAnswered path call disk
   later_answered (Made p m) first calls disk on = absurd (none_before first calls on.2)
   later_answered (Opened p m kind) first calls disk on = absurd (none_before first calls on.2)
-  later_answered (Measured m len) first calls disk on = absurd on
-  later_answered (Missing p) first calls disk on = absurd on
-  later_answered (Linked from to) first calls disk on = absurd on
   later_answered call first calls disk on = tt
 
   all_answered : (opening : Opening) → is_waited opening ≡ true → (calls : List FileCall) → AllOn path n calls

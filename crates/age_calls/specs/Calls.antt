@@ -15,8 +15,6 @@ pub data FileCall : Type 0 where
   Cut : ℕ → ℕ → FileCall
   -- a write to a file, its truncation or a wait for the disk has failed, so the file may hold anything
   Broke : ℕ → FileCall
-  -- a file was seen to have this many bytes
-  Measured : ℕ → ℕ → FileCall
   -- what a file holds has reached the disk; or the system can't wait for it
   Synced : ℕ → FileCall
   Unwaited : ℕ → FileCall
@@ -25,16 +23,8 @@ pub data FileCall : Type 0 where
   -- this run alone has a file until the run ends; or the system has no lock, so every run may have it
   Locked : ℕ → FileCall
   Unlockable : ℕ → FileCall
-  -- nothing was seen at a path
-  Missing : List ℕ → FileCall
-  -- the file at the first path is now at the second too, where nothing was
-  Linked : List ℕ → List ℕ → FileCall
-  -- the file at the first path is now at the second, in place of what was there
-  Renamed : List ℕ → List ℕ → FileCall
   -- a path now leads to nothing
   Removed : List ℕ → FileCall
-  -- an empty room that a stopped run left at a path was removed, while its lock was held
-  Reclaimed : List ℕ → FileCall
   -- the names in the folder of a path have reached the disk; or the system can't wait for it
   SyncedNames : List ℕ → FileCall
   UnwaitedNames : List ℕ → FileCall
@@ -44,7 +34,6 @@ abbrev pub IsOf : ℕ → FileCall → Type 0
 IsOf n (Wrote m at part) = m ≡ n
 IsOf n (Cut m len) = m ≡ n
 IsOf n (Broke m) = m ≡ n
-IsOf n (Measured m len) = m ≡ n
 IsOf n (Synced m) = m ≡ n
 IsOf n (Unwaited m) = m ≡ n
 IsOf n (Closed m) = m ≡ n

@@ -1,10 +1,8 @@
 -- What calls leave on a disk, even if the power is cut after one of them.
-use Rattle.std.specs.Prelude.{◌≡◌, ◌⊎◌, ℕ, ◌+◌, ◌-◌, List, [], ◌∷◌, ◌++◌, length, take, drop}
-use Rattle.std.specs.Prelude.{replicate, Option, Some, None, Bool, true, false, not, bytes_eq}
-use Rattle.std.specs.Prelude.{nat_eq, if◌then◌else◌}
-use Rattle.age_calls.specs.Calls.{FileCall, Made, Opened, Wrote, Cut, Broke, Measured, Synced}
-use Rattle.age_calls.specs.Calls.{Unwaited, Closed, Locked, Unlockable, Missing, Linked, Renamed}
-use Rattle.age_calls.specs.Calls.{Removed, Reclaimed, SyncedNames, UnwaitedNames}
+use Rattle.std.specs.Prelude.{◌≡◌, ◌⊎◌, ℕ, ◌+◌, ◌-◌, List, [], ◌∷◌, ◌++◌, length, take, drop, replicate}
+use Rattle.std.specs.Prelude.{Option, Some, None, Bool, true, false, not, bytes_eq, nat_eq, if◌then◌else◌}
+use Rattle.age_calls.specs.Calls.{FileCall, Made, Opened, Wrote, Cut, Broke, Synced, Unwaited, Closed, Locked}
+use Rattle.age_calls.specs.Calls.{Unlockable, Removed, SyncedNames, UnwaitedNames}
 
 -- ---- A disk.
 
@@ -66,17 +64,12 @@ after_call (Broke n) disk = record disk {
   is_kept = for_file n false disk.is_kept;
   is_lost = for_file n true disk.is_lost;
 }
-after_call (Measured n len) disk = disk
 after_call (Synced n) disk = record disk { is_kept = for_file n (not (disk.is_lost n)) disk.is_kept }
 after_call (Unwaited n) disk = disk
 after_call (Closed n) disk = disk
 after_call (Locked n) disk = disk
 after_call (Unlockable n) disk = disk
-after_call (Missing path) disk = disk
-after_call (Linked from to) disk = leading to (disk.file from) disk
-after_call (Renamed from to) disk = leading from None (leading to (disk.file from) disk)
 after_call (Removed path) disk = leading path None disk
-after_call (Reclaimed path) disk = leading path None disk
 after_call (SyncedNames path) disk = record disk { before = at_path path [] disk.before }
 after_call (UnwaitedNames path) disk = disk
 

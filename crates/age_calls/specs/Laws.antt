@@ -1,25 +1,12 @@
 -- What may become of a file that is put to a path, or written in place, if one call is left out, or
 -- two are made in another order.
-use Rattle.std.specs.Prelude.{◌≡◌, ◌≢◌, ℕ, List, [], ◌∷◌, ◌++◌, length, Some, None, true}
-use Rattle.std.specs.Prelude.{false, Contains}
-use Rattle.age_calls.specs.Calls.{FileCall, Made, Opened, Wrote, Cut, Measured, Synced, Closed}
-use Rattle.age_calls.specs.Calls.{Locked, Unlockable, Linked, Renamed, Removed, SyncedNames}
+use Rattle.std.specs.Prelude.{◌≡◌, ◌≢◌, ℕ, List, [], ◌∷◌, ◌++◌, length, Some, None, true, false, Contains}
+use Rattle.age_calls.specs.Calls.{FileCall, Made, Opened, Wrote, Cut, Synced, Closed, Locked, Unlockable}
+use Rattle.age_calls.specs.Calls.{SyncedNames}
 use Rattle.age_calls.specs.declared.opening.Kind.TheVariants.{Regular}
 use Rattle.age_calls.specs.Disk.{Disk, at_path, after_calls, MayLeave}
 use Rattle.age_calls.specs.Saves.{AllAnswered, AllWaited, IsSafe, HasMade}
 use Rattle.age_calls.specs.Outs.{OutFile, AllOn, is_waited, MayChange, LocksFirst, TouchesFile}
-
--- the calls of a replacement, the newest first
-abbrev pub filled : ℕ → List ℕ → List ℕ → List FileCall
-filled n from bytes = Measured n (length bytes) ∷ Wrote n 0 bytes ∷ Made from n ∷ []
-
-abbrev pub renamed : ℕ → List ℕ → List ℕ → List ℕ → List FileCall
-renamed n from path bytes =
-    SyncedNames path ∷ Renamed from path ∷ Closed n ∷ Synced n ∷ filled n from bytes
-
-abbrev pub linked : ℕ → List ℕ → List ℕ → List ℕ → List FileCall
-linked n from path bytes =
-    SyncedNames path ∷ Removed from ∷ Linked from path ∷ Closed n ∷ Synced n ∷ filled n from bytes
 
 -- a disk without files
 abbrev pub bare : Disk
@@ -36,10 +23,6 @@ pub record CanLeave (path bytes : List ℕ) (calls : List FileCall) (disk : Disk
   pub answered : AllAnswered path calls disk
   pub waited : AllWaited calls
   pub leaves : MayLeave (after_calls calls disk) path (Some bytes)
-
-abbrev pub PutsAreAnswered : Type 0
-PutsAreAnswered = (n : ℕ) (from path bytes : List ℕ) → from ≢ path
-    → AllAnswered path (renamed n from path bytes) bare × AllAnswered path (linked n from path bytes) bare
 
 -- ---- A file that is written in place.
 

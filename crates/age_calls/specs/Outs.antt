@@ -1,8 +1,7 @@
 -- A file that is written in place, by a machine that makes no other calls.
-use Rattle.std.specs.Prelude.{◌≡◌, ◌⊎◌, ◌≤◌, ℕ, List, [], ◌∷◌, ◌++◌, length, Bool, true, false}
-use Rattle.std.specs.Prelude.{Contains}
-use Rattle.age_calls.specs.Calls.{FileCall, Made, Opened, Wrote, Cut, Broke, Measured, Locked}
-use Rattle.age_calls.specs.Calls.{Unlockable, Removed, SyncedNames, UnwaitedNames, IsOf}
+use Rattle.std.specs.Prelude.{◌≡◌, ◌⊎◌, ◌≤◌, ℕ, List, [], ◌∷◌, ◌++◌, length, Bool, true, false, Contains}
+use Rattle.age_calls.specs.Calls.{FileCall, Made, Opened, Wrote, Cut, Broke, Locked, Unlockable, Removed}
+use Rattle.age_calls.specs.Calls.{SyncedNames, UnwaitedNames, IsOf}
 use Rattle.age_calls.specs.declared.opening.Opening.{Opening}
 use Rattle.age_calls.specs.declared.opening.Opening.TheVariants as way
 use Rattle.age_calls.specs.declared.opening.Kind.TheVariants.{Regular}
@@ -55,7 +54,6 @@ IsOn path n before (Made p m) = (p ≡ path) × (m ≡ n) × (before ≡ [])
 IsOn path n before (Opened p m kind) = (p ≡ path) × (m ≡ n) × (before ≡ [])
 IsOn path n before (Wrote m at part) = (m ≡ n) × (at ≡ length (text_of before))
 IsOn path n before (Cut m len) = (m ≡ n) × (length (text_of before) ≤ len)
-IsOn path n before (Measured m len) = ⊥
 IsOn path n before (Removed p) = p ≡ path
 IsOn path n before (SyncedNames p) = p ≡ path
 IsOn path n before (UnwaitedNames p) = p ≡ path

@@ -1,9 +1,6 @@
 -- What it means that a file is at a path, even after a power cut, and what is touched for that.
-use Rattle.std.specs.Prelude.{◌≡◌, ◌≢◌, ◌⊎◌, ℕ, List, [], ◌∷◌, ◌++◌, length, Option, Some, None}
-use Rattle.std.specs.Prelude.{true, false, codes, decimal, Contains}
-use Rattle.age_calls.specs.Calls.{FileCall, Made, Opened, Wrote, Cut, Broke, Measured, Synced}
-use Rattle.age_calls.specs.Calls.{Unwaited, Closed, ClosesLast, Locked, Unlockable, Missing, Linked, Renamed}
-use Rattle.age_calls.specs.Calls.{Removed, Reclaimed, SyncedNames, UnwaitedNames}
+use Rattle.std.specs.Prelude.{◌≡◌, ◌⊎◌, ℕ, List, [], ◌∷◌, ◌++◌, Option, Some, None, true, false, Contains}
+use Rattle.age_calls.specs.Calls.{FileCall, Made, Opened, Unwaited, ClosesLast, UnwaitedNames}
 use Rattle.age_calls.specs.declared.opening.Kind.TheVariants.{Regular}
 use Rattle.age_calls.specs.Disk.{Disk, after_calls, MayLead, MayLeave}
 
@@ -14,9 +11,6 @@ abbrev pub IsAnswered : List ℕ → FileCall → Disk → Type 0
 IsAnswered path (Made p n) disk = (disk.file p ≡ None) × (MayLead disk path (Some n) → ⊥)
 IsAnswered path (Opened p n kind) disk =
     (kind ≡ Regular true) × (disk.file p ≡ Some n) × (disk.is_lost n ≡ false)
-IsAnswered path (Measured n len) disk = length (disk.bytes n) ≡ len
-IsAnswered path (Missing p) disk = disk.file p ≡ None
-IsAnswered path (Linked from to) disk = disk.file to ≡ None
 IsAnswered path call disk = Unit {0}
 
 -- each of these calls is answered like this
@@ -69,59 +63,7 @@ LeadsTo path n bytes calls = (disk : Disk) → AllAnswered path calls disk
 abbrev pub IsThereAs : List ℕ → ℕ → List ℕ → List FileCall → Type 0
 IsThereAs path n bytes calls = LeadsTo path n bytes calls × ClosesLast n calls
 
--- A file that was at a path after the old calls stays there.
-abbrev pub SparesFile : List ℕ → List FileCall → List FileCall → Type 0
-SparesFile path old = Throughout path (λ disk calls. (n : ℕ)
-    → (after_calls old disk).file path ≡ Some n → (after_calls calls disk).file path ≡ Some n) old
-
--- ---- What else is touched.
-
--- these calls have made a file, or one at this path
--- (in any order: all of these come before the call that is allowed)
+-- these calls have made a file
+-- (in any order: one that made it did so, whatever came after)
 abbrev pub HasMade : ℕ → List FileCall → Type 0
 HasMade n calls = (p : List ℕ) × Contains calls (Made p n)
-
--- (in any order: `remove` takes away only the file that was made there)
-abbrev pub HasMadeAt : List ℕ → List FileCall → Type 0
-HasMadeAt p calls = (n : ℕ) × Contains calls (Made p n)
-
--- a path is another one with `.new-` and a number
-abbrev pub IsNumbered : List ℕ → List ℕ → Type 0
-IsNumbered path p = (n : ℕ) × (p ≡ path ++ (codes ".new-" ++ decimal n)) × (p ≢ path)
-
--- After these calls, this one is about the path, a file that they made beside it, or an empty room that
--- a stopped run left there.
-abbrev pub IsWithin : List ℕ → List FileCall → FileCall → Type 0
-IsWithin path calls (Made p n) = IsNumbered path p
-IsWithin path calls (Opened p n kind) = ⊥
-IsWithin path calls (Wrote n at part) = HasMade n calls
-IsWithin path calls (Cut n len) = HasMade n calls
-IsWithin path calls (Broke n) = HasMade n calls
-IsWithin path calls (Measured n len) = HasMade n calls
-IsWithin path calls (Synced n) = HasMade n calls
-IsWithin path calls (Unwaited n) = HasMade n calls
-IsWithin path calls (Closed n) = HasMade n calls
-IsWithin path calls (Locked n) = HasMade n calls
-IsWithin path calls (Unlockable n) = HasMade n calls
-IsWithin path calls (Missing p) = p ≡ path
-IsWithin path calls (Linked from to) = HasMadeAt from calls × (to ≡ path)
-IsWithin path calls (Renamed from to) = HasMadeAt from calls × (to ≡ path)
-IsWithin path calls (Removed p) = HasMadeAt p calls
-IsWithin path calls (Reclaimed p) = IsNumbered path p
-IsWithin path calls (SyncedNames p) = p ≡ path
-IsWithin path calls (UnwaitedNames p) = p ≡ path
-
--- `P` holds of each of these calls, given those before it
-abbrev pub AllSo : (List FileCall → FileCall → Type 0) → List FileCall → Type 0
-AllSo P [] = Unit {0}
-AllSo P (call ∷ calls) = P calls call × AllSo P calls
-
--- `P` holds of each call since the old ones, given those between them and it
-pub record Since (P : List FileCall → FileCall → Type 0) (old new : List FileCall) : Type 0 where
-  pub since : List FileCall
-  pub are : new ≡ since ++ old
-  pub each : AllSo P since
-
--- Nothing else was touched since the old calls.
-abbrev pub Touches : List ℕ → List FileCall → List FileCall → Type 0
-Touches path = Since (IsWithin path)

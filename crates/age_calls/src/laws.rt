@@ -1,13 +1,8 @@
 //! Laws of disks: a disk can answer the calls of a replacement and of an output, and some calls
 //! must not be left out.
 
-ghost use Rattle.age_calls.specs.{PutsAreAnswered, OutsAreAnswered, CallsAreAnswered, OthersAreKept};
-ghost use Rattle.age_calls.specs.{TornIfUnsynced, TornIfCutLast, SecondRunIsHarmless, ChangedIfLockedLate};
-
-/// There is a disk that answers the calls of a replacement, by a rename or by a link.
-pub fn puts_are_answered()
-    ensures { PutsAreAnswered }
-{}
+ghost use Rattle.age_calls.specs.{OutsAreAnswered, CallsAreAnswered, OthersAreKept, TornIfUnsynced};
+ghost use Rattle.age_calls.specs.{TornIfCutLast, SecondRunIsHarmless, ChangedIfLockedLate};
 
 /// There are disks that answer the calls of an output, whether its file existed or is made. The
 /// output has the only lock on that file then, though another run has opened it.

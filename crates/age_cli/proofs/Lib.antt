@@ -1,6 +1,8 @@
-pub mod HeadlineLemmas
+pub mod MemoryLemmas
 pub mod ObeyLemmas
-pub mod TextLemmas
-unfoldable pub use HeadlineLemmas.*
+pub mod PlainLemmas
+pub mod WordLemmas
+pub mod ZeroLemmas
 unfoldable pub use ObeyLemmas.*
-unfoldable pub use TextLemmas.*
+pub use MemoryLemmas.{leaves, reports, spares_asked, spares_done, spares_refused}
+pub use PlainLemmas.{runs}

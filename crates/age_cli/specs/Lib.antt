@@ -1,7 +1,9 @@
 pub mod Printing
-pub mod Runs
-pub mod Headline
+pub mod Zero
+pub mod Plain
+pub mod Memory
 pub mod inner
 unfoldable pub use Printing.*
-unfoldable pub use Runs.*
-unfoldable pub use Headline.*
+unfoldable pub use Zero.*
+unfoldable pub use Plain.*
+unfoldable pub use Memory.*

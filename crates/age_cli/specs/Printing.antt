@@ -1,20 +1,16 @@
 -- How `inspect` prints a report, and what it did of the file that it read.
-use Rattle.std.specs.Prelude.{◌≡◌, ℕ, suc, List, [], ◌∷◌, ◌++◌, Option, Some, ◌⊎◌, IfSome, codes, None}
+use Rattle.std.specs.Prelude.{◌≡◌, ℕ, suc, true, List, ◌++◌, Option, Some, IfSome, codes, None}
 use Rattle.std.specs.List.{flat_map}
 use Rattle.std.specs.Fmt.{decimal}
-use Rattle.age_io.specs.{SourceView, SinkView, HasRisen}
+use Rattle.age_io.specs.{SourceView, SinkView}
+use Rattle.age_io.specs.Taken.{Appends}
 use Rattle.age_io.specs.Supply.{Supply}
-use Rattle.age_fault.specs.declared.fault.FileFault.{FileFault}
-use Rattle.age_fault.specs.declared.fault.FileFault.TheVariants.{Read, Write, Memory}
-use Rattle.age_intake.specs.{HeadFails, NoHeadFault}
 use Rattle.age_inspection.specs.{IsReport}
 use Rattle.age_inspection.specs.Reports as file
 use Rattle.age_inspection.specs.declared.report.Report.{Report}
 use Rattle.age_inspection.specs.declared.report.StanzaReport.{StanzaReport}
-use Rattle.age_fileset.specs.{FilesView, CameSince, Outcome, Unread, InUse}
+use Rattle.age_fileset.specs.{Outcome}
 use Rattle.age_fileset.specs.declared.files.Missing.TheVariants as missing
-use Rattle.age_command.specs.declared.ending.Ending.{Ending}
-use Rattle.age_command.specs.declared.ending.Ending.TheVariants.{Fault}
 use Rattle.age_outputs.specs.Commands.{WasRead}
 use Rattle.clap.specs.Words.{Text}
 
@@ -53,17 +49,7 @@ pub record ReportsFile (Came : Outcome → Type 0) (name : Text) (r : Report) : 
   pub whole : IfSome first.supply.left (λ bytes. IsReport bytes r)
   pub reports : ReportsAs reading.size first.supply last.supply r
 
--- Reading the file of this name fails with this fault: that of the header that came; or 26 or 29, and what
--- came has no fault of its own; or 26, since it couldn't be opened or is in use.
-abbrev pub FailsFile : (old new : FilesView) → Text → FileFault → Type 0
-FailsFile old new name fault = ((fault ≡ Read)
-    × (CameSince old new (Unread name) ⊎ (new.outcomes ≡ old.outcomes ++ InUse name ∷ [])))
-    ⊎ ((first : SourceView) × (last : SourceView)
-    × WasRead (CameSince old new) missing.Fails name first last × HeadFails NoHeadFault first last fault)
-
--- how a report fails: its output couldn't be written; memory ran out; or as reading its input does
-abbrev pub FailsReport : (Fails : FileFault → Type 0) → (old new : SinkView) → Ending → Type 0
-FailsReport Fails old new (Fault Write) = HasRisen old.failed new.failed
-FailsReport Fails old new (Fault Memory) = Unit {0}
-FailsReport Fails old new (Fault fault) = Fails fault
-FailsReport Fails old new other = ⊥
+-- such a report was written, and sent on
+abbrev pub PrintsReport : (Reports : Report → Type 0) → (old new : SinkView) → Type 0
+PrintsReport Reports old new = (r : Report) × Reports r × Appends old.taken new.taken (report_text r)
+    × (new.flushed ≡ true)

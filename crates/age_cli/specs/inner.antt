@@ -1,14 +1,26 @@
--- What only private code cites: how a part of the program ended, and what a report of an input says.
-use Rattle.std.specs.Prelude.{◌≡◌, ◌⊎◌, ℕ, List, Option, Some, Result, Ok, Err, IfSome, length}
+-- What only private code cites: how a part of the program ended, what a report of an input says, and what is
+-- done of a request.
+use Rattle.std.specs.Prelude.{◌≡◌, ◌≢◌, ◌⊎◌, ℕ, true, List, [], Option, Some, None, Result, Ok, Err, OnOk}
+use Rattle.std.specs.Prelude.{IfSome, length}
+use Rattle.clap.specs.Words.{Text}
 use Rattle.clap.specs.declared.error.kind.ErrorKind.{ErrorKind}
 use Rattle.clap.specs.declared.error.kind.ErrorKind.TheVariants.{DisplayHelp, DisplayVersion}
+use Rattle.age_io.specs.{SinkView}
 use Rattle.age_io.specs.Supply.{Supply}
-use Rattle.age_inspection.specs.{IsReport}
+use Rattle.age_io.specs.Taken.{Appends}
+use Rattle.age_intake.specs.{Ports}
+use Rattle.age_inspection.specs.{Inspects, IsReport}
 use Rattle.age_inspection.specs.declared.report.Report.{Report}
+use Rattle.age_fileset.specs.{CameSince, Does}
+use Rattle.age_cli_args.specs.{IsForHelp}
+use Rattle.age_cli_args.specs.declared.request.Request.{Request}
+use Rattle.age_cli_args.specs.declared.request.Request.TheVariants.{Inspect, Drill}
 use Rattle.age_command.specs.declared.ending.Ending.{Ending}
+use Rattle.age_outputs.specs.Acts.{Acts}
 use Rattle.age_outputs.specs.declared.interruption.Unfinished.{Unfinished}
 use Rattle.age_outputs.specs.declared.interruption.Unfinished.TheVariants.{Ended}
-use Rattle.age_cli.specs.Printing.{ReportsAs}
+use Rattle.age_cli.specs.Plain.{IsApart, IsMadeBy, World}
+use Rattle.age_cli.specs.Printing.{PrintsReport, ReportsAs, ReportsFile}
 
 -- a refusal that isn't one: help or the version is asked for
 abbrev pub IsForOutput : ErrorKind → Type 0
@@ -24,3 +36,47 @@ pub record IsInspected (size : Option ℕ) (old new : Supply) (r : Report) : Typ
   pub reports : ReportsAs size old new r
   pub whole : (bytes : List ℕ) → old.left ≡ Some bytes → IfSome size (λ n. n ≡ length bytes)
       → IsReport bytes r
+
+-- ---- What a run does of what its words ask for, with the ports of its files.
+
+-- a text was written, and sent on
+abbrev pub Prints : (old new : SinkView) → Type 0
+Prints old new = (text : List ℕ) × Appends old.taken new.taken text × (new.flushed ≡ true)
+
+-- the input and the output are as they were
+abbrev pub IsQuiet : (before after : World) → Type 0
+IsQuiet before after = (after.input ≡ before.input) × (after.output ≡ before.output)
+
+-- `IsPorts` says which are the ports of the files.
+module _ (words : List Text) (IsPorts : Ports → Type 0) (before after : World)
+    (ended : Result (Unit {0}) Ending) where
+  -- `inspect` reported the input, which it read to its end, or its file. Neither it nor a drill puts
+  -- anything under a name; and others read no input and print nothing.
+  abbrev pub DoesOther : Request → Type 0
+  DoesOther (Inspect None) = (after.files ≡ before.files) × OnOk ended
+      (PrintsReport (Inspects before.input.supply after.input.supply) before.output after.output)
+  DoesOther (Inspect (Some name)) = Does before.files after.files × OnOk ended
+      (PrintsReport (ReportsFile (CameSince before.files after.files) name.now) before.output after.output)
+  DoesOther (Drill d) = Does before.files after.files
+  DoesOther other = IsQuiet before after
+
+  -- Words that make a request are obeyed. No words ask for a report of the input.
+  pub record DoesRequest : Type 0 where
+    pub asked : Request
+    pub made : IsMadeBy words asked
+    pub apart : IsApart asked
+    -- What was done with files.
+    pub acts : Acts IsPorts asked before.files after.files ended
+    -- What was written to the output.
+    pub answers : DoesOther asked
+
+  -- Other words are refused, unless help or the version is asked for.
+  pub record Declines : Type 0 where
+    pub done : OnOk ended ((words ≢ []) × IsForHelp words × Prints before.output after.output)
+    -- No file was opened, made or changed.
+    pub untouched : after.files ≡ before.files
+    pub quiet : (IsForHelp words → ⊥) → IsQuiet before after
+
+  -- A run did one of these, of its words.
+  abbrev pub Obeys : Type 0
+  Obeys = DoesRequest ⊎ Declines

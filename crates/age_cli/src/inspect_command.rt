@@ -1,19 +1,14 @@
 //! The command that reports what a file holds.
 
-ghost use Rattle.std.specs.Prelude.{◌≡◌, ◌⊎◌, [], ◌∷◌, IfOk, OnOk, IfErr, true};
-ghost use Rattle.age_io.specs.Taken.{Appends};
-ghost use Rattle.age_inspection.specs.declared.report.Report.{Report};
-ghost use Rattle.age_command.specs.declared.ending.Ending.TheVariants.{Fault};
-ghost use Rattle.age_io.specs.{Origin};
-ghost use Rattle.age_fileset.specs.{Open, Does, CameSince};
-ghost use Rattle.age_intake.specs.{HeadFails, NoHeadFault};
-ghost use Rattle.age_cli.specs.{ReportsFile, FailsReport, FailsFile, FailsWriting, report_text};
+ghost use Rattle.std.specs.Prelude.{◌≡◌, IfOk, OnOk};
+ghost use Rattle.age_fileset.specs.{Does, CameSince};
+ghost use Rattle.age_cli.specs.{PrintsReport, ReportsFile};
 ghost use Rattle.age_cli.specs.inner.{IsInspected};
 
 use crate::print::text_of;
 use age_command::{Ending, put_bytes};
 use age_fault::FileFault;
-use age_fileset::{FileSet, Missing, OpenFault};
+use age_fileset::{ErrorContext, FileError, FileSet, Missing, OpenError, OpenFault, Purpose};
 use age_inspection::{Report, inspect, inspect_sized};
 use age_io::{Sink, Source, flush_all};
 use std::alloc::Global;
@@ -27,8 +22,7 @@ fn inspect_as<I: Source>(
 ) -> Result<Report, FileFault>
     ensures ok { IfOk result (IsInspected length (I.view input.old).supply
         (I.view input.new).supply) }
-    ensures fails { IfErr result (HeadFails NoHeadFault (I.view input.old) (I.view input.new)) }
-    ensures began { (from : Origin) → I.began input.old from → I.began input.new from }
+    ensures named { (I.view input.new).label ≡ (I.view input.old).label }
 {
     match length {
         Some(len) if len > 0 => inspect_sized(alloc, len, input),
@@ -38,26 +32,44 @@ fn inspect_as<I: Source>(
 
 /// Writes the report of an input of this length, or, if that isn't known, of one that is read to its
 /// end.
-pub(crate) fn report<I: Source, O: Sink>(
+pub(crate) fn report<'w, I: Source, O: Sink>(
     alloc: Global,
     length: Option<u64>,
     input: &mut I,
     output: &mut O,
-) -> Result<(), Ending>
-    ensures done { OnOk result ((r : Report)
-        × IsInspected length (I.view input.old).supply (I.view input.new).supply r
-        × Appends (O.view output.old).taken (O.view output.new).taken (report_text r)) }
-    ensures fails { IfErr result (FailsReport (HeadFails NoHeadFault (I.view input.old) (I.view input.new))
+) -> Result<(), Ending<'w>>
+    ensures done { OnOk result (PrintsReport
+        (IsInspected length (I.view input.old).supply (I.view input.new).supply)
         (O.view output.old) (O.view output.new)) }
-    ensures began { (from : Origin) → I.began input.old from → I.began input.new from }
-    ensures sent { OnOk result ((O.view output.new).flushed ≡ true) }
-    ensures unprinted { IfErr result (λ e. FailsWriting (O.view output.old) (O.view output.new) e
-        ⊎ (output.new ≡ output.old)) }
+    ensures named { (I.view input.new).label ≡ (I.view input.old).label }
 {
     let found = inspect_as(alloc, length, input)?;
     let text = text_of(alloc, &found)?;
     put_bytes(output, text.as_slice())?;
     Ok(flush_all(output)?)
+}
+
+/// Why a file couldn't be opened. This command opens one file only, so one that is in use was opened
+/// before it.
+fn unopened<'w>(error: &OpenError<'w>) -> Ending<'w> {
+    let fault = match error.fault() {
+        OpenFault::Fault(fault) => fault,
+        OpenFault::SameFile => FileFault::Read,
+    };
+    Ending::Fault(FileError::new(fault, error.context()))
+}
+
+/// Returns how a report ended; a fault that names no file gets this context.
+fn with_context<'w>(
+    reported: Result<(), Ending<'w>>,
+    context: ErrorContext<'w>,
+) -> Result<(), Ending<'w>>
+    ensures { result ≡ reported.entry }
+{
+    match reported {
+        Ok(()) => Ok(()),
+        Err(ending) => Err(ending.with_context(context)),
+    }
 }
 
 /// Writes the report on the file of this name. If its length is known, nothing is read once its
@@ -67,26 +79,18 @@ pub(crate) fn report_file<'w, F: FileSet<'w>, O: Sink>(
     files: &mut F,
     name: &'w str,
     output: &mut O,
-) -> Result<(), Ending>
-    ensures does { Does (Open name.now ∷ []) (F.view files.old) (F.view files.new) }
-    ensures done { OnOk result ((r : Report)
-        × ReportsFile (CameSince (F.view files.old) (F.view files.new)) name.now r
-        × Appends (O.view output.old).taken (O.view output.new).taken (report_text r)) }
-    ensures fails { IfErr result
-        (FailsReport (FailsFile (F.view files.old) (F.view files.new) name.now)
+) -> Result<(), Ending<'w>>
+    ensures does { Does (F.view files.old) (F.view files.new) }
+    ensures done { OnOk result (PrintsReport
+        (ReportsFile (CameSince (F.view files.old) (F.view files.new)) name.now)
         (O.view output.old) (O.view output.new)) }
-    ensures sent { OnOk result ((O.view output.new).flushed ≡ true) }
-    ensures unprinted { IfErr result (λ e. FailsWriting (O.view output.old) (O.view output.new) e
-        ⊎ (output.new ≡ output.old)) }
 {
-    let mut source = match files.open(alloc, name, Missing::Fails) {
+    let mut source = match files.open(alloc, name, Missing::Fails, Purpose::Input) {
         Ok(source) => source,
-        Err(OpenFault::Fault(fault)) => return Err(Ending::Fault(fault)),
-        // This command opens one file only, so one that is in use was opened before it.
-        Err(OpenFault::SameFile) => return Err(Ending::Fault(FileFault::Read)),
+        Err(error) => return Err(unopened(&error)),
     };
     let length = files.length(&source);
     let reported = report(alloc, length, &mut source, output);
-    files.finish(source);
-    reported
+    let context = files.close_input(source);
+    with_context(reported, context)
 }

@@ -1,19 +1,28 @@
 //! The program over arguments, files, a source and sinks.
 //!
-//! `run` takes the arguments after the program's name, a set of files, the input, the output, a
-//! sink for faults, a meter for progress and what makes the text of a refusal, and returns the
-//! status: 0 on success, 1 on a fault, 2 on a bad command line. It is generic over all of them, so
-//! that its contract covers every input and every set of files; the program passes in the
-//! machine's. What `inspect` does is here. `encrypt`, `decrypt` and `resume` are in `age_outputs`,
-//! whose functions this passes on, and `drill` is in `age_drill`.
+//! `run_words` takes the arguments after the program's name, a set of files, the input, the output, a
+//! sink for faults and a meter for progress, and says how it ended; `run` returns the status of
+//! that: 0 on success, 1 on a fault, 2 on a bad command line. Both are generic over all of them, so
+//! that their contract covers every input and every set of files; the program passes in the
+//! machine's. Whoever calls `run`, or implements a set of files, finds all names here. What `inspect`
+//! does is here; `encrypt`, `decrypt` and `resume` are in `age_outputs`,
+//! and `drill` is in `age_drill`.
 #![tactic(auto)]
 
 mod inspect_command;
 mod laws;
+mod names;
 mod print;
 mod program;
 
-pub use age_fileset::{FileSet, MemFiles, OpenFault};
-pub use age_outputs::{Stop, Unfinished, conclude, decrypt_file, encrypt_file, resume_file};
-pub use laws::{early_faults_spare_out, refusals_are_silent, runs_keep_out};
-pub use program::run;
+pub use age_cli_args::Request;
+pub use age_command::{Ending, UnsavedError, Usage, UsageError};
+pub use age_fault::FileFault;
+pub use age_fileset::{
+    Action, ErrorContext, Failure, FileError, FileSet, FirstBytes, MemFiles, MemIn, MemOut,
+    Missing, OpenError, OpenFault, Purpose, ReadSummary,
+};
+pub use age_io::{Failed, MemSink, MemSource, Meter, Sink, Source};
+pub use age_options::{ClobberOption, Durability};
+pub use laws::runs_keep_files;
+pub use program::{read_words, run, run_words, status};

@@ -1,61 +1,48 @@
 //! The program, over arguments, files, a source and sinks.
 
-ghost use Rattle.std.specs.Prelude.{◌≡◌, ◌⊎◌, IfErr, IsErrAnd, IsOk, OnOk, if◌then◌else◌};
-ghost use Rattle.clap.specs.declared.error.kind.ErrorKind.TheVariants.{OutOfMemory};
-ghost use Rattle.age_fault.specs.declared.fault.FileFault.TheVariants.{Memory};
-ghost use Rattle.age_command.specs.{is_usage};
-ghost use Rattle.age_command.specs.declared.ending.Ending.TheVariants.{Fault};
-ghost use Rattle.clap.specs.Words.{kind_of};
+ghost use Rattle.std.specs.Prelude.{◌≡◌, IsOk, List, OnOk, Result};
+ghost use Rattle.clap.specs.Words.{Text, kind_of};
 ghost use Rattle.clap.specs.Walk.{texts};
-ghost use Rattle.age_outputs.specs.Acts.{Finally, PortsOf, ShowsProgress};
-ghost use Rattle.age_cli.specs.{IsRefusal, FailsWriting, Obeys, Prints};
-ghost use Rattle.age_cli.specs.Runs.{Runs};
-ghost use Rattle.age_cli.specs.Headline.{ZeroLeaves};
-ghost use Rattle.age_fileset.specs.{CameSince};
-ghost use Rattle.age_cli.specs.inner.{IsForOutput, ended_so};
+ghost use Rattle.age_command.specs.declared.ending.Ending.{Ending};
+ghost use Rattle.age_outputs.specs.Acts.{Finally, PortsOf};
+ghost use Rattle.age_cli.specs.{IsApart, IsMadeBy, IsReadOf, Runs, status_by};
+ghost use Rattle.age_cli.specs.inner.{IsForOutput, Obeys, Prints, ended_so};
 
 use crate::inspect_command::{report, report_file};
-use age_cli_args::{Request, Wording, read_request};
-use age_command::{Ending, Usage, put_bytes};
+use crate::names::find_shared_name;
+use age_cli_args::{Request, read_request};
+use age_command::{Ending, Usage, UsageError, put_bytes, report_ending};
 use age_drill::drill_file;
 use age_fault::FileFault;
-use age_fileset::FileSet;
+use age_fileset::{ErrorContext, FileSet};
 use age_io::{Meter, Sink, Source, flush_all};
 use age_outputs::{Unfinished, conclude, decrypt_file, encrypt_file, resume_file};
 use clap::Error;
 use clap::error::ErrorKind;
 use std::alloc::Global;
 
-/// Help and the version go to the output if asked for; other arguments are refused.
-fn answer_refusal<O: Sink, W: Wording>(
-    alloc: Global,
-    words: &[&str],
-    error: Error,
-    output: &mut O,
-    wording: &W,
-) -> Result<(), Ending>
+/// Help and the version go to the output if asked for; other words are refused.
+fn answer<'w, O: Sink>(alloc: Global, error: Error, output: &mut O) -> Result<(), Ending<'w>>
     ensures asked { IsOk result → IsForOutput (kind_of error) }
     ensures prints { OnOk result (Prints (O.view output.old) (O.view output.new)) }
-    ensures fails { IfErr result (λ e. (IsRefusal e × (output.new ≡ output.old))
-        ⊎ (IsForOutput (kind_of error) × FailsWriting (O.view output.old) (O.view output.new) e)) }
-    ensures memory { kind_of error ≡ OutOfMemory → IsErrAnd result (λ e. e ≡ Fault Memory) }
+    ensures quiet { (IsForOutput (kind_of error) → ⊥) → O.view output.new ≡ O.view output.old }
 {
-    if error.kind() == ErrorKind::OutOfMemory {
-        return Err(Ending::Fault(FileFault::Memory));
+    match error.kind() {
+        ErrorKind::OutOfMemory => Err(Ending::from(FileFault::Memory)),
+        ErrorKind::DisplayHelp | ErrorKind::DisplayVersion => {
+            let Ok(text) = error.to_string(alloc) else {
+                return Err(Ending::from(FileFault::Memory));
+            };
+            put_bytes(output, text.as_bytes())?;
+            Ok(flush_all(output)?)
+        }
+        _ => Err(Ending::Words(error)),
     }
-    let Ok(text) = wording.text_of(alloc, words, &error) else {
-        return Err(Ending::Fault(FileFault::Memory));
-    };
-    if error.kind() != ErrorKind::DisplayHelp && error.kind() != ErrorKind::DisplayVersion {
-        return Err(Ending::Words(text));
-    }
-    put_bytes(output, text.as_bytes())?;
-    Ok(flush_all(output)?)
 }
 
 /// How a command without a position ended.
-fn ended<'w>(done: Result<(), Ending>) -> Result<(), Unfinished<'w>>
-    ensures { result ≡ ended_so done }
+fn ended<'w>(done: Result<(), Ending<'w>>) -> Result<(), Unfinished<'w>>
+    ensures { result ≡ ended_so done.entry }
 {
     match done {
         Ok(()) => Ok(()),
@@ -63,34 +50,24 @@ fn ended<'w>(done: Result<(), Ending>) -> Result<(), Unfinished<'w>>
     }
 }
 
-/// Does what the words ask for.
-fn obey<'w, F: FileSet<'w>, I: Source, O: Sink, P: Meter, W: Wording>(
+/// Does what is asked, up to where its position is to be saved.
+fn obey<'w, F: FileSet<'w>, I: Source, O: Sink, P: Meter>(
     alloc: Global,
-    words: &'w [&'w str],
+    request: &Request<'w>,
     files: &mut F,
     input: &mut I,
     output: &mut O,
     progress: &mut P,
-    wording: &W,
 ) -> Result<(), Unfinished<'w>>
-    ensures { Finally (λ after. Obeys (texts words.now) (PortsOf F.In.view F.Out.view)
+    requires apart { IsApart request.now }
+    ensures { (words : List Text) → IsMadeBy words request.now → Finally (λ after. Obeys words
+        (PortsOf F.In.view F.Out.view)
         (record { files = F.view files.old; input = I.view input.old; output = O.view output.old })
-        (record { files = after; input = I.view input.new; output = O.view output.new })
-        (input.new ≡ input.old) (output.new ≡ output.old)
-        (progress.new ≡ progress.old)
-        (ShowsProgress (CameSince (F.view files.old) after) (P.shown progress.old)
-        (P.shown progress.new))) (F.view files.new) result }
+        (record { files = after; input = I.view input.new; output = O.view output.new }))
+        (F.view files.new) result }
 {
-    if words.is_empty() {
-        return ended(report(alloc, None, input, output));
-    }
-    let request = match read_request(alloc, words) {
-        Ok(Some(request)) => request,
-        Ok(None) => return Err(Unfinished::Ended(Ending::Usage(Usage::Unread))),
-        Err(error) => return ended(answer_refusal(alloc, words, error, output, wording)),
-    };
-    match &request {
-        Request::Inspect(Some(name)) => ended(report_file(alloc, files, name, output)),
+    match request {
+        Request::Inspect(Some(name)) => ended(report_file(alloc, files, *name, output)),
         Request::Inspect(None) => ended(report(alloc, None, input, output)),
         Request::Encrypt(asked) => encrypt_file(alloc, files, asked, progress),
         Request::Decrypt(asked) => decrypt_file(alloc, files, asked, progress),
@@ -99,37 +76,139 @@ fn obey<'w, F: FileSet<'w>, I: Source, O: Sink, P: Meter, W: Wording>(
     }
 }
 
-/// The status of the program for this ending.
-fn status(ending: &Ending) -> u8
-    ensures { result ≡ (if is_usage ending.now then 2 else 1) }
+/// Does what is asked, and reports to `faults` why it isn't done, if it isn't.
+fn perform<'w, F: FileSet<'w>, I: Source, O: Sink, E: Sink, P: Meter>(
+    alloc: Global,
+    request: &Request<'w>,
+    files: &mut F,
+    input: &mut I,
+    output: &mut O,
+    faults: &mut E,
+    progress: &mut P,
+) -> Result<(), Ending<'w>>
+    ensures obeys { (words : List Text) → IsMadeBy words request.now → Obeys words
+        (PortsOf F.In.view F.Out.view)
+        (record { files = F.view files.old; input = I.view input.old; output = O.view output.old })
+        (record { files = F.view files.new; input = I.view input.new; output = O.view output.new })
+        result }
+    ensures silent { OnOk result (E.view faults.new ≡ E.view faults.old) }
 {
-    match ending {
-        Ending::Words(_) | Ending::Usage(_) => 2,
-        Ending::Fault(_) | Ending::Unsaved(_, _) => 1,
+    if let Some(name) = find_shared_name(request) {
+        let both = ErrorContext::Twice(name, Some(name));
+        let refused = UsageError::new(Usage::SameFile, both);
+        return reported(alloc, Err(Ending::Usage(refused)), faults);
+    }
+    match obey(alloc, request, files, input, output, progress) {
+        Ok(()) => Ok(()),
+        Err(unfinished) => Err(conclude(alloc, files, unfinished, faults)),
     }
 }
 
-/// Runs the program on the arguments after its name, and returns its status: 0 on success; 1 on a
-/// fault, which is reported to `faults` in one line (two, if a position couldn't be saved either);
-/// and 2 on a bad command line, whose text goes there too.
+/// The status of the program for how it ended: 0 if all was done, 1 on a fault, 2 on a bad command
+/// line.
+pub fn status(ended: &Result<(), Ending<'_>>) -> u8
+    ensures { result ≡ status_by ended.now }
+{
+    match ended {
+        Ok(()) => 0,
+        Err(Ending::Words(_) | Ending::Usage(_)) => 2,
+        Err(Ending::Fault(_) | Ending::Unsaved(_, _)) => 1,
+    }
+}
+
+/// Reports why words weren't obeyed, if they weren't. What the parser of command lines refuses is left
+/// to the caller, who may know more to say of it.
+fn reported<'w, E: Sink>(
+    alloc: Global,
+    answered: Result<(), Ending<'w>>,
+    faults: &mut E,
+) -> Result<(), Ending<'w>>
+    ensures same { result ≡ answered.entry }
+    ensures silent { OnOk result (E.view faults.new ≡ E.view faults.old) }
+{
+    match answered {
+        Ok(()) => Ok(()),
+        Err(Ending::Words(error)) => Err(Ending::Words(error)),
+        Err(ending) => {
+            report_ending(alloc, faults, &ending);
+            Err(ending)
+        }
+    }
+}
+
+/// What the words after the program's name ask for: none ask for a report of the input.
+pub fn read_words<'w>(alloc: Global, words: &'w [&'w str]) -> Result<Option<Request<'w>>, Error>
+    ensures { IsReadOf (texts words.now) result }
+{
+    if words.is_empty() {
+        return Ok(Some(Request::Inspect(None)));
+    }
+    read_request(alloc, words)
+}
+
+/// Does what the words after the program's name ask for, as `read_words` read them; and says how that
+/// ended, and which files it is about. A fault is reported to `faults` in one line (two, if a position
+/// couldn't be saved either). Words that the parser refuses are returned, and reported by the caller.
 ///
-/// Without arguments, or with `inspect`, it reads the input to its end and writes the report; with
+/// Without words, or with `inspect`, it reads the input to its end and writes the report; with
 /// `inspect FILE` it reads that file. `encrypt`, `decrypt` and `resume` read IN and write OUT.
 /// `drill` delivers the payload of IN by a script, and writes a line for each line of it. Help goes
-/// to the output if asked for, with status 0.
+/// to the output if asked for.
 ///
-/// Status 0 of a decryption, over any set of files, the machine's among them: IN gave the age file of
-/// a text, or, if it was resumed, the earlier output and IN gave its parts; and OUT was closed with
-/// just that text. Of an encryption: OUT was closed with just the age file of the text that IN gave
-/// to its end. If OUT is a regular file and the disk answers as expected, it is at its path, and
-/// without `--no-sync` a power cut leaves nothing else there.
-///
-/// `wording` makes the text for words that are refused, or ask for help.
+/// If all of an encryption or a decryption is done, over any set of files, the machine's among them:
+/// OUT was closed with just the age file of what IN gave; or with just the text whose age file IN
+/// gave, or, if it was resumed, the earlier output and IN. If OUT is a regular file and the disk
+/// answers as expected, it is at its path, and without `--no-sync` a power cut leaves nothing else
+/// there. If it isn't done, OUT was left as the contract says, and a position that was saved lies
+/// within what OUT holds for certain.
 ///
 /// With `--progress`, `progress` is shown how many bytes IN has, if the set of files can say so,
 /// and how many of them each pull gave, and then that the reading is over, before a fault is
 /// reported.
-pub fn run<'w, F: FileSet<'w>, I: Source, O: Sink, E: Sink, P: Meter, W: Wording>(
+pub fn run_words<'w, F: FileSet<'w>, I: Source, O: Sink, E: Sink, P: Meter>(
+    alloc: Global,
+    words: &'w [&'w str],
+    read: Result<Option<Request<'w>>, Error>,
+    files: &mut F,
+    input: &mut I,
+    output: &mut O,
+    faults: &mut E,
+    progress: &mut P,
+) -> Result<(), Ending<'w>>
+    requires read { IsReadOf (texts words.now) read }
+    ensures runs { Runs (texts words.now)
+        (record { files = F.view files.old; input = I.view input.old; output = O.view output.old })
+        (record { files = F.view files.new; input = I.view input.new; output = O.view output.new })
+        result }
+    ensures silent { OnOk result (E.view faults.new ≡ E.view faults.old) }
+{
+    match read {
+        Ok(Some(request)) => perform(alloc, &request, files, input, output, faults, progress),
+        Ok(None) => reported(alloc, Err(Ending::from(Usage::Unread)), faults),
+        Err(error) => {
+            let answered = answer(alloc, error, output);
+            reported(alloc, answered, faults)
+        }
+    }
+}
+
+/// Reports words that were refused.
+fn report_words<'w, E: Sink>(alloc: Global, ended: &Result<(), Ending<'w>>, faults: &mut E)
+    ensures { OnOk ended.now (E.view faults.new ≡ E.view faults.old) }
+{
+    match ended {
+        Ok(()) => {}
+        Err(ending) => match ending {
+            Ending::Words(_) => report_ending(alloc, faults, ending),
+            _ => {}
+        },
+    }
+}
+
+/// Runs the program on the arguments after its name, and returns its status: 0 on success; 1 on a
+/// fault; and 2 on a bad command line. Why it failed is reported to `faults`. What it does is said
+/// at [`run_words`].
+pub fn run<'w, F: FileSet<'w>, I: Source, O: Sink, E: Sink, P: Meter>(
     alloc: Global,
     words: &'w [&'w str],
     files: &mut F,
@@ -137,20 +216,16 @@ pub fn run<'w, F: FileSet<'w>, I: Source, O: Sink, E: Sink, P: Meter, W: Wording
     output: &mut O,
     faults: &mut E,
     progress: &mut P,
-    wording: &W,
 ) -> u8
-    ensures zero { ZeroLeaves (texts words.now) (PortsOf F.In.view F.Out.view) (F.view files.old)
-        (F.view files.new) result }
-    ensures runs { Runs (texts words.now) (PortsOf F.In.view F.Out.view)
+    ensures runs { (ended : Result (Unit {0}) Ending) × (result ≡ status_by ended)
+        × Runs (texts words.now)
         (record { files = F.view files.old; input = I.view input.old; output = O.view output.old })
         (record { files = F.view files.new; input = I.view input.new; output = O.view output.new })
-        (E.view faults.old) (E.view faults.new) (faults.new ≡ faults.old)
-        (input.new ≡ input.old) (output.new ≡ output.old) (progress.new ≡ progress.old)
-        (ShowsProgress (CameSince (F.view files.old) (F.view files.new)) (P.shown progress.old)
-        (P.shown progress.new)) result }
+        ended }
+    ensures silent { result ≡ 0 → E.view faults.new ≡ E.view faults.old }
 {
-    match obey(alloc, words, files, input, output, progress, wording) {
-        Ok(()) => 0,
-        Err(unfinished) => status(&conclude(alloc, files, unfinished, faults)),
-    }
+    let read = read_words(alloc, words);
+    let ended = run_words(alloc, words, read, files, input, output, faults, progress);
+    report_words(alloc, &ended, faults);
+    status(&ended)
 }

@@ -16,7 +16,7 @@ use std::alloc::{AllocError, Global};
 
 /// How an argument of a command is given.
 #[derive(Clone, Copy)]
-enum Given {
+pub enum Given {
     /// `--ID VALUE`; the help shows this word for the value.
     Value(&'static str),
     /// `--ID FILE`, which is required.
@@ -33,11 +33,11 @@ enum Given {
 
 /// An argument of a command.
 #[derive(Clone, Copy)]
-struct Argument {
+pub struct Argument {
     /// Its name.
-    id: &'static str,
+    pub id: &'static str,
     /// How it is given.
-    given: Given,
+    pub given: Given,
     /// What the help says of it.
     help: &'static str,
 }
@@ -140,13 +140,23 @@ enum Page { Encrypt, Decrypt, Resume, Inspect, Drill }
 
 /// A command of the program.
 #[derive(Clone, Copy)]
-struct Subcommand {
-    name: &'static str,
-    arguments: &'static [Argument],
+pub struct Subcommand {
+    /// Its name.
+    pub name: &'static str,
+    /// Its options, and then its operands.
+    pub arguments: &'static [Argument],
     page: Page,
 }
 
-/// A static, since a constant would put all texts in it into what is proved of `program`. Even those of
+impl Subcommand {
+    /// Returns the lines that show how the command is given.
+    pub fn usage(&self) -> &'static str {
+        let (usage, _, _) = texts_of(self.page);
+        usage
+    }
+}
+
+/// A static, since a constant would put all texts in it into what is proved of `table`. Even those of
 /// a static cost the proof some time, so the long ones are in [`texts_of`].
 #[rattlefmt::skip]
 static COMMANDS: [Subcommand; 5] = [
@@ -157,15 +167,15 @@ static COMMANDS: [Subcommand; 5] = [
     Subcommand { name: "drill", arguments: DRILL, page: Page::Drill },
 ];
 
-/// A command's usage, if its arguments don't show it, and the texts before them and after.
+/// A command's usage, and the texts before its arguments and after them.
 #[rattlefmt::skip]
-fn texts_of(page: Page) -> (Option<&'static str>, &'static str, &'static str) {
+fn texts_of(page: Page) -> (&'static str, &'static str, &'static str) {
     match page {
-        Page::Encrypt => (None, help::ENCRYPT, help::AFTER_ENCRYPT),
-        Page::Decrypt => (Some(help::DECRYPT_USAGE), help::DECRYPT, help::AFTER_DECRYPT),
-        Page::Resume => (Some(help::RESUME_USAGE), help::RESUME, help::AFTER_RESUME),
-        Page::Inspect => (None, help::INSPECT, help::AFTER_INSPECT),
-        Page::Drill => (Some(help::DRILL_USAGE), help::DRILL, help::AFTER_DRILL),
+        Page::Encrypt => (help::ENCRYPT_USAGE, help::ENCRYPT, help::AFTER_ENCRYPT),
+        Page::Decrypt => (help::DECRYPT_USAGE, help::DECRYPT, help::AFTER_DECRYPT),
+        Page::Resume => (help::RESUME_USAGE, help::RESUME, help::AFTER_RESUME),
+        Page::Inspect => (help::INSPECT_USAGE, help::INSPECT, help::AFTER_INSPECT),
+        Page::Drill => (help::DRILL_USAGE, help::DRILL, help::AFTER_DRILL),
     }
 }
 
@@ -256,16 +266,13 @@ fn with_arguments<'a>(
     Ok(whole)
 }
 
-/// A command with its arguments, and with its usage if they don't show it.
+/// A command with its usage and its arguments.
 fn command_of<'a>(alloc: Global, sub: &Subcommand) -> Result<Command<'a>, AllocError>
     ensures { IfOk result (HasApp (app_as sub.now)) }
 {
     let (usage, about, after) = texts_of(sub.page);
     let plain = command(alloc, sub.name, about, after);
-    match usage {
-        Some(usage) => with_arguments(alloc, plain.override_usage(usage), sub.arguments),
-        None => with_arguments(alloc, plain, sub.arguments),
-    }
+    with_arguments(alloc, plain.override_usage(usage), sub.arguments)
 }
 
 /// A program with one more command.
@@ -320,10 +327,18 @@ fn bare<'a>(alloc: Global) -> Result<Command<'a>, AllocError>
         .bin_name("age_tool")
 }
 
+/// The commands. Each function that names [`COMMANDS`] costs the proof of all texts in it, so only this
+/// one does.
+fn table() -> &'static [Subcommand]
+    ensures { age_tool ≡ with_subcommands bare_tool result.now }
+{
+    &COMMANDS
+}
+
 fn program<'a>(alloc: Global) -> Result<Command<'a>, AllocError>
     ensures { IfOk result (HasApp age_tool) }
 {
-    with_commands(alloc, bare(alloc)?, &COMMANDS)
+    with_commands(alloc, bare(alloc)?, table())
 }
 
 /// What the command line gives for each argument.
@@ -332,4 +347,14 @@ pub(crate) fn matches_of<'a>(alloc: Global, words: &'a [&'a str]) -> Result<ArgM
     ensures refusals { FailsBy (refusals (texts words.now)) result }
 {
     program(alloc)?.try_get_matches_from(words)
+}
+
+/// Returns the commands, in the order in which the help lists them.
+pub fn list_commands() -> &'static [Subcommand] {
+    table()
+}
+
+/// Returns the command of this name, if there is one.
+pub fn find_command(name: &str) -> Option<&'static Subcommand> {
+    list_commands().iter().find(|it| it.name == name)
 }

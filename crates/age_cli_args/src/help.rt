@@ -8,7 +8,7 @@ pub(crate) const PROGRAM: &str = "Encrypt, decrypt and inspect age files (age-en
 
 /// The program may be run without arguments, which `clap` wouldn't say of a program that has
 /// commands.
-pub(crate) const USAGE: &str = "age_tool [COMMAND]";
+pub const USAGE: &str = "age_tool [COMMAND]";
 
 pub(crate) const AFTER_PROGRAM: &str =
     "With no arguments it inspects standard input, as `age_tool inspect` does.
@@ -34,6 +34,8 @@ the passphrase. age_tool never prompts.
 `age_tool COMMAND --help` explains a command.";
 
 pub(crate) const ENCRYPT: &str = "Encrypt a file with a passphrase";
+
+pub(crate) const ENCRYPT_USAGE: &str = "age_tool encrypt [OPTIONS] --pass <FILE> <IN> <OUT>";
 
 pub(crate) const AFTER_ENCRYPT: &str = "Example:
     age_tool encrypt --no-clobber --pass passphrase.txt notes.txt notes.txt.age
@@ -74,6 +76,8 @@ run's OUT, and --save may overwrite the file of --position. If none was saved,
 the old position still belongs to the earlier output.";
 
 pub(crate) const INSPECT: &str = "Show what the header of an age file says";
+
+pub(crate) const INSPECT_USAGE: &str = "age_tool inspect [FILE]";
 
 pub(crate) const AFTER_INSPECT: &str = "Example:
     age_tool inspect notes.txt.age

@@ -1,15 +1,15 @@
 //! The command line of `age_tool`: its commands, their options and help, and what the arguments ask
-//! for.
+//! for. `list_commands` shows them, for the lines about arguments that are refused.
 #![tactic(auto)]
 
 mod commands;
 mod help;
 mod reading;
 mod request;
-mod wording;
 
+pub use commands::{Argument, Given, Subcommand, find_command, list_commands};
+pub use help::USAGE;
 pub use reading::read_request;
 pub use request::{
     Decrypting, Drilling, Encrypting, IdentityOptions, Paths, ProgressOption, Request, Resuming,
 };
-pub use wording::Wording;

@@ -1,8 +1,10 @@
 ghost use Rattle.std.specs.Prelude.{None};
+ghost use Rattle.age_fileset.specs.{seen_in, size_in};
 
-use age_cli::{MemFiles, run};
-use age_hints::Refusals;
-use age_io::{MemSink, MemSource, Meter};
+use age_cli::{
+    ClobberOption, Durability, ErrorContext, FileError, FileSet, MemFiles, MemIn, MemOut, MemSink,
+    MemSource, Meter, Missing, OpenError, Purpose, run,
+};
 use age_messages::{LineStyle, ProgressLine};
 use std::alloc::Global;
 use std::cell::Cell;
@@ -241,13 +243,11 @@ fn put(alloc: Global, files: &mut MemFiles, name: &str, bytes: &[u8]) -> bool {
     }
 }
 
-/// A meter that counts nothing.
+/// A meter that shows nothing.
 #[derive(Clone, Copy)]
 struct Silent {}
 
 impl Meter for Silent {
-    ghost count = { λ _. None };
-
     fn begin(&mut self, _length: Option<u64>) {}
 
     fn advance(&mut self, _bytes: u64) {}
@@ -271,7 +271,6 @@ fn ends(alloc: Global, files: &mut MemFiles, words: &[&str], wanted: u8) -> bool
         &mut output,
         &mut faults,
         &mut Silent {},
-        &Refusals,
     );
     status == wanted
 }
@@ -327,6 +326,162 @@ fn are_served(alloc: Global, files: &mut MemFiles) -> bool {
         && decrypts(alloc, files, 1)
 }
 
+/// Files in memory that count how many were opened, as a caller's own set would.
+#[derive(Debug, Drop)]
+struct Counted {
+    files: MemFiles,
+    opened: u64,
+}
+
+impl<'w> FileSet<'w> for Counted {
+    type In = MemIn;
+
+    type Out = MemOut;
+
+    ghost view = { λ c. seen_in c.files };
+
+    ghost size = { size_in };
+
+    ghost file = { λ _. None };
+
+    fn is_same(&mut self, one: &'w str, other: &'w str) -> bool {
+        self.files.is_same(one, other)
+    }
+
+    fn check_streams(
+        &mut self,
+        alloc: Global,
+        names: &[Option<&'w str>],
+    ) -> Result<(), OpenError<'w>> {
+        self.files.check_streams(alloc, names)
+    }
+
+    fn open(
+        &mut self,
+        alloc: Global,
+        name: &'w str,
+        missing: Missing,
+        purpose: Purpose,
+    ) -> Result<MemIn, OpenError<'w>> {
+        self.opened = self.opened.saturating_add(1);
+        self.files.open(alloc, name, missing, purpose)
+    }
+
+    fn length(&self, source: &MemIn) -> Option<u64> {
+        self.files.length(source)
+    }
+
+    fn close_input(&mut self, source: MemIn) -> ErrorContext<'w> {
+        self.files.close_input(source)
+    }
+
+    fn prepare(
+        &mut self,
+        alloc: Global,
+        name: &'w str,
+        spared: Option<&'w str>,
+        others: &[Option<&'w str>],
+        clobber: ClobberOption,
+        durability: Durability,
+    ) -> Result<(), OpenError<'w>> {
+        self.files
+            .prepare(alloc, name, spared, others, clobber, durability)
+    }
+
+    fn create(
+        &mut self,
+        alloc: Global,
+        name: &'w str,
+        clobber: ClobberOption,
+        durability: Durability,
+    ) -> Result<MemOut, OpenError<'w>> {
+        self.files.create(alloc, name, clobber, durability)
+    }
+
+    fn check_absent(&mut self, name: &'w str) -> Result<(), OpenError<'w>> {
+        self.files.check_absent(name)
+    }
+
+    fn is_absent(&mut self, name: &'w str) -> bool {
+        self.files.is_absent(name)
+    }
+
+    fn is_for_faults(&mut self, out: &MemOut) -> bool {
+        self.files.is_for_faults(out)
+    }
+
+    fn is_terminal(&mut self, out: &MemOut) -> bool {
+        self.files.is_terminal(out)
+    }
+
+    fn is_empty(&self, out: &MemOut) -> bool {
+        self.files.is_empty(out)
+    }
+
+    fn reason(&self, out: &MemOut) -> ErrorContext<'w> {
+        self.files.reason(out)
+    }
+
+    fn settle(&mut self, out: &mut MemOut, durability: Durability) -> u64 {
+        self.files.settle(out, durability)
+    }
+
+    fn settled_so_far(&mut self, out: &MemOut, durability: Durability) -> u64 {
+        self.files.settled_so_far(out, durability)
+    }
+
+    fn close(&mut self, out: MemOut, durability: Durability) -> Result<(), FileError<'w>> {
+        self.files.close(out, durability)
+    }
+
+    fn discard(&mut self, out: MemOut, durability: Durability) {
+        self.files.discard(out, durability)
+    }
+
+    fn replace(
+        &mut self,
+        alloc: Global,
+        name: &'w str,
+        bytes: &[u8],
+        durability: Durability,
+    ) -> Result<(), FileError<'w>> {
+        self.files.replace(alloc, name, bytes, durability)
+    }
+}
+
+#[test]
+fn a_set_of_a_caller(rt: HostRuntime) -> Result<(), Fail> {
+    let mut files = Counted {
+        files: MemFiles::new(rt.alloc(), 4096),
+        opened: 0,
+    };
+    assert!(rt;
+        put(
+            rt.alloc(),
+            &mut files.files,
+            "IN",
+            b"age-encryption.org/v1\n"
+        )
+    );
+    let (mut output, mut faults) = (
+        MemSink::new(rt.alloc(), 100, 100, None)?,
+        MemSink::new(rt.alloc(), 100, 100, None)?,
+    );
+    let status = run(
+        rt.alloc(),
+        &["inspect", "IN"],
+        &mut files,
+        &mut MemSource::new(Vec::new(rt.alloc()), 1, None),
+        &mut output,
+        &mut faults,
+        &mut Silent {},
+    );
+    assert_eq!(rt; status, 1);
+    assert!(rt; faults.bytes() == b"age_tool: 8 HeadCut line 2\n".as_slice());
+    assert_eq!(rt; files.opened, 1);
+    Ok(())
+}
+
 #[test]
 fn files_in_memory(rt: HostRuntime) {
     assert!(rt; are_served(rt.alloc(), &mut MemFiles::new(rt.alloc(), 300)));
@@ -345,7 +500,6 @@ fn status_of(alloc: Global, fail_call: u64) -> Result<u8, Fail> {
         &mut output,
         &mut faults,
         &mut Silent {},
-        &Refusals,
     );
     let is_reported = faults.bytes() == b"age_tool: 27 Write\n".as_slice();
     Ok(if is_reported == (status == 1) {

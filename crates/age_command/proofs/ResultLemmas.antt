@@ -5,17 +5,9 @@ pub no_value : {T E : Type 0} (r : Result T E) (e : E) → IsErr r × IsErrAnd r
 no_value (Ok x) e is P = absurd is.1
 no_value (Err x) e is P = tt
 
-pub not_well : {T E : Type 0} (r : Result T E) (e : E) → IsErr r × IsErrAnd r (λ x. x ≡ e) → (P : Type 0) → OnOk r P
-not_well (Ok x) e is P = absurd is.1
-not_well (Err x) e is P = tt
-
 pub this_error : {T E : Type 0} (r : Result T E) (e : E) → IsErr r × IsErrAnd r (λ x. x ≡ e) → (P : E → Type 0) → P e → IfErr r P
 this_error (Ok x) e is P h = tt
 this_error (Err x) e is P h = subst P (sym is.1) h
-
-pub just_error : {T E : Type 0} (r : Result T E) (e : E) → IsErr r × IsErrAnd r (λ x. x ≡ e) → (P : E → Type 0) → P e → IsErrAnd r P
-just_error (Ok x) e is P h = absurd is.1
-just_error (Err x) e is P h = subst P (sym is.1) h
 
 -- what holds anyway
 pub always_ok : {T E : Type 0} (r : Result T E) (P : Type 0) → P → OnOk r P

@@ -1,6 +1,5 @@
 -- What opens a file, by the options and by the files that they name.
-use Rattle.std.specs.Prelude.{◌≡◌, ℕ, List, ◌++◌, length, Option, Some, None, option_map, IfSome, IsSomeAnd}
-use Rattle.std.specs.Prelude.{◌⊎◌}
+use Rattle.std.specs.Prelude.{◌≡◌, ℕ, List, ◌++◌, length, Option, Some, None, option_map, codes}
 use Rattle.std.specs.Option.{option_or}
 use Rattle.std.specs.declared.vec.Vec.{Vec}
 use Rattle.clap.specs.Words.{Text}
@@ -11,13 +10,9 @@ use Rattle.age_fault.specs.declared.key.KeyFault.{KeyFault}
 use Rattle.age_fileset.specs.{Outcome, HasGivenAll}
 use Rattle.age_cli_args.specs.{option_text}
 use Rattle.age_cli_args.specs.declared.request.IdentityOptions.{IdentityOptions}
-use Rattle.age_command.specs.Files.{HoldsOnly, without_line_feed}
-use Rattle.age_command.specs.Orders.{opening_event, identity_order}
+use Rattle.age_command.specs.Files.{without_line_feed}
 use Rattle.age_command.specs.declared.choice.Choice.{Choice}
 use Rattle.age_command.specs.declared.choice.Choice.TheVariants.{PassphraseFile, FileKey, SharedFile}
-use Rattle.age_command.specs.declared.ending.Usage.{Usage}
-use Rattle.age_command.specs.declared.ending.Usage.TheVariants.{GiveOneIdentity, BadFileKey}
-use Rattle.age_command.specs.declared.ending.Usage.TheVariants.{BadPassphraseFile, BadSharedFile}
 use Rattle.age_command.specs.declared.identity.Identity.{Identity}
 use Rattle.age_command.specs.declared.identity.Identity.TheVariants.{ByPassphrase, ByFileKey, ByShared}
 
@@ -45,10 +40,6 @@ steps_by (ByShared shared) = 0
 abbrev pub IsPassphraseIn : (Gave : List ℕ → Type 0) → List ℕ → Type 0
 IsPassphraseIn Gave pass = (bytes : List ℕ) × Gave bytes × (pass ≡ without_line_feed bytes)
 
--- these bytes hold none that may be used with this work factor
-abbrev pub HoldsNoPassphrase : ℕ → List ℕ → Type 0
-HoldsNoPassphrase log held = IsAllowed (without_line_feed held) log → ⊥
-
 -- one that gave this holds the shared secret, followed by the recipient
 pub record IsSharedIn (Gave : List ℕ → Type 0) (shared : Shared) : Type 0 where
   pub bytes : Gave (shared.secret ++ shared.recipient)
@@ -65,36 +56,14 @@ IsIdentity GaveAll None (Some digits) None max_log (ByFileKey known) = SpellsKey
 IsIdentity GaveAll None None (Some name) max_log (ByShared shared) = IsSharedIn (GaveAll name) shared
 IsIdentity GaveAll pass file_key shared max_log identity = ⊥
 
--- the file of the passphrase or of the shared secret, if one is named
-abbrev pub identity_file : IdentityOptions → Option Text
-identity_file u = option_or (option_text u.pass) (option_text u.shared)
-
 -- the options, and all that the file gave that they name, make what opens the input
 abbrev pub MakesBy : (GaveAll : Text → List ℕ → Type 0) → IdentityOptions → Identity → Type 0
 MakesBy GaveAll u identity = IsIdentity GaveAll (option_text u.pass) (option_text u.file_key)
     (option_text u.shared) u.max_log identity
 
--- what is to blame if these options open nothing: the file or the key that the one of them gives, or
--- that there isn't one
-abbrev pub blame_of : Option Text → Option Text → Option Text → Usage
-blame_of (Some pass) None None = BadPassphraseFile
-blame_of None (Some digits) None = BadFileKey
-blame_of None None (Some name) = BadSharedFile
-blame_of pass file_key shared = GiveOneIdentity
-
-abbrev pub blame_by : IdentityOptions → Usage
-blame_by u = blame_of (option_text u.pass) (option_text u.file_key) (option_text u.shared)
-
 -- a file holds these bytes, if there are any
 abbrev pub HoldsBytes : Option (List ℕ) → List ℕ → Type 0
 HoldsBytes held bytes = held ≡ Some bytes
-
--- the options make nothing, whatever the file holds that they name; or not of what it holds
-abbrev pub MakesNone : (Came : Outcome → Type 0) → IdentityOptions → Type 0
-MakesNone Came u =
-    ((held : Option (List ℕ)) (identity : Identity) → MakesBy (λ name. HoldsBytes held) u identity → ⊥)
-    ⊎ IsSomeAnd (identity_file u) (λ name. HoldsOnly Came name
-    (λ bytes. (identity : Identity) → MakesBy (λ name. HoldsBytes (Some bytes)) u identity → ⊥))
 
 -- ---- What opens a file, by the one option that is chosen.
 
@@ -107,12 +76,6 @@ file_of (SharedFile name) = Some name.now
 -- the bytes of a file that was read, if it wasn't too long
 abbrev pub file_bytes : {Z : Type 0} → Option (Vec ℕ Z) → Option (List ℕ)
 file_bytes = option_map (λ v. v.items)
-
--- what is to blame if a choice opens nothing
-abbrev pub blame_in : Choice → Usage
-blame_in (PassphraseFile name max_log) = BadPassphraseFile
-blame_in (FileKey known) = BadFileKey
-blame_in (SharedFile name) = BadSharedFile
 
 -- these bytes, if there are any, are all that the file of this name gave, if there is a name
 abbrev pub IsSecretGiven : (Came : Outcome → Type 0) → Option Text → Option (List ℕ) → Type 0
@@ -127,23 +90,17 @@ Makes (FileKey known) held (ByFileKey key) = key ≡ known
 Makes (SharedFile name) held (ByShared shared) = IsSharedIn (HoldsBytes held) shared
 Makes choice held identity = ⊥
 
--- what was read of its file is enough: if the choice makes nothing of it, the file holds only what it
--- makes nothing of
-abbrev pub IsEnough : (Came : Outcome → Type 0) → Choice → Option (List ℕ) → Type 0
-IsEnough Came choice held = ((identity : Identity) → Makes choice held identity → ⊥)
-    → IfSome (file_of choice) (λ name. HoldsOnly Came name
-    (λ bytes. (identity : Identity) → Makes choice (Some bytes) identity → ⊥))
-
 -- a choice is what these options say
 pub record Chooses (options : IdentityOptions) (choice : Choice) : Type 0 where
   -- Its file is the one that the options name.
-  pub order : opening_event (file_of choice)
-      ≡ identity_order (option_text options.pass) (option_text options.shared)
-  pub file : file_of choice ≡ identity_file options
-  -- If it makes nothing, that is to blame which is if the options open nothing.
-  pub blame : blame_in choice ≡ blame_by options
-  -- What it makes of the bytes of its file is what the options make of them, and nothing else.
+  pub file : file_of choice ≡ option_or (option_text options.pass) (option_text options.shared)
+  -- What it makes of the bytes of its file is what the options make of them.
   pub makes : (held : Option (List ℕ)) (identity : Identity) → Makes choice held identity
       → MakesBy (λ name. HoldsBytes held) options identity
-  pub only : (held : Option (List ℕ)) (identity : Identity)
-      → MakesBy (λ name. HoldsBytes held) options identity → Makes choice held identity
+
+-- ---- The random bytes of an encryption.
+
+-- their file, if none is named
+abbrev pub random_name : Option Text → Text
+random_name None = codes "/dev/urandom"
+random_name (Some name) = name

@@ -1,23 +1,18 @@
 //! What opens a file, as one of the options says.
 
-ghost use Rattle.std.specs.Prelude.{◌≡◌, ℕ, List, Option, IfOk, IfErr, IfSome, IfNone, IsSomeAnd};
-ghost use Rattle.age_keys.specs.{IsAllowed, PassphraseIdentity, Shared};
+ghost use Rattle.std.specs.Prelude.{◌≡◌, IfOk, IfErr, IfSome};
+ghost use Rattle.age_keys.specs.{IsAllowed};
 ghost use Rattle.age_fault.specs.declared.fault.FileFault.TheVariants.{Read};
-ghost use Rattle.age_fileset.specs.{OpenFails, InUse, Does, CameSince};
-ghost use Rattle.age_fileset.specs.declared.files.OpenFault.TheVariants.{SameFile, Fault};
-ghost use Rattle.age_command.specs.Orders.{opening_event};
-ghost use Rattle.age_command.specs.Identities.{HoldsBytes, IsPassphraseIn, IsSharedIn, MakesBy, file_of};
-ghost use Rattle.age_command.specs.Identities.{blame_by, blame_in, file_bytes, Makes, Chooses};
-ghost use Rattle.age_command.specs.Identities.{IsEnough, IsSecretGiven};
-ghost use Rattle.age_command.specs.Files.{IsUnreadable};
-ghost use Rattle.age_command.specs.declared.identity.Identity.{Identity};
+ghost use Rattle.age_fileset.specs.{OpenFails, Does, CameSince};
+ghost use Rattle.age_command.specs.Identities.{HoldsBytes, IsPassphraseIn, IsSharedIn, file_of, file_bytes};
+ghost use Rattle.age_command.specs.Identities.{Makes, Chooses, IsSecretGiven};
 
-use crate::Usage;
+use crate::ending::{Usage, UsageError};
 use crate::first_bytes::read_file;
 use crate::identity::{Identity, PASSPHRASE_FILE_MAX, SHARED_FILE_LEN, shared_of};
 use crate::secret::{OwnPassphrase, own_passphrase};
 use age_cli_args::IdentityOptions;
-use age_fileset::{FileSet, OpenFault};
+use age_fileset::{ErrorContext, FileSet, OpenError, Purpose};
 use age_keys::{KnownKey, SharedSecret};
 use std::alloc::Global;
 
@@ -34,20 +29,17 @@ pub enum Choice<'a> {
 
 impl<'a> Choice<'a> {
     /// The choice made by the single identity option. Refuses none, several, and a bad file key.
-    pub fn of(options: &IdentityOptions<'a>) -> Result<Choice<'a>, Usage>
-        ensures chooses { IfOk result (Chooses options.now) }
-        ensures blame { IfErr result (λ usage. usage ≡ blame_by options.now) }
-        ensures none { IfErr result (λ _. (held : Option (List ℕ)) (identity : Identity)
-            → MakesBy (λ name. HoldsBytes held) options.now identity → ⊥) }
+    pub fn of(options: &IdentityOptions<'a>) -> Result<Choice<'a>, UsageError<'a>>
+        ensures { IfOk result (Chooses options.now) }
     {
         match (options.pass, options.file_key, options.shared) {
             (Some(name), None, None) => Ok(Choice::PassphraseFile(name, options.max_log)),
             (None, Some(digits), None) => match KnownKey::read(digits) {
                 Some(key) => Ok(Choice::FileKey(key)),
-                None => Err(Usage::BadFileKey),
+                None => Err(UsageError::from(Usage::BadFileKey)),
             },
             (None, None, Some(name)) => Ok(Choice::SharedFile(name)),
-            _ => Err(Usage::GiveOneIdentity),
+            _ => Err(UsageError::from(Usage::GiveOneIdentity)),
         }
     }
 
@@ -57,54 +49,66 @@ impl<'a> Choice<'a> {
         &self,
         alloc: Global,
         files: &mut F,
-    ) -> Result<Option<Vec<u8>>, OpenFault>
-        ensures does { Does (opening_event (file_of self.now)) (F.view files.old) (F.view files.new) }
+    ) -> Result<Option<Vec<u8>>, OpenError<'a>>
+        ensures does { Does (F.view files.old) (F.view files.new) }
         ensures faults { IfErr result (OpenFails Read) }
-        ensures reason { IfErr result (λ f. f ≡ Fault Read
-            → IsUnreadable (CameSince (F.view files.old) (F.view files.new))) }
-        ensures in_use { IfErr result (λ f. f ≡ SameFile → IsSomeAnd (file_of self.now)
-            (λ name. CameSince (F.view files.old) (F.view files.new) (InUse name))) }
         ensures given { IfOk result (λ o. IsSecretGiven
             (CameSince (F.view files.old) (F.view files.new)) (file_of self.now) (file_bytes o)) }
-        ensures enough { IfOk result (λ o. IsEnough
-            (CameSince (F.view files.old) (F.view files.new)) self.now (file_bytes o)) }
     {
         match self {
-            Choice::PassphraseFile(name, _) => read_file(alloc, files, *name, PASSPHRASE_FILE_MAX),
+            Choice::PassphraseFile(name, _) => {
+                read_file(
+                    alloc,
+                    files,
+                    *name,
+                    Purpose::Passphrase,
+                    PASSPHRASE_FILE_MAX,
+                )
+            }
             Choice::FileKey(_) => Ok(None),
-            Choice::SharedFile(name) => read_file(alloc, files, *name, SHARED_FILE_LEN),
+            Choice::SharedFile(name) => {
+                read_file(alloc, files, *name, Purpose::Input, SHARED_FILE_LEN)
+            }
         }
     }
 
     /// What opens the file, given the bytes that `read` returned. Refuses bytes that hold no
     /// passphrase, or no shared secret with its recipient.
-    pub fn identity(self, secret: Option<Vec<u8>>) -> Result<Identity, Usage>
-        ensures makes { IfOk result (Makes self.entry (file_bytes secret)) }
-        ensures blame { IfErr result (λ usage. usage ≡ blame_in self.entry) }
-        ensures none { IfErr result (λ _. (identity : Identity)
-            → Makes self.entry (file_bytes secret) identity → ⊥) }
+    pub fn identity(self, secret: Option<Vec<u8>>) -> Result<Identity, UsageError<'a>>
+        ensures { IfOk result (Makes self.entry (file_bytes secret)) }
     {
+        let len = length_of(&secret);
         match self {
-            Choice::PassphraseFile(_, max_log) => match passphrase_in(secret, max_log) {
+            Choice::PassphraseFile(name, max_log) => match passphrase_in(secret, max_log) {
                 Some(pass) => Ok(Identity::ByPassphrase(pass)),
-                None => Err(Usage::BadPassphraseFile),
+                None => Err(bad_passphrase_file(name, len)),
             },
             Choice::FileKey(key) => Ok(Identity::ByFileKey(key)),
-            Choice::SharedFile(_) => match shared_in(&secret) {
+            Choice::SharedFile(name) => match shared_in(&secret) {
                 Some(shared) => Ok(Identity::ByShared(shared)),
-                None => Err(Usage::BadSharedFile),
+                None => Err(UsageError::new(Usage::BadSharedFile, ErrorContext::Holds(name, len))),
             },
         }
     }
 }
 
+/// How many bytes a file holds that was read; `None` if they are too many.
+pub fn length_of(held: &Option<Vec<u8>>) -> Option<usize> {
+    match held {
+        Some(bytes) => Some(bytes.len()),
+        None => None,
+    }
+}
+
+/// The file of this name holds no passphrase, but so many bytes.
+pub fn bad_passphrase_file<'w>(name: &'w str, len: Option<usize>) -> UsageError<'w> {
+    UsageError::new(Usage::BadPassphraseFile, ErrorContext::Holds(name, len))
+}
+
 /// The passphrase in the bytes of its file.
 pub fn passphrase_in(secret: Option<Vec<u8>>, max_log: u32) -> Option<OwnPassphrase>
-    ensures some { IfSome result (λ words. IsPassphraseIn (HoldsBytes (file_bytes secret)) words.pass
+    ensures { IfSome result (λ words. IsPassphraseIn (HoldsBytes (file_bytes secret)) words.pass
         × (words.max_log ≡ max_log) × IsAllowed words.pass words.max_log) }
-    ensures none { IfNone result ((words : PassphraseIdentity)
-        → IsPassphraseIn (HoldsBytes (file_bytes secret)) words.pass → words.max_log ≡ max_log
-        → IsAllowed words.pass words.max_log → ⊥) }
 {
     match secret {
         Some(bytes) => own_passphrase(bytes, max_log),
@@ -114,9 +118,7 @@ pub fn passphrase_in(secret: Option<Vec<u8>>, max_log: u32) -> Option<OwnPassphr
 
 /// The shared secret and the recipient in the bytes of their file.
 fn shared_in(secret: &Option<Vec<u8>>) -> Option<SharedSecret>
-    ensures some { IfSome result (IsSharedIn (HoldsBytes (file_bytes secret.now))) }
-    ensures none { IfNone result ((shared : Shared)
-        → IsSharedIn (HoldsBytes (file_bytes secret.now)) shared → ⊥) }
+    ensures { IfSome result (IsSharedIn (HoldsBytes (file_bytes secret.now))) }
 {
     match secret {
         Some(bytes) => shared_of(bytes.as_slice()),

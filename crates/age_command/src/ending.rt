@@ -6,8 +6,11 @@ ghost use Rattle.age_fault.specs.declared.fault.FileFault.TheVariants.{Write};
 ghost use Rattle.age_command.specs.declared.ending.Ending.TheVariants.{Fault, Usage as UsageEnding};
 
 use age_fault::FileFault;
-use age_fileset::OpenFault;
+use age_fileset::{ErrorContext, FileError, OpenError, OpenFault};
 use age_io::Unsent;
+use age_position::Position;
+use clap::Error;
+use std::marker::Model;
 
 /// What is wrong with a command line that the parser of command lines accepts.
 #[derive(Clone, Copy, Debug, PartialEq, Eq)]
@@ -38,50 +41,168 @@ pub enum Usage {
     Unread,
 }
 
+/// What is wrong with a command line, and what that is about. Contracts see the first alone.
+#[derive(Drop)]
+pub struct UsageError<'w> {
+    usage: Usage,
+    context: ErrorContext<'w>,
+}
+
+impl<'w> Model for UsageError<'w> {
+    ghost use Rattle.age_command.specs.declared.ending.Usage.{Usage};
+
+    ghost Value = { Usage };
+
+    ghost view = { λ e. e.usage };
+}
+
+impl<'w> UsageError<'w> {
+    /// It is about this.
+    pub fn new(usage: Usage, context: ErrorContext<'w>) -> UsageError<'w>
+        ensures { result ≡ usage }
+    {
+        UsageError { usage, context }
+    }
+
+    /// What is wrong.
+    pub fn usage(&self) -> Usage
+        ensures { result ≡ self.now }
+    {
+        self.usage
+    }
+
+    /// What that is about.
+    pub fn context(&self) -> ErrorContext<'w> {
+        self.context
+    }
+}
+
+impl<'w> From<Usage> for UsageError<'w> {
+    ghost from_gives = { λ u e. e ≡ u };
+
+    fn from(usage: Usage) -> UsageError<'w> {
+        UsageError::new(usage, ErrorContext::Nothing)
+    }
+}
+
+/// Why a position couldn't be saved, and the position. Contracts see the fault alone.
+#[derive(Drop)]
+pub struct UnsavedError<'w> {
+    error: FileError<'w>,
+    position: Option<Position>,
+}
+
+impl<'w> Model for UnsavedError<'w> {
+    ghost use Rattle.age_fault.specs.declared.fault.FileFault.{FileFault};
+
+    ghost Value = { FileFault };
+
+    ghost view = { λ e. e.error };
+}
+
+impl<'w> UnsavedError<'w> {
+    /// This position couldn't be saved, for this reason.
+    pub fn new(error: FileError<'w>, position: Option<Position>) -> UnsavedError<'w>
+        ensures { result ≡ error.entry }
+    {
+        UnsavedError { error, position }
+    }
+
+    /// The fault.
+    pub fn fault(&self) -> FileFault
+        ensures { result ≡ self.now }
+    {
+        self.error.fault()
+    }
+
+    /// What the fault is about.
+    pub fn context(&self) -> ErrorContext<'w> {
+        self.error.context()
+    }
+
+    /// The position.
+    pub fn position(&self) -> Option<Position> {
+        self.position
+    }
+}
+
 /// Why a run failed.
-#[derive(Debug, Drop)]
-pub enum Ending {
-    /// The parser of command lines refuses the arguments, with this text.
-    Words(String),
+#[derive(Drop)]
+pub enum Ending<'w> {
+    /// The parser of command lines refuses the arguments.
+    Words(Error),
     /// The arguments are accepted, but can't be obeyed.
-    Usage(Usage),
+    Usage(UsageError<'w>),
     /// A fault.
-    Fault(FileFault),
+    Fault(FileError<'w>),
     /// A fault, and a second one: its position couldn't be saved.
-    Unsaved(FileFault, FileFault),
+    Unsaved(FileError<'w>, UnsavedError<'w>),
 }
 
-impl From<FileFault> for Ending {
-    ghost from_gives = { λ f e. e ≡ Fault f };
-
-    fn from(fault: FileFault) -> Ending {
-        Ending::Fault(fault)
-    }
-}
-
-impl From<Unsent> for Ending {
-    ghost from_gives = { λ _ e. e ≡ Fault Write };
-
-    fn from(_e: Unsent) -> Ending {
-        Ending::Fault(FileFault::Write)
-    }
-}
-
-impl From<OpenFault> for Ending {
-    ghost from_gives = { λ f e. e ≡ ending_of f };
-
-    fn from(fault: OpenFault) -> Ending {
-        match fault {
-            OpenFault::SameFile => Ending::Usage(Usage::SameFile),
-            OpenFault::Fault(fault) => Ending::Fault(fault),
+impl<'w> Ending<'w> {
+    /// Returns this ending; a fault that names no file gets this context.
+    pub fn with_context(self, context: ErrorContext<'w>) -> Ending<'w>
+        ensures { result ≡ self.entry }
+    {
+        match self {
+            Ending::Fault(error) => match error.context() {
+                ErrorContext::Nothing => Ending::Fault(FileError::new(error.fault(), context)),
+                _ => Ending::Fault(error),
+            },
+            other => other,
         }
     }
 }
 
-impl From<Usage> for Ending {
+impl<'w> From<FileFault> for Ending<'w> {
+    ghost from_gives = { λ f e. e ≡ Fault f };
+
+    fn from(fault: FileFault) -> Ending<'w> {
+        Ending::Fault(FileError::from(fault))
+    }
+}
+
+impl<'w> From<FileError<'w>> for Ending<'w> {
+    ghost from_gives = { λ f e. e ≡ Fault f };
+
+    fn from(error: FileError<'w>) -> Ending<'w> {
+        Ending::Fault(error)
+    }
+}
+
+impl<'w> From<Unsent> for Ending<'w> {
+    ghost from_gives = { λ _ e. e ≡ Fault Write };
+
+    fn from(_e: Unsent) -> Ending<'w> {
+        Ending::Fault(FileError::from(FileFault::Write))
+    }
+}
+
+impl<'w> From<OpenError<'w>> for Ending<'w> {
+    ghost from_gives = { λ f e. e ≡ ending_of f };
+
+    fn from(error: OpenError<'w>) -> Ending<'w> {
+        match error.fault() {
+            OpenFault::SameFile => {
+                Ending::Usage(UsageError::new(Usage::SameFile, error.context()))
+            }
+            OpenFault::Fault(fault) => Ending::Fault(FileError::new(fault, error.context())),
+        }
+    }
+}
+
+impl<'w> From<UsageError<'w>> for Ending<'w> {
     ghost from_gives = { λ u e. e ≡ UsageEnding u };
 
-    fn from(usage: Usage) -> Ending {
-        Ending::Usage(usage)
+    fn from(error: UsageError<'w>) -> Ending<'w> {
+        Ending::Usage(error)
+    }
+}
+
+impl<'w> From<Usage> for Ending<'w> {
+    ghost from_gives = { λ u e. e ≡ UsageEnding u };
+
+    fn from(usage: Usage) -> Ending<'w> {
+        Ending::Usage(UsageError::from(usage))
     }
 }

@@ -1,18 +1,15 @@
 //! The first bytes of a source or a file.
 
-ghost use Rattle.std.specs.Prelude.{◌≡◌, ◌^◌, ◌<◌, ◌≤◌, [], ℕ, List, length, OnOk, IfOk, IfErr, IfSome};
-ghost use Rattle.std.specs.Prelude.{IfNone, ◌∷◌, true};
-ghost use Rattle.age_fileset.specs.{Open, InUse, IsMemoryOr, OpenFails, Does, CameSince, HasGiven};
-ghost use Rattle.age_fileset.specs.{HasGivenAll};
-ghost use Rattle.age_fileset.specs.declared.files.OpenFault.TheVariants.{SameFile, Fault};
+ghost use Rattle.std.specs.Prelude.{◌≡◌, ◌^◌, ◌<◌, ◌≤◌, [], OnOk, IfOk, IfErr, IfSome};
+ghost use Rattle.age_fileset.specs.{IsMemoryOr, OpenFails, Does, CameSince, HasGivenAll};
 ghost use Rattle.age_fault.specs.declared.fault.FileFault.TheVariants.{Read};
-ghost use Rattle.age_io.specs.{Origin, Consumes, IsAtEnd};
-ghost use Rattle.age_command.specs.{AreFirst, IsUnreadable};
+ghost use Rattle.age_io.specs.{Consumes, IsAtEnd};
+ghost use Rattle.age_command.specs.{AreFirst};
 ghost use Rattle.age_command.specs.inner.{IsPiece};
 
 use crate::identity::PASSPHRASE_FILE_MAX;
 use age_fault::FileFault;
-use age_fileset::{FileSet, Missing, OpenFault};
+use age_fileset::{FileSet, Missing, OpenError, Purpose};
 use age_io::Source;
 use std::alloc::Global;
 
@@ -30,8 +27,7 @@ fn pull_some<S: Source>(
     ensures piece { IfOk result (λ n.
         IsPiece (S.view source.old).supply (S.view source.new).supply most n buffer.new) }
     ensures fault { IfErr result (λ f. f ≡ Read) }
-    ensures failed { IfErr result (λ _. (S.view source.new).failing ≡ true) }
-    ensures began { (from : Origin) → S.began source.old from → S.began source.new from }
+    ensures named { (S.view source.new).label ≡ (S.view source.old).label }
 {
     match source.pull(&mut buffer[..most]) {
         Ok(n) => Ok(n),
@@ -50,8 +46,7 @@ pub fn fill_first<S: Source>(
     ensures first { OnOk result
         (AreFirst (S.view source.old).supply (S.view source.new).supply most held.new.items) }
     ensures faults { IfErr result (IsMemoryOr Read) }
-    ensures failed { IfErr result (λ f. f ≡ Read → (S.view source.new).failing ≡ true) }
-    ensures began { (from : Origin) → S.began source.old from → S.began source.new from }
+    ensures named { (S.view source.new).label ≡ (S.view source.old).label }
 {
     let mut buffer = [0; ROOM];
     'pieces: while held.len() < most {
@@ -73,8 +68,7 @@ pub fn read_first<S: Source>(
     ensures first { IfOk result
         (λ v. AreFirst (S.view source.old).supply (S.view source.new).supply most v.items) }
     ensures faults { IfErr result (IsMemoryOr Read) }
-    ensures failed { IfErr result (λ f. f ≡ Read → (S.view source.new).failing ≡ true) }
-    ensures began { (from : Origin) → S.began source.old from → S.began source.new from }
+    ensures named { (S.view source.new).label ≡ (S.view source.old).label }
 {
     // A vector that grows leaves copies behind, so the one for a passphrase's file never grows.
     let mut held = Vec::with_capacity(alloc, most.min(PASSPHRASE_FILE_MAX + 1))?;
@@ -93,12 +87,8 @@ pub fn read_up_to<S: Source>(
     ensures all { IfOk result (λ o. IfSome o
         (λ v. Consumes (S.view source.old).supply (S.view source.new).supply v.items
         × IsAtEnd (S.view source.new).supply)) }
-    ensures long { IfOk result (λ o. IfNone o ((bytes : List ℕ)
-        × Consumes (S.view source.old).supply (S.view source.new).supply bytes
-        × (most < length bytes))) }
     ensures faults { IfErr result (IsMemoryOr Read) }
-    ensures failed { IfErr result (λ f. f ≡ Read → (S.view source.new).failing ≡ true) }
-    ensures began { (from : Origin) → S.began source.old from → S.began source.new from }
+    ensures named { (S.view source.new).label ≡ (S.view source.old).label }
 {
     let first = read_first(alloc, source, most + 1)?;
     if first.len() > most {
@@ -113,23 +103,20 @@ pub fn read_file<'w, F: FileSet<'w>>(
     alloc: Global,
     files: &mut F,
     name: &'w str,
+    purpose: Purpose,
     most: usize,
-) -> Result<Option<Vec<u8>>, OpenFault>
+) -> Result<Option<Vec<u8>>, OpenError<'w>>
     requires { most < 2 ^ 32 }
-    ensures does { Does (Open name.now ∷ []) (F.view files.old) (F.view files.new) }
+    ensures does { Does (F.view files.old) (F.view files.new) }
     ensures given { IfOk result (λ o. IfSome o (λ v.
         HasGivenAll (CameSince (F.view files.old) (F.view files.new)) name.now v.items)) }
-    ensures long { IfOk result (λ o. IfNone o ((bytes : List ℕ)
-        × HasGiven (CameSince (F.view files.old) (F.view files.new)) name.now bytes
-        × (most < length bytes))) }
     ensures faults { IfErr result (OpenFails Read) }
-    ensures reason { IfErr result (λ f. f ≡ Fault Read
-        → IsUnreadable (CameSince (F.view files.old) (F.view files.new))) }
-    ensures in_use { IfErr result (λ f. f ≡ SameFile
-        → CameSince (F.view files.old) (F.view files.new) (InUse name.now)) }
 {
-    let mut source = files.open(alloc, name, Missing::Fails)?;
+    let mut source = files.open(alloc, name, Missing::Fails, purpose)?;
     let read = read_up_to(alloc, &mut source, most);
-    files.finish(source);
-    Ok(read?)
+    let context = files.close_input(source);
+    match read {
+        Ok(held) => Ok(held),
+        Err(fault) => Err(OpenError::new(fault, context)),
+    }
 }

@@ -1,7 +1,6 @@
 //! What opens a file, and what the files of secrets hold.
 
-ghost use Rattle.std.specs.Prelude.{◌≡◌, IfSome, IfNone, Some};
-ghost use Rattle.age_keys.specs.{Shared};
+ghost use Rattle.std.specs.Prelude.{◌≡◌, IfSome, Some};
 ghost use Rattle.age_command.specs.Identities.{HoldsBytes, IsSharedIn};
 ghost use Rattle.age_command.specs.Files.{without_line_feed};
 
@@ -65,7 +64,6 @@ pub(crate) const SHARED_FILE_LEN: usize = 64;
 /// The shared secret, and the recipient after it.
 pub(crate) fn shared_of(bytes: &[u8]) -> Option<SharedSecret>
     ensures some { IfSome result (IsSharedIn (HoldsBytes (Some bytes.now))) }
-    ensures none { IfNone result ((shared : Shared) → IsSharedIn (HoldsBytes (Some bytes.now)) shared → ⊥) }
 {
     let (shared, recipient) = bytes.split_first_chunk::<32>()?;
     Some(SharedSecret::new(shared, recipient.as_array::<32>()?))

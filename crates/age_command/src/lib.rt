@@ -15,8 +15,8 @@ mod put;
 mod reporting;
 mod secret;
 
-pub use choice::{Choice, passphrase_in};
-pub use ending::{Ending, Usage};
+pub use choice::{Choice, bad_passphrase_file, length_of, passphrase_in};
+pub use ending::{Ending, UnsavedError, Usage, UsageError};
 pub use first_bytes::{fill_first, read_file, read_first, read_up_to};
 pub use identity::Identity;
 pub use put::put_bytes;

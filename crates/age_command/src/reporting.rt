@@ -1,11 +1,7 @@
 //! Reports why a run ended.
 
-ghost use Rattle.std.specs.Prelude.{◌≡◌, ◌++◌, [], decimal, Some, true};
+ghost use Rattle.std.specs.Prelude.{true};
 ghost use Rattle.age_io.specs.{holds};
-ghost use Rattle.age_fault.specs.{fault_number, fault_place};
-ghost use Rattle.age_command.specs.{place_text, fault_line, usage_line, ending_text, ReportsEnding};
-ghost use Rattle.age_command.specs.{PutsAll};
-ghost use Rattle.age_command.specs.declared.ending.Usage.TheVariants.{BadScriptLine};
 
 use crate::ending::{Ending, Usage};
 use crate::put::put_bytes;
@@ -13,6 +9,7 @@ use age_fault::FileFault;
 use age_io::{Failed, Failures, Sink, flush_all};
 use arrayvec::ArrayVec;
 use itoa::Buffer;
+use std::alloc::Global;
 
 /// A line on the stack, so that it goes out in one put and lines of several runs don't mix. The
 /// longest has 54 bytes.
@@ -23,9 +20,7 @@ struct FaultLine {
 }
 
 impl FaultLine {
-    fn new() -> FaultLine
-        ensures { result.bytes.items ≡ [] }
-    {
+    fn new() -> FaultLine {
         FaultLine {
             bytes: ArrayVec::new(),
             failures: Failures::none(),
@@ -59,19 +54,14 @@ impl Sink for FaultLine {
 }
 
 /// A word, and a number in decimal.
-fn put_number<E: Sink>(faults: &mut E, word: &str, number: u64) -> Result<(), FileFault>
-    ensures { PutsAll (word.now ++ decimal number) (E.view faults.old) (E.view faults.new) result }
-{
+fn put_number<E: Sink>(faults: &mut E, word: &str, number: u64) -> Result<(), FileFault> {
     put_bytes(faults, word.as_bytes())?;
     let mut digits = Buffer::new();
     put_bytes(faults, digits.format(number).as_bytes())
 }
 
 /// The line of a header's fault, or the chunk of a payload's.
-fn put_place<E: Sink>(faults: &mut E, fault: FileFault) -> Result<(), FileFault>
-    ensures { PutsAll (place_text (fault_number fault) (fault_place fault)) (E.view faults.old)
-        (E.view faults.new) result }
-{
+fn put_place<E: Sink>(faults: &mut E, fault: FileFault) -> Result<(), FileFault> {
     match fault.place() {
         Some(line) if fault.number() <= 8 => put_number(faults, " line ", line),
         Some(chunk) if fault.number() <= 20 => put_number(faults, " chunk ", chunk),
@@ -81,9 +71,7 @@ fn put_place<E: Sink>(faults: &mut E, fault: FileFault) -> Result<(), FileFault>
 
 /// The fault's number and name, and its place. It allocates nothing, so that running out of memory
 /// can be reported too.
-fn put_fault_line<E: Sink>(faults: &mut E, fault: FileFault) -> Result<(), FileFault>
-    ensures { PutsAll (fault_line fault) (E.view faults.old) (E.view faults.new) result }
-{
+fn put_fault_line<E: Sink>(faults: &mut E, fault: FileFault) -> Result<(), FileFault> {
     put_number(faults, "age_tool: ", fault.number() as u64)?;
     put_bytes(faults, b" ")?;
     put_bytes(faults, fault.name().as_bytes())?;
@@ -92,9 +80,7 @@ fn put_fault_line<E: Sink>(faults: &mut E, fault: FileFault) -> Result<(), FileF
 }
 
 /// One line, in one put.
-fn put_fault<E: Sink>(faults: &mut E, fault: FileFault) -> Result<(), FileFault>
-    ensures { PutsAll (fault_line fault) (E.view faults.old) (E.view faults.new) result }
-{
+fn put_fault<E: Sink>(faults: &mut E, fault: FileFault) -> Result<(), FileFault> {
     let mut line = FaultLine::new();
     match put_fault_line(&mut line, fault) {
         Ok(()) => put_bytes(faults, line.bytes.as_slice()),
@@ -104,17 +90,13 @@ fn put_fault<E: Sink>(faults: &mut E, fault: FileFault) -> Result<(), FileFault>
 }
 
 /// The message about a malformed line of a script.
-fn put_script_line<E: Sink>(faults: &mut E, line: u64) -> Result<(), FileFault>
-    ensures { PutsAll (usage_line (BadScriptLine line)) (E.view faults.old) (E.view faults.new) result }
-{
+fn put_script_line<E: Sink>(faults: &mut E, line: u64) -> Result<(), FileFault> {
     put_number(faults, "age_tool: bad script line ", line)?;
     put_bytes(faults, b"\n")
 }
 
 /// The same, in one put.
-fn put_whole_script_line<E: Sink>(faults: &mut E, line: u64) -> Result<(), FileFault>
-    ensures { PutsAll (usage_line (BadScriptLine line)) (E.view faults.old) (E.view faults.new) result }
-{
+fn put_whole_script_line<E: Sink>(faults: &mut E, line: u64) -> Result<(), FileFault> {
     let mut whole = FaultLine::new();
     match put_script_line(&mut whole, line) {
         Ok(()) => put_bytes(faults, whole.bytes.as_slice()),
@@ -123,9 +105,7 @@ fn put_whole_script_line<E: Sink>(faults: &mut E, line: u64) -> Result<(), FileF
 }
 
 /// What is wrong with a command line: one line, in one put, which allocates nothing either.
-fn put_usage<E: Sink>(faults: &mut E, usage: Usage) -> Result<(), FileFault>
-    ensures { PutsAll (usage_line usage) (E.view faults.old) (E.view faults.new) result }
-{
+fn put_usage<E: Sink>(faults: &mut E, usage: Usage) -> Result<(), FileFault> {
     match usage {
         Usage::GiveOneIdentity => put_bytes(
             faults,
@@ -146,39 +126,39 @@ fn put_usage<E: Sink>(faults: &mut E, usage: Usage) -> Result<(), FileFault>
 }
 
 /// The text or the lines of an ending.
-fn put_ending<E: Sink>(faults: &mut E, ending: &Ending) -> Result<(), FileFault>
-    ensures { PutsAll (ending_text ending.now) (E.view faults.old) (E.view faults.new) result }
-{
+fn put_ending<E: Sink>(
+    alloc: Global,
+    faults: &mut E,
+    ending: &Ending<'_>,
+) -> Result<(), FileFault> {
     match ending {
-        Ending::Words(text) => put_bytes(faults, text.as_bytes()),
-        Ending::Usage(usage) => put_usage(faults, *usage),
-        Ending::Fault(fault) => put_fault(faults, *fault),
-        Ending::Unsaved(fault, second) => {
-            put_fault(faults, *fault)?;
-            put_fault(faults, *second)
+        Ending::Words(error) => put_bytes(faults, error.to_string(alloc)?.as_bytes()),
+        Ending::Usage(error) => put_usage(faults, error.usage()),
+        Ending::Fault(error) => put_fault(faults, error.fault()),
+        Ending::Unsaved(error, second) => {
+            put_fault(faults, error.fault())?;
+            put_fault(faults, second.fault())
         }
     }
 }
 
 /// The same, flushed.
-fn send_ending<E: Sink>(faults: &mut E, ending: &Ending) -> Result<(), FileFault>
-    ensures { ReportsEnding ending.now (E.view faults.old) (E.view faults.new) }
-{
-    put_ending(faults, ending)?;
+fn send_ending<E: Sink>(
+    alloc: Global,
+    faults: &mut E,
+    ending: &Ending<'_>,
+) -> Result<(), FileFault> {
+    put_ending(alloc, faults, ending)?;
     Ok(flush_all(faults)?)
 }
 
 /// Reports a fault by its line, sent on.
-pub fn report_fault<E: Sink>(faults: &mut E, fault: FileFault) -> Result<(), FileFault>
-    ensures { PutsAll (fault_line fault) (E.view faults.old) (E.view faults.new) result }
-{
+pub fn report_fault<E: Sink>(faults: &mut E, fault: FileFault) -> Result<(), FileFault> {
     put_fault(faults, fault)?;
     Ok(flush_all(faults)?)
 }
 
 /// Reports why a run ended, if the sink takes it.
-pub fn report_ending<E: Sink>(faults: &mut E, ending: &Ending)
-    ensures { ReportsEnding ending.now (E.view faults.old) (E.view faults.new) }
-{
-    let _ = send_ending(faults, ending);
+pub fn report_ending<E: Sink>(alloc: Global, faults: &mut E, ending: &Ending<'_>) {
+    let _ = send_ending(alloc, faults, ending);
 }

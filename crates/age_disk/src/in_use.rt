@@ -1,7 +1,6 @@
 //! Which files and streams are in use, so that none is used twice.
 
-ghost use Rattle.std.specs.Prelude.{◌≡◌, ◌≢◌, [], true, Some, Err, IfErr, IsErr, OnOk, IfSome};
-ghost use Rattle.std.specs.Prelude.{IsSomeAnd, Contains};
+ghost use Rattle.std.specs.Prelude.{◌≡◌, true, Some, Err, IfErr, OnOk, IfSome, Contains};
 ghost use Rattle.age_fault.specs.declared.fault.FileFault.TheVariants.{Read, Write, Memory};
 ghost use Rattle.age_fileset.specs.{IsMemoryOr, OpenFails};
 ghost use Rattle.age_fileset.specs.declared.files.OpenFault.TheVariants.{SameFile};
@@ -9,22 +8,24 @@ ghost use Rattle.age_disk.specs.{IsApart, HasAll};
 ghost use Rattle.age_names.specs.declared.names.FileId.{FileId};
 
 use age_fault::FileFault;
-use age_fileset::OpenFault;
+use age_fileset::{Action, ErrorContext, Failure, OpenError};
 use age_host_out::HostOut;
-use age_messages::{Action, RunFailures};
 use age_names::{FileId, StreamId, is_for_faults};
-use age_prepared::Prepared;
+use age_prepared::{Location, PositionFile};
 use std::alloc::Global;
 use std::io;
 use std::rt::HostRuntime;
 
-/// Keeps a stream. Refuses one that was kept before.
-pub(crate) fn keep_stream(kept: &mut Vec<StreamId>, stream: StreamId) -> Result<(), OpenFault>
-    ensures faults { IfErr result (OpenFails Read) }
-    ensures only { result ≡ Err SameFile → kept.old.items ≢ [] }
+/// Keeps a stream of this name. Refuses one that was kept before.
+pub(crate) fn keep_stream<'w>(
+    kept: &mut Vec<StreamId>,
+    stream: StreamId,
+    name: &'w str,
+) -> Result<(), OpenError<'w>>
+    ensures { IfErr result (OpenFails Read) }
 {
     if kept.iter().any(|other| other.is_same(stream)) {
-        return Err(OpenFault::SameFile);
+        return Err(OpenError::same_file(name, None));
     }
     Ok(kept.push(stream).map_err(|_| FileFault::Memory)?)
 }
@@ -55,8 +56,7 @@ pub(crate) fn find_same<'n>(
 
 /// Whether this is a file that was opened.
 pub(crate) fn is_known(opened: &[FileId], id: Option<FileId>) -> bool
-    ensures known { (one : FileId) → id ≡ Some one → Contains opened.now one → result ≡ true }
-    ensures only { result ≡ true → IsSomeAnd id (Contains opened.now) }
+    ensures { (one : FileId) → id ≡ Some one → Contains opened.now one → result ≡ true }
 {
     match id {
         Some(id) => opened.contains(&id),
@@ -64,16 +64,38 @@ pub(crate) fn is_known(opened: &[FileId], id: Option<FileId>) -> bool
     }
 }
 
-/// Fails if this is a file that was opened, or that of standard error.
-pub(crate) fn check_unused(
+/// Whether one of these names leads to a file.
+pub(crate) fn is_named(rt: &HostRuntime, names: &[Option<&str>], id: Option<FileId>) -> bool {
+    for name in names.iter() {
+        if let Some(name) = *name
+            && id.is_some()
+            && FileId::at(rt, name) == id
+        {
+            return true;
+        }
+    }
+    false
+}
+
+/// Refuses a file of a position that was opened, or is that of standard error, unless it is the one
+/// that is spared; and one whose temporary file would be one of those, or has one of the other names.
+pub(crate) fn check_location<'w>(
     rt: &HostRuntime,
     opened: &[FileId],
-    id: Option<FileId>,
-) -> io::Result<()>
-    ensures { (one : FileId) → id ≡ Some one → Contains opened.now one → IsErr result }
+    location: &Location<'w>,
+    spared: Option<FileId>,
+    others: &[Option<&'w str>],
+) -> Result<(), OpenError<'w>>
+    ensures { IfErr result (λ e. e ≡ SameFile) }
 {
-    if is_known(opened, id) || is_for_faults(rt, id) {
-        return Err(io::Error::from(io::ErrorKind::AlreadyExists));
+    let (name, id, beside) = (location.name(), location.id(), location.beside_id(rt));
+    if is_for_faults(rt, id) {
+        return Err(OpenError::same_file(name, Some("standard error")));
+    }
+    let is_open = id != spared && is_known(opened, id);
+    let is_beside = is_known(opened, beside) || is_for_faults(rt, beside);
+    if is_open || is_beside || is_named(rt, others, beside) {
+        return Err(OpenError::same_file(name, None));
     }
     Ok(())
 }
@@ -90,36 +112,51 @@ pub(crate) fn keep(opened: &mut Vec<FileId>, id: Option<FileId>) -> Result<(), F
     Ok(())
 }
 
-/// Keeps which file was opened for writing. Refuses one that was opened before.
-fn admit(opened: &mut Vec<FileId>, id: Option<FileId>) -> Result<(), OpenFault>
-    ensures apart { (one : FileId) → id ≡ Some one → Contains opened.old.items one
-        → result ≡ Err SameFile }
-    ensures only { result ≡ Err SameFile → IsSomeAnd id (Contains opened.old.items) }
+/// Keeps which file was opened for writing under this name. Refuses one that was opened before.
+fn admit<'w>(
+    opened: &mut Vec<FileId>,
+    id: Option<FileId>,
+    name: &'w str,
+) -> Result<(), OpenError<'w>>
+    ensures same { (one : FileId) → id ≡ Some one → Contains opened.old.items one → result ≡ Err SameFile }
     ensures faults { IfErr result (OpenFails Write) }
 {
     if is_known(opened.as_slice(), id) {
-        return Err(OpenFault::SameFile);
+        return Err(OpenError::same_file(name, None));
     }
     Ok(keep(opened, id)?)
 }
 
-/// The name of the prepared file that is this one, or would be once this one is made. Fails if the
-/// system can't look at a prepared file.
-fn find_prepared<'w>(
-    rt: &HostRuntime,
-    prepared: &[Prepared<'w>],
-    out: &HostOut,
-) -> io::Result<Option<&'w str>> {
+/// The name of the prepared file that is this one, or would be once this one is made. Fails if memory
+/// runs out.
+fn find_prepared<'w>(prepared: &[PositionFile<'w>], out: &HostOut) -> io::Result<Option<&'w str>> {
     for one in prepared.iter() {
         let is_same = match out.unmade() {
-            Some(path) => one.is_at(rt, path)?,
-            None => one.is_of(rt, out.id())?,
+            Some(path) => one.is_at(path)?,
+            None => one.is(out.id()),
         };
         if is_same {
             return Ok(Some(one.name()));
         }
     }
     Ok(None)
+}
+
+/// Why something couldn't be done with a file: this fault, unless memory ran out.
+pub(crate) fn failed<'w>(
+    fault: FileFault,
+    action: Action,
+    name: &'w str,
+    error: io::Error,
+) -> OpenError<'w>
+    ensures { OpenFails fault result }
+{
+    let context = ErrorContext::Failed(Failure {
+        action,
+        name,
+        error,
+    });
+    OpenError::new(fault_of(error, fault), context)
 }
 
 /// The fault for an error: running out of memory is reported as such, and anything else as `other`.
@@ -136,31 +173,17 @@ pub(crate) fn fault_of(error: io::Error, other: FileFault) -> FileFault
 /// Keeps which file is to be written. One that was opened or prepared before is refused, and its
 /// name is kept, with the other one if that is known.
 pub(crate) fn admit_out<'w>(
-    rt: &HostRuntime,
     opened: &mut Vec<FileId>,
-    prepared: &[Prepared<'w>],
+    prepared: &[PositionFile<'w>],
     name: &'w str,
     out: &HostOut,
-    failures: &RunFailures<'w>,
-) -> Result<(), OpenFault>
+) -> Result<(), OpenError<'w>>
     ensures apart { OnOk result (IsApart opened.old.items out.now) }
     ensures faults { IfErr result (OpenFails Write) }
 {
-    match find_prepared(rt, prepared, out) {
-        Ok(None) => match admit(opened, out.id()) {
-            Ok(()) => Ok(()),
-            Err(fault) => {
-                failures.note_twice(name, None);
-                Err(fault)
-            }
-        },
-        Ok(Some(other)) => {
-            failures.note_twice(other, Some(name));
-            Err(OpenFault::SameFile)
-        }
-        Err(error) => {
-            failures.note(Action::Write, name, error);
-            Err(OpenFault::Fault(fault_of(error, FileFault::Write)))
-        }
+    match find_prepared(prepared, out) {
+        Ok(None) => admit(opened, out.id(), name),
+        Ok(Some(other)) => Err(OpenError::same_file(other, Some(name))),
+        Err(error) => Err(failed(FileFault::Write, Action::Write, name, error)),
     }
 }

@@ -2,14 +2,12 @@
 //! done with each, and what a file that was prepared is replaced by.
 //!
 //! Contracts see which files were opened, created, replaced and ended, what was read from them and
-//! what was put, and nothing else that they hold. The machine's answers are noted for
-//! `RunFailures`; those about an output are noted when it is ended.
+//! what was put, and nothing else that they hold. What fails says what the machine answered.
 #![tactic(auto)]
 
 mod files;
 mod in_use;
 mod laws;
-mod saving;
 
 pub use age_host_in::{HostIn, Watched};
 pub use age_host_out::HostOut;

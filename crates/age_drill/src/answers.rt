@@ -1,10 +1,5 @@
 //! What is held after each line of a script.
 
-ghost use Rattle.std.specs.Prelude.{◌≡◌, ◌∷◌, [], IfOk, None, Some};
-ghost use Rattle.std.specs.String.{string_bytes};
-ghost use Rattle.age_drill.specs.Drills.{DrillEnds, drill_text};
-ghost use Rattle.age_drill.specs.inner.{PrintsAnswer};
-
 use crate::script::ScriptLine;
 use age_command::{Ending, put_bytes};
 use age_fault::FileFault;
@@ -14,9 +9,7 @@ use std::alloc::{AllocError, Global};
 
 /// A line of the output: the number of the script's line, where the reader stands, and how many
 /// bytes are held.
-fn answer(alloc: Global, number: usize, status: Status, held: usize) -> Result<String, AllocError>
-    ensures { IfOk result (λ t. string_bytes t ≡ drill_text number ((Some status, held) ∷ [])) }
-{
+fn answer(alloc: Global, number: usize, status: Status, held: usize) -> Result<String, AllocError> {
     match status {
         Status::Open => format!(in alloc; "{number} open {held}\n"),
         Status::LastSeen => format!(in alloc; "{number} last {held}\n"),
@@ -29,9 +22,7 @@ fn answer(alloc: Global, number: usize, status: Status, held: usize) -> Result<S
 }
 
 /// The same after a restart that was refused.
-fn refusal(alloc: Global, number: usize, held: usize) -> Result<String, AllocError>
-    ensures { IfOk result (λ t. string_bytes t ≡ drill_text number ((None, held) ∷ [])) }
-{
+fn refusal(alloc: Global, number: usize, held: usize) -> Result<String, AllocError> {
     format!(in alloc; "{number} refused-25 {held}\n")
 }
 
@@ -75,9 +66,7 @@ fn answer_line<B: ChunkBox, O: Sink, const SEALED: usize>(
     number: usize,
     line: ScriptLine,
     output: &mut O,
-) -> Result<(), FileFault>
-    ensures { PrintsAnswer number (O.view output.old) (O.view output.new) (output.new ≡ output.old) result }
-{
+) -> Result<(), FileFault> {
     let refused = replay.refused();
     if obey_line(replay, payload, line).is_err() {
         return Err(FileFault::Memory);
@@ -92,15 +81,13 @@ fn answer_line<B: ChunkBox, O: Sink, const SEALED: usize>(
 }
 
 /// Obeys each line of the script, and writes a line for it.
-pub(crate) fn answer_lines<B: ChunkBox, O: Sink, const SEALED: usize>(
+pub(crate) fn answer_lines<'w, B: ChunkBox, O: Sink, const SEALED: usize>(
     alloc: Global,
     replay: &mut Replay<'_, B, SEALED>,
     payload: &mut [u8],
     lines: &[ScriptLine],
     output: &mut O,
-) -> Result<(), Ending>
-    ensures { DrillEnds ⊥ (λ _. ⊥) ⊥ (O.view output.old) (O.view output.new) result }
-{
+) -> Result<(), Ending<'w>> {
     let mut number = 0;
     for line in lines {
         number += 1;

@@ -1,26 +1,19 @@
 //! The command that delivers a payload by a script.
 
-ghost use Rattle.std.specs.Prelude.{◌≡◌, ◌<◌, ◌≤◌, ◌∷◌, [], List, IfOk, IfErr, OnOk, length, is_some, true};
-ghost use Rattle.age_io.specs.{Origin};
+ghost use Rattle.std.specs.Prelude.{◌≡◌, ◌<◌, ◌≤◌, [], IfOk, length};
 ghost use Rattle.age_chunk.specs.{block_length, tag_length};
-ghost use Rattle.age_fileset.specs.{CameSince, Does, Event, Gave, Open, Reading};
-ghost use Rattle.age_command.specs.{Follows, IsUnreadable, RefusesAtOnce, RefusesDrill, opening_event};
-ghost use Rattle.age_command.specs.{order_asked};
-ghost use Rattle.age_cli_args.specs.{option_text};
-ghost use Rattle.age_cli_args.specs.declared.request.Drilling.{Drilling as DrillingView};
-ghost use Rattle.age_cli_args.specs.declared.request.Request.TheVariants.{Drill};
-ghost use Rattle.age_drill.specs.{DrillEnds};
-ghost use Rattle.age_drill.specs.inner.{EndsUnopened, FailsBy, RefusesDelivery};
+ghost use Rattle.age_fileset.specs.{Does};
 ghost use Rattle.age_stanza.specs.{HasText, reading};
 
 use crate::answers::answer_lines;
 use crate::script::{SCRIPT_MAX, has_too_many_lines, read_lines};
 use age_cli_args::Drilling;
 use age_command::{
-    Choice, Ending, OwnPassphrase, Usage, fill_first, passphrase_in, read_file, read_up_to,
+    Choice, Ending, OwnPassphrase, Usage, bad_passphrase_file, fill_first, length_of,
+    passphrase_in, read_file, read_up_to,
 };
 use age_fault::FileFault;
-use age_fileset::{FileSet, Missing};
+use age_fileset::{FileSet, Missing, Purpose};
 use age_io::{Sink, Source};
 use age_keys::{
     FileKey, KeyFault, PAYLOAD_NONCE_LEN, PayloadKey, Steps, WORK_FACTOR_LIMIT, open_header,
@@ -44,18 +37,17 @@ fn read_passphrase<'w, F: FileSet<'w>>(
     alloc: Global,
     files: &mut F,
     name: Option<&'w str>,
-) -> Result<Option<OwnPassphrase>, Ending>
-    ensures does { Does (opening_event (option_text name.entry)) (F.view files.old) (F.view files.new) }
-    ensures fails { (asked : DrillingView) → option_text asked.pass ≡ option_text name.entry
-        → IfErr result (EndsUnopened (CameSince (F.view files.old) (F.view files.new)) asked) }
+) -> Result<Option<OwnPassphrase>, Ending<'w>>
+    ensures { Does (F.view files.old) (F.view files.new) }
 {
     match name {
         None => Ok(None),
         Some(name) => {
             let held = Choice::PassphraseFile(name, WORK_FACTOR_LIMIT).read(alloc, files)?;
+            let len = length_of(&held);
             match passphrase_in(held, WORK_FACTOR_LIMIT) {
                 Some(pass) => Ok(Some(pass)),
-                None => Err(Ending::Usage(Usage::BadPassphraseFile)),
+                None => Err(Ending::Usage(bad_passphrase_file(name, len))),
             }
         }
     }
@@ -66,14 +58,12 @@ fn read_script<'w, F: FileSet<'w>>(
     alloc: Global,
     files: &mut F,
     name: &'w str,
-) -> Result<Vec<u8>, Ending>
-    ensures does { Does (Open name.now ∷ []) (F.view files.old) (F.view files.new) }
-    ensures fails { (asked : DrillingView) → IfErr result
-        (EndsUnopened (CameSince (F.view files.old) (F.view files.new)) asked) }
+) -> Result<Vec<u8>, Ending<'w>>
+    ensures { Does (F.view files.old) (F.view files.new) }
 {
-    match read_file(alloc, files, name, SCRIPT_MAX)? {
+    match read_file(alloc, files, name, Purpose::Input, SCRIPT_MAX)? {
         Some(script) if !has_too_many_lines(script.as_slice()) => Ok(script),
-        _ => Err(Ending::Usage(Usage::ScriptTooLong)),
+        _ => Err(Ending::from(Usage::ScriptTooLong)),
     }
 }
 
@@ -87,7 +77,6 @@ fn find_header(
     requires { parser.old ≡ reading [] }
     ensures text { IfOk result (λ p. HasText p.0) }
     ensures within { IfOk result (λ p. p.1 ≤ length bytes.now) }
-    ensures fails { IfErr result (FailsBy read) }
 {
     match parser.feed(bytes)? {
         HeadStep::Ready { taken, header } => Ok((header, taken)),
@@ -106,7 +95,6 @@ fn read_header(
 ) -> Result<(Header, usize), FileFault>
     ensures text { IfOk result (λ p. HasText p.0) }
     ensures within { IfOk result (λ p. p.1 ≤ length bytes.now) }
-    ensures fails { IfErr result (FailsBy read) }
 {
     let mut parser = HeadParser::new(alloc);
     find_header(&mut parser, bytes, read)
@@ -121,7 +109,6 @@ fn payload_after(
 ) -> Result<(PayloadKey, usize), FileFault>
     requires { len ≤ length bytes.now }
     ensures within { IfOk result (λ p. p.1 ≤ length bytes.now) }
-    ensures fails { IfErr result (FailsBy read) }
 {
     let key = key?;
     read?;
@@ -140,7 +127,6 @@ fn open_payload(
     read: Result<(), FileFault>,
 ) -> Result<(PayloadKey, usize), FileFault>
     ensures within { IfOk result (λ p. p.1 ≤ length bytes.now) }
-    ensures fails { IfErr result (FailsBy read) }
 {
     let (header, len) = read_header(alloc, bytes, read)?;
     let key = open_header(alloc, &header, unlock, &mut Steps::new());
@@ -148,17 +134,15 @@ fn open_payload(
 }
 
 /// Checks all of the script, and then delivers a payload by it.
-fn deliver<B: ChunkBox, O: Sink, const SEALED: usize>(
+fn deliver<'w, B: ChunkBox, O: Sink, const SEALED: usize>(
     alloc: Global,
     key: &B,
     payload: &mut [u8],
     script: &[u8],
     output: &mut O,
-) -> Result<(), Ending>
+) -> Result<(), Ending<'w>>
     requires least { tag_length < SEALED }
     requires most { SEALED ≤ block_length }
-    ensures { DrillEnds ⊥ RefusesDelivery (output.new ≡ output.old) (O.view output.old)
-        (O.view output.new) result }
 {
     let lines = read_lines(alloc, script, payload.len())?;
     let mut replay = Replay::<B, SEALED>::new(alloc, key);
@@ -166,16 +150,12 @@ fn deliver<B: ChunkBox, O: Sink, const SEALED: usize>(
 }
 
 /// Delivers a payload whose chunks are in the clear.
-fn deliver_clear<S: Source, O: Sink>(
+fn deliver_clear<'w, S: Source, O: Sink>(
     alloc: Global,
     source: &mut S,
     script: &[u8],
     output: &mut O,
-) -> Result<(), Ending>
-    ensures ends { DrillEnds ((S.view source.new).failing ≡ true) RefusesDelivery
-        (output.new ≡ output.old) (O.view output.old) (O.view output.new) result }
-    ensures began { (from : Origin) → S.began source.old from → S.began source.new from }
-{
+) -> Result<(), Ending<'w>> {
     match read_up_to(alloc, source, PAYLOAD_MAX)? {
         Some(mut payload) => deliver::<ClearBox, O, CLEAR_LEN>(
             alloc,
@@ -184,46 +164,38 @@ fn deliver_clear<S: Source, O: Sink>(
             script,
             output,
         ),
-        None => Err(Ending::Usage(Usage::PayloadTooLong)),
+        None => Err(Ending::from(Usage::PayloadTooLong)),
     }
 }
 
 /// Delivers the payload of an age file that a passphrase opens. A fault of the header, the key or
 /// the nonce is reported before a payload that is too long.
-fn deliver_sealed<S: Source, O: Sink>(
+fn deliver_sealed<'w, S: Source, O: Sink>(
     alloc: Global,
     unlock: &OwnPassphrase,
     source: &mut S,
     script: &[u8],
     output: &mut O,
-) -> Result<(), Ending>
-    ensures ends { DrillEnds ((S.view source.new).failing ≡ true) RefusesDelivery
-        (output.new ≡ output.old) (O.view output.old) (O.view output.new) result }
-    ensures began { (from : Origin) → S.began source.old from → S.began source.new from }
-{
+) -> Result<(), Ending<'w>> {
     let mut bytes = Vec::new(alloc);
     let read = fill_first(source, &mut bytes, BYTES_MAX);
     let (key, start) = open_payload(alloc, unlock, bytes.as_slice(), read)?;
     let payload = &mut bytes.as_mut_slice()[start..];
     if payload.len() > PAYLOAD_MAX {
-        return Err(Ending::Usage(Usage::PayloadTooLong));
+        return Err(Ending::from(Usage::PayloadTooLong));
     }
     deliver::<PayloadKey, O, BLOCK_LEN>(alloc, &key, payload, script, output)
 }
 
 /// Delivers the payload of a source: of an age file that a passphrase opens, or in the clear if none
 /// is given.
-fn deliver_source<S: Source, O: Sink>(
+fn deliver_source<'w, S: Source, O: Sink>(
     alloc: Global,
     pass: Option<OwnPassphrase>,
     source: &mut S,
     script: &[u8],
     output: &mut O,
-) -> Result<(), Ending>
-    ensures ends { DrillEnds ((S.view source.new).failing ≡ true) RefusesDelivery
-        (output.new ≡ output.old) (O.view output.old) (O.view output.new) result }
-    ensures began { (from : Origin) → S.began source.old from → S.began source.new from }
-{
+) -> Result<(), Ending<'w>> {
     match &pass {
         Some(unlock) => deliver_sealed(alloc, unlock, source, script, output),
         None => deliver_clear(alloc, source, script, output),
@@ -237,33 +209,21 @@ pub fn drill_file<'w, F: FileSet<'w>, O: Sink>(
     files: &mut F,
     asked: &Drilling<'w>,
     output: &mut O,
-) -> Result<(), Ending>
-    ensures order { Follows (order_asked (Drill asked.now)).whole (F.view files.old).events
-        (F.view files.new).events }
+) -> Result<(), Ending<'w>>
     // Nothing was put, ended or saved.
-    ensures does { (done : List Event) × Does done (F.view files.old) (F.view files.new) }
-    ensures order_done { OnOk result (Does (order_asked (Drill asked.now)).done (F.view files.old)
-        (F.view files.new)) }
-    // It prints only lines that say where the reader stands. It is refused only for these reasons.
-    ensures ends { DrillEnds (IsUnreadable (CameSince (F.view files.old) (F.view files.new)))
-        (RefusesDrill (CameSince (F.view files.old) (F.view files.new)) asked.now)
-        (output.new ≡ output.old) (O.view output.old) (O.view output.new) result }
-    // If all was done, IN was opened, and its reading is over.
-    ensures over { OnOk result ((reading : Reading)
-        × CameSince (F.view files.old) (F.view files.new) (Gave reading)
-        × (reading.name ≡ asked.now.from.now)) }
-    // Both or neither of `--clear` and `--pass`.
-    ensures one { asked.now.clear ≡ is_some (option_text asked.now.pass)
-        → RefusesAtOnce (F.view files.old).events (F.view files.new).events result }
+    ensures { Does (F.view files.old) (F.view files.new) }
 {
     if asked.clear == asked.pass.is_some() {
-        return Err(Ending::Usage(Usage::GiveClearOrPass));
+        return Err(Ending::from(Usage::GiveClearOrPass));
     }
     files.check_streams(alloc, &[asked.pass, Some(asked.script), Some(asked.from)])?;
     let pass = read_passphrase(alloc, files, asked.pass)?;
     let script = read_script(alloc, files, asked.script)?;
-    let mut source = files.open(alloc, asked.from, Missing::Fails)?;
+    let mut source = files.open(alloc, asked.from, Missing::Fails, Purpose::Input)?;
     let drilled = deliver_source(alloc, pass, &mut source, script.as_slice(), output);
-    files.finish(source);
-    drilled
+    let context = files.close_input(source);
+    match drilled {
+        Ok(()) => Ok(()),
+        Err(ending) => Err(ending.with_context(context)),
+    }
 }

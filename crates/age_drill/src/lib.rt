@@ -1,6 +1,5 @@
 //! The command that delivers a payload by a script, and says what is held after each line of it.
-//!
-//! Its definitions say what the lines that a drill prints look like, and why it is refused.
+//! Tests say what it prints, and why it is refused; its contract, that it puts nothing.
 #![tactic(auto)]
 
 mod answers;

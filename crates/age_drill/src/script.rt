@@ -1,9 +1,5 @@
 //! Scripts of drills: one step a line.
 
-ghost use Rattle.std.specs.Prelude.{◌≡◌, IfErr};
-ghost use Rattle.age_fault.specs.declared.fault.FileFault.TheVariants.{Memory};
-ghost use Rattle.age_drill.specs.inner.{EndsUnread};
-
 use age_command::{Ending, Usage};
 use age_fault::FileFault;
 use std::alloc::{AllocError, Global};
@@ -89,9 +85,7 @@ fn read_line(
     alloc: Global,
     line: &[u8],
     payload_len: usize,
-) -> Result<Option<ScriptLine>, FileFault>
-    ensures { IfErr result (λ fault. fault ≡ Memory) }
-{
+) -> Result<Option<ScriptLine>, FileFault> {
     let Some(read) = guess(line) else {
         return Ok(None);
     };
@@ -104,20 +98,18 @@ fn read_line(
 }
 
 /// The lines of a script for a payload of this length, or the first bad one.
-pub(crate) fn read_lines(
+pub(crate) fn read_lines<'w>(
     alloc: Global,
     script: &[u8],
     payload_len: usize,
-) -> Result<Vec<ScriptLine>, Ending>
-    ensures { IfErr result EndsUnread }
-{
+) -> Result<Vec<ScriptLine>, Ending<'w>> {
     let mut lines = Vec::new(alloc);
     for line in script.split_inclusive(|b| *b == b'\n') {
         let Some(read) = read_line(alloc, line, payload_len)? else {
-            return Err(Ending::Usage(Usage::BadScriptLine(lines.len() + 1)));
+            return Err(Ending::from(Usage::BadScriptLine(lines.len() + 1)));
         };
         if lines.push(read).is_err() {
-            return Err(Ending::Fault(FileFault::Memory));
+            return Err(Ending::from(FileFault::Memory));
         }
     }
     Ok(lines)

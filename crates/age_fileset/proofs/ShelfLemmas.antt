@@ -6,17 +6,13 @@ use Rattle.std.proofs.lemmas.Slice.Eq.{bytes_eq-Decides}
 use Rattle.std.specs.Prelude.{if◌then◌else◌, is_some}
 use Rattle.age_fileset.specs.declared.files.Missing.{Missing}
 use Rattle.age_fileset.specs.declared.files.Missing.TheVariants.{Fails}
-use Rattle.age_fileset.specs.{MemEntry, Outcome, Found, Unread, Unwritten, Absent, Present, Put}
-use Rattle.age_fileset.specs.{Files, no_files, once, stands, created_as, held_by, Fits, AllFit, AreTrue, PutsEntry, entry_of, refused_as, MemFails, IsMemoryOr}
-use Rattle.age_fileset.specs.{OpenFault, SameFile, Fault, Entry, entry, puts_in, FilesView, PutsOnly, CameSince, HasGivenAll}
+use Rattle.age_fileset.specs.{MemEntry, Outcome, Found, Absent, Present, Put}
+use Rattle.age_fileset.specs.{Files, no_files, once, stands, created_as, held_by, Fits, AllFit, AreTrue, PutsEntry, entry_of}
+use Rattle.age_fileset.specs.{Entry, entry, puts_in, FilesView, PutsOnly, CameSince, HasGivenAll}
 use Rattle.age_options.specs.declared.ClobberOption.{ClobberOption}
 use Rattle.age_options.specs.declared.ClobberOption.TheVariants.{Allowed, Refused}
-use Rattle.age_fault.specs.declared.fault.FileFault.{FileFault}
-use Rattle.age_fault.specs.declared.fault.FileFault.TheVariants.{Write}
 use Rattle.std.specs.Io.KnownBytes.{prepend_known, IsAtEnd}
 use Rattle.std.proofs.lemmas.Bool.{false_from_ne_true}
-use Rattle.std.proofs.lemmas.List.{append_cancel_left}
-use Rattle.age_fileset.proofs.OutcomeLemmas.{puts_then}
 
 -- ---- One more outcome.
 
@@ -32,7 +28,6 @@ fit_then files (x ∷ a) b fit more = (fit.0, fit_then (once files x) a b fit.1 
 
 pub fits_by : (f g : Files) (o : Outcome) → ((q : List ℕ) → f q ≡ g q) → Fits f o → Fits g o
 fits_by f g (Found missing name left size) same fit = (fit.0, fit.1 ∙ ap (held_by missing) (same name), fit.2)
-fits_by f g (Unread name) same fit = sym (same name) ∙ fit
 fits_by f g (Absent name) same fit = sym (same name) ∙ fit
 fits_by f g (Present name) same fit = ap is_some (sym (same name)) ∙ fit
 fits_by f g o same fit = fit
@@ -71,14 +66,6 @@ kept_put old new os name bytes puts kept = record {
 pub kept_one : (es : List MemEntry) (os new : List Outcome) (o : Outcome) → new ≡ os ++ o ∷ [] → IsNoPut o → Fits (entry_of es) o → AreTrue es os → AreTrue es new
 kept_one es os new o is none fit kept = rw is (kept_note es os o none fit kept)
 
-refused : (es : List MemEntry) (os : List Outcome) (name : List ℕ) (fault : FileFault) → IsMemoryOr Write fault → AreTrue es os → AreTrue es (os ++ refused_as name (Fault fault))
-refused es os name fault (inl write) kept = rw write (kept_note es os (Unwritten name) (λ files q. refl) tt kept)
-refused es os name fault (inr memory) kept = rw (memory, append-nil os) kept
-
-pub kept_refused : (es : List MemEntry) (os new : List Outcome) (name : List ℕ) (fault : OpenFault) → new ≡ os ++ refused_as name fault → MemFails Write fault → AreTrue es os → AreTrue es new
-kept_refused es os new name SameFile is fails kept = absurd fails
-kept_refused es os new name (Fault fault) is fails kept = rw is (refused es os name fault fails kept)
-
 no_value : (o : Option (List ℕ)) → (is_some o ≡ true → ⊥) → o ≡ None
 no_value None none = refl
 no_value (Some bytes) none = absurd (none refl)
@@ -103,10 +90,6 @@ kept_then old new os late name bytes is own took puts kept =
 abbrev pub AreOthers : List ℕ → List Entry → Type 0
 AreOthers q [] = Unit {0}
 AreOthers q (e ∷ more) = (e.name ≡ q → ⊥) × AreOthers q more
-
-pub others_front : (q : List ℕ) (a b : List Entry) → AreOthers q (a ++ b) → AreOthers q a
-others_front q [] b other = tt
-others_front q (e ∷ a) b other = (other.0, others_front q a b other.1)
 
 pub others_then : (q : List ℕ) (a b : List Entry) → AreOthers q a → AreOthers q b → AreOthers q (a ++ b)
 others_then q [] b x y = y
@@ -163,13 +146,6 @@ module _ (old new : FilesView) (was is : List MemEntry) (kept_was : AreTrue was 
     pub put_since : (name bytes : List ℕ) (rest : List Entry) → puts ≡ entry name bytes ∷ rest → AreOthers name rest → entry_of is name ≡ Some bytes
     put_since name bytes rest are other =
         since name ∙ stands_put (stands no_files old.outcomes) grows.more name bytes rest (grows.puts_are ∙ are) other
-
-    -- none of what was put before that was under this name, if none at all was
-    pub before_others : (q : List ℕ) (o : Outcome) → AreOthers q puts → (c : CameSince old new o) → AreOthers q (puts_in c.before)
-    before_others q o other c =
-        let more : grows.more ≡ c.before ++ o ∷ c.later = append_cancel_left old.outcomes _ _ (sym grows.is ∙ c.is) in
-        let all : puts ≡ puts_in c.before ++ puts_in (o ∷ c.later) = sym grows.puts_are ∙ ap puts_in more ∙ puts_then c.before (o ∷ c.later) in
-        others_front q (puts_in c.before) _ (subst (λ (l : List Entry). AreOthers q l) all other)
 
   module _ (o : Outcome) (c : CameSince old new o) where
     abbrev at : Files

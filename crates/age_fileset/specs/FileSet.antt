@@ -1,62 +1,44 @@
 -- What contracts see of a set of files, and what a set over memory does.
-use Rattle.std.specs.Prelude.{ℕ, List, ◌≡◌, ◌⊎◌, ◌&&◌, Bool, false, [], Option, Some, None, ◌≢◌, ◌-◌, ◌^◌}
-use Rattle.std.specs.Prelude.{true, not, is_some, ◌++◌, ◌∷◌, if◌then◌else◌, find, length, map, option_map}
-use Rattle.std.specs.Prelude.{Result, Ok, Err, OnOk, OnErr}
-use Rattle.std.specs.Borrow.{Bor}
+use Rattle.std.specs.Prelude.{ℕ, List, ◌≡◌, ◌⊎◌, Bool, false, [], Option, Some, None, ◌≢◌, ◌-◌, ◌^◌, true}
+use Rattle.std.specs.Prelude.{is_some, ◌++◌, ◌∷◌, if◌then◌else◌, find, length, option_map, Result, Ok, Err}
+use Rattle.std.specs.Prelude.{OnOk, OnErr}
 use Rattle.std.specs.Str.{bytes_eq}
 use Rattle.std.specs.Io.KnownBytes.{IsAtEnd, prepend_known}
 use Rattle.age_io.specs.{Feeding, Holding, SourceView, SinkView, holds, memory_supply}
 use Rattle.age_options.specs.declared.Durability.{Durability}
 use Rattle.age_options.specs.declared.ClobberOption.{ClobberOption}
 use Rattle.age_options.specs.declared.ClobberOption.TheVariants.{Allowed, Refused}
-use Rattle.age_calls.specs.{EndedFile, SavedFile}
+use Rattle.age_calls.specs.{EndedFile}
+use Rattle.age_fault.specs.{fault_number, fault_place}
 use Rattle.age_fault.specs.declared.fault.FileFault.{FileFault}
-use Rattle.age_fault.specs.declared.fault.FileFault.TheVariants.{Read, Write, Memory}
+use Rattle.age_fault.specs.declared.fault.FileFault.TheVariants.{Memory}
 use Rattle.age_fileset.specs.declared.files.OpenFault.{OpenFault}
 use Rattle.age_fileset.specs.declared.files.OpenFault.TheVariants.{SameFile, Fault}
 use Rattle.age_fileset.specs.declared.files.Missing.{Missing}
 use Rattle.age_fileset.specs.declared.files.Missing.TheVariants.{Fails, Empty}
 use Rattle.age_fileset.specs.declared.mem_entry.MemEntry.{MemEntry}
 
--- ---- What was to be done with a set of files.
+-- ---- What came of what was done with a set of files.
 
--- a file was to be opened, prepared to be replaced later, created or replaced under this name, whether
--- that succeeded or not; one that is prepared may be in use under the second name, if there is one; one
--- that is created may take the place of an existing one, or not; the file that was created last was
--- ended; what was written or replaced was to reach the disk now or later
-pub data Event : Type 0 where
-  Open : List ℕ → Event
-  Prepare : List ℕ → (spared : Option (List ℕ)) → Event
-  Create : ClobberOption → List ℕ → Event
-  Replace : List ℕ → Durability → Event
-  Close : Durability → Event
-
--- ---- What came of it.
-
--- what a file gave that was opened under this name, once its reading is over; whether a pull found its
--- end, and whether the last pull failed
+-- what a file gave that was opened under this name, once its reading is over; and whether a pull found
+-- its end
 pub record Reading : Type 0 where
   pub name : List ℕ
   pub given : List ℕ
   pub is_at_end : Bool
-  pub failing : Bool
 
-abbrev pub reading_of : List ℕ → SourceView → Reading
-reading_of name source = record {
-  name = name;
+abbrev pub reading_of : SourceView → Reading
+reading_of source = record {
+  name = source.label;
   given = source.supply.given;
   is_at_end = source.supply.is_at_end;
-  failing = source.failing;
 }
 
 pub data Outcome : Type 0 where
   -- a file was opened under this name, which may stand for an empty one: it has this to give, if
   -- contracts see that, and is so long, if the set can say
   Found : Missing → List ℕ → Option (List ℕ) → Option ℕ → Outcome
-  -- none could be opened; none could be prepared, created, ended or replaced; none existed; one did,
-  -- or may have
-  Unread : List ℕ → Outcome
-  Unwritten : List ℕ → Outcome
+  -- none existed; one did, or may have
   Absent : List ℕ → Outcome
   Present : List ℕ → Outcome
   -- the reading of a file is over
@@ -67,115 +49,44 @@ pub data Outcome : Type 0 where
   -- A close or a replacing with these bytes succeeded. What a disk holds then is said by its calls: if
   -- a put failed not all of the bytes need be there, and what failed may have left some.
   Put : List ℕ → List ℕ → Outcome
-  -- what no name shows, as the set says: two names that differ lead to one file; two of these names
-  -- to one stream; this one to what was opened, prepared or created before, or takes the lines of
-  -- faults; the output of this name is a terminal
-  Alike : (one other : List ℕ) → Outcome
-  OneStream : List (List ℕ) → Outcome
-  InUse : List ℕ → Outcome
-  Terminal : List ℕ → Outcome
-
--- an outcome, if the answer is yes
-abbrev pub noted_if : Bool → Outcome → List Outcome
-noted_if true outcome = outcome ∷ []
-noted_if false outcome = []
 
 -- what comes of a name that was looked at, by whether nothing has it
 abbrev pub looked_as : List ℕ → Bool → List Outcome
 looked_as name is_absent = (if is_absent then Absent name else Present name) ∷ []
-
--- what comes of two names that were compared: that they lead to one file, unless they are equal
-abbrev pub alike_as : (one other : List ℕ) → Bool → List Outcome
-alike_as one other answer = noted_if (answer && not (bytes_eq one other)) (Alike one other)
-
--- those of these names that are given
-abbrev pub given_names : List (Option (List ℕ)) → List (List ℕ)
-given_names [] = []
-given_names (None ∷ more) = given_names more
-given_names (Some name ∷ more) = name ∷ given_names more
-
--- the same of names that are passed to a call
-abbrev pub passed_names : List (Option (Bor (List ℕ))) → List (List ℕ)
-passed_names names = given_names (map (option_map (λ s. s.now)) names)
-
--- of names that were looked at: whether two lead to one stream
-abbrev pub checked_as : List (List ℕ) → Result (Unit {0}) OpenFault → List Outcome
-checked_as names (Err SameFile) = OneStream names ∷ []
-checked_as names other = []
-
--- of a file that can't be opened or written
-abbrev pub refused_as : List ℕ → OpenFault → List Outcome
-refused_as name SameFile = InUse name ∷ []
-refused_as name (Fault Read) = Unread name ∷ []
-refused_as name (Fault Write) = Unwritten name ∷ []
-refused_as name (Fault other) = []
 
 -- of one that was to be opened, and whose source this is then
 abbrev pub opened_as : {In : Type 0} → (In → SourceView) → (In → Option ℕ) → Missing → List ℕ
     → Result In OpenFault → List Outcome
 opened_as read size missing name (Ok source) =
     Found missing name (read source).supply.left (size source) ∷ []
-opened_as read size missing name (Err fault) = refused_as name fault
+opened_as read size missing name (Err fault) = []
 
--- of one that was created: none had its name, unless an existing one may be overwritten
+-- of one that was to be created: none had its name, unless an existing one may be overwritten
 abbrev pub created_as : ClobberOption → List ℕ → List Outcome
 created_as Allowed name = []
 created_as Refused name = Absent name ∷ []
 
--- of one that was to be prepared or created: this, or that it can't be
-abbrev pub made_as : {A : Type 0} → List Outcome → List ℕ → Result A OpenFault → List Outcome
-made_as made name (Ok out) = made
-made_as made name (Err fault) = refused_as name fault
+abbrev pub made_as : {A : Type 0} → ClobberOption → List ℕ → Result A OpenFault → List Outcome
+made_as clobber name (Ok out) = created_as clobber name
+made_as clobber name (Err fault) = []
 
--- of one in whose place these bytes were to be put in memory; and of one that was to be ended or
--- replaced with them
+-- of one in whose place these bytes were to be put
 abbrev pub put_as : {E : Type 0} → List ℕ → List ℕ → Result (Unit {0}) E → List Outcome
 put_as name bytes (Ok done) = Put name bytes ∷ []
 put_as name bytes (Err fault) = []
-
-abbrev pub written_as : List ℕ → List ℕ → Result (Unit {0}) FileFault → List Outcome
-written_as name bytes (Ok done) = Put name bytes ∷ []
-written_as name bytes (Err fault) = refused_as name (Fault fault)
-
--- what was done with a set of files, and what came of it, in order
-pub record Doings : Type 0 where
-  pub events : List Event
-  pub outcomes : List Outcome
 
 -- ---- What contracts see of a set of files, and what is done in a part of a run.
 
 -- what contracts see of a set of files
 pub record FilesView : Type 0 where
-  -- what was opened, prepared, created, replaced and closed, in order, whether it succeeded or not
-  pub events : List Event
-  -- what came of that, and what was read, in order
+  -- what was found, read and put, in order
   pub outcomes : List Outcome
   -- the output that was ended last, if one was
   pub ended : Option EndedFile
-  -- what was done for the file that was replaced last
-  pub saved : SavedFile
 
 -- it came of what was done, and nothing else changed
 abbrev pub with_outcomes : List Outcome → FilesView → FilesView
 with_outcomes more files = record files { outcomes = files.outcomes ++ more }
-
--- this was done, and that came of it
-abbrev pub with_event : Event → List Outcome → FilesView → FilesView
-with_event event more files = record files {
-  events = files.events ++ event ∷ [];
-  outcomes = files.outcomes ++ more;
-}
-
--- names were looked at, of which no two may lead to one stream
-pub record ChecksStreams (names : List (List ℕ)) (result : Result (Unit {0}) OpenFault)
-    (old new : FilesView) : Type 0 where
-  pub noted : new ≡ with_outcomes (checked_as names result) old
-
--- an output was ended, and that came of it
-pub record EndsOne (durability : Durability) (more : List Outcome) (old new : FilesView) : Type 0 where
-  pub events : new.events ≡ old.events ++ Close durability ∷ []
-  pub outcomes : new.outcomes ≡ old.outcomes ++ more
-  pub saved : new.saved ≡ old.saved
 
 -- bytes and the name under which they were put
 pub record Entry : Type 0 where
@@ -197,10 +108,10 @@ pub record PutsOnly (puts : List Entry) (old new : FilesView) : Type 0 where
   pub is : new.outcomes ≡ old.outcomes ++ more
   pub puts_are : puts_in more ≡ puts
 
--- these events came since, and outcomes; nothing was put, ended or saved
-pub record Does (events : List Event) (old new : FilesView) : Type 0 where
+-- outcomes came since; nothing was put or ended
+pub record Does (old new : FilesView) : Type 0 where
   pub more : List Outcome
-  pub is : new ≡ record old { events = old.events ++ events; outcomes = old.outcomes ++ more }
+  pub is : new ≡ with_outcomes more old
   pub none_put : puts_in more ≡ []
 
 -- this came since
@@ -239,6 +150,15 @@ abbrev pub OpenFails : FileFault → OpenFault → Type 0
 OpenFails other SameFile = Unit {0}
 OpenFails other (Fault fault) = IsMemoryOr other fault
 
+-- the number of one, which two names of one file don't have, and its place
+abbrev pub open_fault_number : OpenFault → Option ℕ
+open_fault_number SameFile = None
+open_fault_number (Fault fault) = Some (fault_number fault)
+
+abbrev pub open_fault_place : OpenFault → Option ℕ
+open_fault_place SameFile = None
+open_fault_place (Fault fault) = fault_place fault
+
 -- and in memory nothing is shared
 abbrev pub MemFails : FileFault → OpenFault → Type 0
 MemFails other SameFile = ⊥
@@ -269,19 +189,15 @@ unfoldable pub stands : Files → List Outcome → Files
 stands files [] = files
 stands files (outcome ∷ more) = stands (once files outcome) more
 
--- this is true of such files, in a set that shows them: in memory none is a stream, a terminal or on
--- a disk
+-- this is true of such files, in a set that shows them
 abbrev pub Fits : Files → Outcome → Type 0
 Fits files (Found missing name left size) =
     (is_some left ≡ true) × (left ≡ held_by missing (files name)) × (size ≡ option_map length left)
-Fits files (Unread name) = files name ≡ None
 Fits files (Absent name) = files name ≡ None
 Fits files (Present name) = is_some (files name) ≡ true
 Fits files (Settled durability took size) = size ≡ length took
-Fits files (Unwritten name) = Unit {0}
 Fits files (Gave reading) = Unit {0}
 Fits files (Put name bytes) = Unit {0}
-Fits files other = ⊥
 
 -- each of these, when it came
 unfoldable pub AllFit : Files → List Outcome → Type 0
@@ -315,8 +231,7 @@ pub record Shelf : Type 0 where
   pub refused : List (List ℕ)
   -- how many bytes a file that is written can hold
   pub room : ℕ
-  -- what was done, and what came of it
-  pub events : List Event
+  -- what came of what was done
   pub outcomes : List Outcome
   -- the output that was ended last, if one was
   pub ended : Option EndedFile
@@ -324,10 +239,8 @@ pub record Shelf : Type 0 where
 -- what contracts see of it: it is on no disk
 abbrev pub seen_in : Shelf → FilesView
 seen_in shelf = record {
-  events = shelf.events;
   outcomes = shelf.outcomes;
   ended = shelf.ended;
-  saved = record { path = None; calls = [] };
 }
 
 -- what is stored under each name is what came of what was done, which is all true
@@ -341,6 +254,7 @@ shown_in file = record {
   supply = memory_supply file.1.given file.1.left;
   failed = file.1.failures;
   failing = file.1.failing;
+  label = file.0;
 }
 
 -- how long it is

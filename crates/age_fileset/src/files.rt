@@ -1,21 +1,15 @@
 //! Files by their names.
 
-ghost use Rattle.std.specs.Prelude.{◌≡◌, ◌↔◌, ℕ, true, List, [], ◌∷◌, Option, Some, None, option_map};
-ghost use Rattle.std.specs.Prelude.{IfOk, IfErr, IsOkUnless, IfSome, ◌≤◌, length, IsSomeAnd};
-ghost use Rattle.age_fileset.specs.FileSet.{FilesView, IsMemoryOr, OpenFails, Open, Prepare, Create};
-ghost use Rattle.age_fileset.specs.FileSet.{Replace, EndsOne, Gave, Settled, reading_of, opened_as};
-ghost use Rattle.age_fileset.specs.FileSet.{created_as, made_as, written_as};
-ghost use Rattle.age_fileset.specs.FileSet.{alike_as, looked_as, noted_if, passed_names, ChecksStreams};
-ghost use Rattle.age_fileset.specs.FileSet.{InUse, Terminal};
-ghost use Rattle.age_fileset.specs.FileSet.{with_event, with_outcomes};
-ghost use Rattle.age_io.specs.{Named};
+ghost use Rattle.std.specs.Prelude.{◌≡◌, ◌↔◌, ℕ, [], ◌∷◌, Option, IfOk, IfErr, IfSome, Some, ◌≤◌, ◌++◌};
+ghost use Rattle.std.specs.Prelude.{length, IsSomeAnd, IsOkUnless, true};
+ghost use Rattle.age_fileset.specs.FileSet.{Does, FilesView, IsMemoryOr, OpenFails, Gave, Settled, reading_of, opened_as};
+ghost use Rattle.age_fileset.specs.FileSet.{made_as, put_as, looked_as, with_outcomes};
 ghost use Rattle.age_calls.specs.{Closes, Discards, OutFile};
-ghost use Rattle.age_calls.specs.Saved.{Saves};
-ghost use Rattle.age_fileset.specs.declared.files.OpenFault.TheVariants.{Fault};
 
+use crate::error::{FileError, OpenError};
 use age_fault::FileFault;
 use age_io::{Sink, Source};
-use age_options::{ClobberOption, Durability};
+use age_options::{ClobberOption, Durability, ErrorContext};
 use std::alloc::Global;
 
 /// Why a file could not be opened, prepared or created.
@@ -28,14 +22,6 @@ pub enum OpenFault {
     Fault(FileFault),
 }
 
-impl From<FileFault> for OpenFault {
-    ghost from_gives = { λ f c. c ≡ Fault f };
-
-    fn from(fault: FileFault) -> OpenFault {
-        OpenFault::Fault(fault)
-    }
-}
-
 /// What a name stands for that has no file.
 #[derive(Clone, Copy, Debug, PartialEq, Eq)]
 pub enum Missing {
@@ -43,6 +29,18 @@ pub enum Missing {
     Fails,
     /// An empty file.
     Empty,
+}
+
+/// What a file that is opened is for, by which a set may say what people should know meanwhile.
+#[derive(Clone, Copy)]
+pub enum Purpose {
+    /// It holds a passphrase.
+    Passphrase,
+    /// It is an earlier output, which is copied before the input is read on, and people want to see
+    /// how far that is.
+    ShownCopy,
+    /// Any other.
+    Input,
 }
 
 /// Files by their names.
@@ -62,7 +60,7 @@ pub enum Missing {
 ///   else by `prepare` and `create`; and `replace` writes over none that was opened or created;
 /// - it says that names lead to one file or stream, or that a file is in use, only if that is so.
 pub trait FileSet<'w> {
-    /// A file that is read. Its `began` says under which name it was opened.
+    /// A file that is read. Its label is the name under which it was opened.
     type In: Source + Drop;
 
     /// A file that is written. Its label is the name under which it was created.
@@ -79,15 +77,17 @@ pub trait FileSet<'w> {
 
     /// Whether two names stand for one file. Equal names do.
     fn is_same(&mut self, one: &'w str, other: &'w str) -> bool
-        ensures equal { one.now ≡ other.now → result ≡ true }
-        ensures noted { view self.new
-            ≡ with_outcomes (alike_as one.now other.now result) (view self.old) };
+        ensures same { view self.new ≡ view self.old };
 
     /// Refuses with [`SameFile`](OpenFault::SameFile) if two of the names stand for one stream. A
     /// stream gives each of its bytes once: a pipe, a socket or a terminal, or standard input,
     /// whatever it is. The call opens nothing. It refuses with `Memory` (28) too.
-    fn check_streams(&mut self, alloc: Global, names: &[Option<&'w str>]) -> Result<(), OpenFault>
-        ensures checks { ChecksStreams (passed_names names.now) result (view self.old) (view self.new) }
+    fn check_streams(
+        &mut self,
+        alloc: Global,
+        names: &[Option<&'w str>],
+    ) -> Result<(), OpenError<'w>>
+        ensures same { view self.new ≡ view self.old }
         ensures faults { IfErr result (OpenFails FileFault.Memory) };
 
     /// Opens a file for reading. Refuses with `Read` (26) if it can't be opened, or if it doesn't
@@ -98,11 +98,12 @@ pub trait FileSet<'w> {
         alloc: Global,
         name: &'w str,
         missing: Missing,
-    ) -> Result<Self::In, OpenFault>
-        ensures noted { view self.new ≡ with_event (Open name.now)
-            (opened_as (Self.In.view) size missing name.now result) (view self.old) }
+        purpose: Purpose,
+    ) -> Result<Self::In, OpenError<'w>>
+        ensures noted { view self.new
+            ≡ with_outcomes (opened_as (Self.In.view) size missing name.now result) (view self.old) }
         ensures begun { IfOk result (λ s. (Self.In.view s).supply.given ≡ []) }
-        ensures named { IfOk result (λ s. Self.In.began s (Named name.now)) }
+        ensures named { IfOk result (λ s. (Self.In.view s).label ≡ name.now) }
         ensures faults { IfErr result (OpenFails FileFault.Read) };
 
     /// How many bytes a file that was opened still has to give; `None` if the set can't say, as for
@@ -113,27 +114,29 @@ pub trait FileSet<'w> {
             (λ bytes. result ≡ Some (length bytes)) };
 
     /// The reading of a file that was opened is over: contracts see from now on what it gave. They
-    /// don't see it for a source that is dropped.
-    fn finish(&mut self, source: Self::In)
-        ensures over { (name : List ℕ) → Self.In.began source (Named name) → view self.new
-            ≡ with_outcomes (Gave (reading_of name (Self.In.view source)) ∷ []) (view self.old) }
-        ensures same { view self.new ≡ record (view self.old) { outcomes = (view self.new).outcomes } };
+    /// don't see it for a source that is dropped. Returns how much it gave, or why a pull has failed.
+    fn close_input(&mut self, source: Self::In) -> ErrorContext<'w>
+        ensures over { view self.new
+            ≡ with_outcomes (Gave (reading_of (Self.In.view source)) ∷ []) (view self.old) }
+        ensures does { Does (view self.old) (view self.new) };
 
     /// Prepares for a file to be replaced later, once the files to be read are open: checks that it
     /// can be, and may make room for that beside it. Refuses with `Write` (27) if it can't, with
     /// `Memory` (28), and with [`SameFile`](OpenFault::SameFile) if it was opened or created before,
-    /// unless it is the file of `spared`. A file that is created after this is refused if it is the
-    /// prepared one. The room is on the disk then, if it is to be.
+    /// unless it is the file of `spared`, or if one of the `others` would be where the room is, whether
+    /// that exists or not. If `clobber` refuses an existing file that holds something, so does this
+    /// call, with `Write` (27), unless it is that of `spared`. A file that is created after this is
+    /// refused if it is the prepared one. The room is on the disk then, if it is to be.
     fn prepare(
         &mut self,
         alloc: Global,
         name: &'w str,
         spared: Option<&'w str>,
+        others: &[Option<&'w str>],
+        clobber: ClobberOption,
         durability: Durability,
-    ) -> Result<(), OpenFault>
-        ensures noted { view self.new
-            ≡ with_event (Prepare name.now (option_map (λ s. s.now) spared.entry))
-            (made_as [] name.now result) (view self.old) }
+    ) -> Result<(), OpenError<'w>>
+        ensures same { view self.new ≡ view self.old }
         ensures faults { IfErr result (OpenFails FileFault.Write) };
 
     /// Opens a file to be written, which need not exist yet. Refuses with `Write` (27) if it can't be
@@ -149,9 +152,8 @@ pub trait FileSet<'w> {
         name: &'w str,
         clobber: ClobberOption,
         durability: Durability,
-    ) -> Result<Self::Out, OpenFault>
-        ensures noted { view self.new ≡ with_event (Create clobber name.now)
-            (made_as (created_as clobber name.now) name.now result) (view self.old) }
+    ) -> Result<Self::Out, OpenError<'w>>
+        ensures noted { view self.new ≡ with_outcomes (made_as clobber name.now result) (view self.old) }
         ensures begun { IfOk result (λ o. ((Self.Out.view o).taken.bytes ≡ [])
             × ((Self.Out.view o).failed ≡ 0)) }
         ensures named { IfOk result (λ o. (Self.Out.view o).taken.label ≡ name.now) }
@@ -160,8 +162,8 @@ pub trait FileSet<'w> {
     /// Refuses anything that has the name, even a link, with `Write` (27), as `create` would if
     /// existing files are refused. It changes nothing, and is called before work that takes long; by
     /// the end of that, something may have the name.
-    fn check_absent(&mut self, name: &'w str) -> Result<(), OpenFault>
-        ensures noted { view self.new ≡ with_outcomes (made_as [] name.now result) (view self.old) }
+    fn check_absent(&mut self, name: &'w str) -> Result<(), OpenError<'w>>
+        ensures same { view self.new ≡ view self.old }
         ensures faults { IfErr result (OpenFails FileFault.Write) };
 
     /// Whether nothing has the name, not even a link. If it can't be looked at, something may have
@@ -172,18 +174,18 @@ pub trait FileSet<'w> {
     /// Whether a file that was created is standard error's, which the lines of progress and of
     /// faults go to.
     fn is_for_faults(&mut self, out: &Self::Out) -> bool
-        ensures { view self.new ≡ with_outcomes
-            (noted_if result (InUse (Self.Out.view out.now).taken.label)) (view self.old) };
+        ensures same { view self.new ≡ view self.old };
 
     /// Whether a file that was created is a terminal. No regular file of a disk is one.
     fn is_terminal(&mut self, out: &Self::Out) -> bool
-        ensures noted { view self.new ≡ with_outcomes
-            (noted_if result (Terminal (Self.Out.view out.now).taken.label)) (view self.old) }
-        ensures device { result ≡ true → file out.now ≡ None };
+        ensures same { view self.new ≡ view self.old };
 
     /// Whether a file that was created has taken no byte so far.
     fn is_empty(&self, out: &Self::Out) -> bool
         ensures { result ≡ true ↔ ((Self.Out.view out.now).taken.bytes ≡ []) };
+
+    /// Why a put or a flush of a file that was created has failed, if one has.
+    fn reason(&self, out: &Self::Out) -> ErrorContext<'w>;
 
     /// How many bytes of those that a sink took its file certainly holds, on the disk if that is
     /// asked for and the machine can wait. It is never more than the sink took.
@@ -203,9 +205,9 @@ pub trait FileSet<'w> {
     /// Ends a file that was created, with exactly the bytes that its sink took, in place of what it
     /// held, and waits until they have reached the disk if that is asked for and the machine can
     /// wait. Refuses with `Write` (27); the file is then as the calls that succeeded left it.
-    fn close(&mut self, out: Self::Out, durability: Durability) -> Result<(), FileFault>
-        ensures noted { EndsOne durability (written_as (Self.Out.view out).taken.label
-            (Self.Out.view out).taken.bytes result) (view self.old) (view self.new) }
+    fn close(&mut self, out: Self::Out, durability: Durability) -> Result<(), FileError<'w>>
+        ensures noted { (view self.new).outcomes ≡ (view self.old).outcomes
+            ++ put_as (Self.Out.view out).taken.label (Self.Out.view out).taken.bytes result }
         ensures closed { IsSomeAnd (view self.new).ended
             (Closes durability (file out) (Self.Out.view out) result) }
         ensures faults { IsOkUnless result FileFault.Write };
@@ -213,7 +215,8 @@ pub trait FileSet<'w> {
     /// Ends a file that was created and into which nothing was put: it is unchanged. One that was made
     /// by a put that failed is removed, if it can be, also on the disk if that is asked for.
     fn discard(&mut self, out: Self::Out, durability: Durability)
-        ensures noted { EndsOne durability [] (view self.old) (view self.new) }
+        requires none { (Self.Out.view out).taken.bytes ≡ [] }
+        ensures noted { (view self.new).outcomes ≡ (view self.old).outcomes }
         ensures discarded { IsSomeAnd (view self.new).ended
             (Discards (file out) (Self.Out.view out)) };
 
@@ -227,9 +230,7 @@ pub trait FileSet<'w> {
         name: &'w str,
         bytes: &[u8],
         durability: Durability,
-    ) -> Result<(), FileFault>
-        ensures noted { view self.new ≡ record (with_event (Replace name.now durability)
-            (written_as name.now bytes.now result) (view self.old)) { saved = (view self.new).saved } }
-        ensures saved { Saves bytes.now durability result (view self.new).saved }
+    ) -> Result<(), FileError<'w>>
+        ensures noted { view self.new ≡ with_outcomes (put_as name.now bytes.now result) (view self.old) }
         ensures faults { IfErr result (IsMemoryOr FileFault.Write) };
 }

@@ -5,11 +5,14 @@
 //! memory, also what each file holds.
 #![tactic(auto)]
 
+mod error;
 mod files;
 mod log;
 mod mem_entry;
 mod mem_files;
 
-pub use files::{FileSet, Missing, OpenFault};
+pub use age_options::{Action, ErrorContext, Failure, FirstBytes, ReadSummary};
+pub use error::{FileError, OpenError};
+pub use files::{FileSet, Missing, OpenFault, Purpose};
 pub use log::{Doing, Log};
 pub use mem_files::{MemFiles, MemIn, MemOut};

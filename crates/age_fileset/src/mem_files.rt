@@ -4,20 +4,20 @@ ghost use Rattle.std.specs.Prelude.{◌≡◌, ◌↔◌, ◌⊎◌, ◌++◌, �
 ghost use Rattle.std.specs.Prelude.{OnErr, IfOk, IsErrOf, IsOk, IfErr, IsOkUnless, Contains, is_some};
 ghost use Rattle.std.specs.Prelude.{option_map, length, false};
 ghost use Rattle.age_io.specs.Taken.{WriteAppends, Keeps};
-ghost use Rattle.age_io.specs.{Puts, Pulls, Flushes, holds, memory_supply, IsNamed, ReadConsumes};
-ghost use Rattle.age_fileset.specs.{entry_of, empty_with, PutsEntry, IsMemoryOr, held_by, Open, Prepare};
-ghost use Rattle.age_fileset.specs.{Create, Replace, Close, Found, Gave, Settled, ended_with, opened_as};
-ghost use Rattle.age_fileset.specs.{created_as, looked_as, made_as, put_as, written_as};
-ghost use Rattle.age_fileset.specs.{size_in, shown_in, shown_out, seen_in, reading_of, MemFails, AreTrue};
+ghost use Rattle.age_io.specs.{Puts, Pulls, Flushes, holds, memory_supply, ReadConsumes};
+ghost use Rattle.age_fileset.specs.{entry_of, empty_with, PutsEntry, IsMemoryOr, held_by, Found, Gave};
+ghost use Rattle.age_fileset.specs.{Settled, ended_with, opened_as, looked_as, made_as, put_as, size_in};
+ghost use Rattle.age_fileset.specs.{shown_in, shown_out, seen_in, reading_of, MemFails, AreTrue};
 ghost use Rattle.age_fileset.specs.declared.files.OpenFault.TheVariants.{Fault};
 ghost use Rattle.age_options.specs.declared.ClobberOption.TheVariants.{Refused};
 
-use crate::files::{FileSet, Missing, OpenFault};
+use crate::error::{FileError, OpenError};
+use crate::files::{FileSet, Missing, Purpose};
 use crate::log::{Doing, Log};
 use crate::mem_entry::{MemEntry, Name, bytes_of, put_entry};
 use age_fault::FileFault;
 use age_io::{Bytes, Failed, MemSink, MemSource, Memory, Sink, Source, Tape};
-use age_options::{ClobberOption, Durability};
+use age_options::{ClobberOption, Durability, ErrorContext};
 use std::alloc::{AllocError, Global};
 use std::marker::Model;
 
@@ -64,12 +64,11 @@ impl Model for MemFiles {
       entries = f.entries.items;
       refused = f.refused.items;
       room = f.room;
-      events = f.log.events;
-      outcomes = f.log.outcomes;
+      outcomes = f.log;
       ended = f.ended;
     } };
 
-    ghost invariant = { λ f. AreTrue f.entries.items f.log.outcomes };
+    ghost invariant = { λ f. AreTrue f.entries.items f.log };
 }
 
 /// A file over memory that is read. A contract sees its name and its source.
@@ -90,8 +89,6 @@ impl Model for MemIn {
 
 impl Source for MemIn {
     ghost view = { shown_in };
-
-    ghost began = { λ i. IsNamed i.0 };
 
     fn pull(&mut self, into: &mut [u8]) -> Result<usize, Failed>
         ensures bound { IfOk result (λ n. n ≤ length into.new) }
@@ -157,7 +154,6 @@ impl MemFiles {
           entries = [];
           refused = [];
           room = room;
-          events = [];
           outcomes = [];
           ended = None;
         } }
@@ -218,16 +214,14 @@ impl MemFiles {
     /// Notes that a reading is over.
     fn log_reading(&mut self, source: &MemIn)
         ensures { self.new ≡ record self.old {
-          outcomes = self.old.outcomes ++ Gave (reading_of source.now.0 (shown_in source.now)) ∷ [];
+          outcomes = self.old.outcomes ++ Gave (reading_of (shown_in source.now)) ∷ [];
         } }
     {
         let (mut name, mut given) = (Tape::new(), Tape::new());
         name.note(source.name.as_str().as_bytes());
         given.note(source.source.given());
         let is_at_end = source.source.remaining() == 0;
-        let is_failing = source.source.is_failing();
-        self.log
-            .note(Doing::Gave(&name, &given, is_at_end, is_failing));
+        self.log.note(Doing::Gave(&name, &given, is_at_end));
     }
 
     /// Refuses each later attempt to create or replace a file of this name. If memory runs out,
@@ -260,10 +254,7 @@ impl MemEnded {
 
 /// Notes that a file was found, which has this to give.
 fn note_found(log: &mut Log, missing: Missing, name: &str, left: Option<&Tape>, size: Option<u64>)
-    ensures { log.new ≡ record log.old {
-      outcomes = log.old.outcomes
-          ++ Found missing name.now (option_map (λ t. t.now) left.entry) size ∷ [];
-    } }
+    ensures { log.new ≡ log.old ++ Found missing name.now (option_map (λ t. t.now) left.entry) size ∷ [] }
 {
     log.note(Doing::Found(missing, name, left, size));
 }
@@ -329,20 +320,20 @@ fn new_out(alloc: Global, name: &str, room: usize) -> Result<MemOut, FileFault>
 }
 
 /// The same, unless the name is one that can't be written, or of a file that is kept.
-fn open_out(
+fn open_out<'w>(
     alloc: Global,
     refused: &[Name],
     name: &str,
     room: usize,
     is_kept: bool,
-) -> Result<MemOut, OpenFault>
+) -> Result<MemOut, OpenError<'w>>
     ensures made { IfOk result (λ o. o ≡ (name.now, empty_with room)) }
     ensures refused { IsErrOf result (Fault FileFault.Write)
         ↔ (Contains refused.now name.now ⊎ IsTrue is_kept) }
     ensures faults { IfErr result (MemFails FileFault.Write) }
 {
     if is_kept || is_refused(refused, name) {
-        return Err(OpenFault::Fault(FileFault::Write));
+        return Err(OpenError::new(FileFault::Write, ErrorContext::Nothing));
     }
     Ok(new_out(alloc, name, room)?)
 }
@@ -367,7 +358,11 @@ impl<'w> FileSet<'w> for MemFiles {
     }
 
     /// None is a stream.
-    fn check_streams(&mut self, _alloc: Global, _names: &[Option<&'w str>]) -> Result<(), OpenFault>
+    fn check_streams(
+        &mut self,
+        _alloc: Global,
+        _names: &[Option<&'w str>],
+    ) -> Result<(), OpenError<'w>>
         ensures same { self.new ≡ self.old }
         ensures ok { IsOk result }
     {
@@ -376,9 +371,14 @@ impl<'w> FileSet<'w> for MemFiles {
 
     /// Opens a copy of a file's bytes. If no file has the name, refuses with `Read` (26), or opens a
     /// copy of no bytes, as `missing` says.
-    fn open(&mut self, alloc: Global, name: &'w str, missing: Missing) -> Result<MemIn, OpenFault>
+    fn open(
+        &mut self,
+        alloc: Global,
+        name: &'w str,
+        missing: Missing,
+        _purpose: Purpose,
+    ) -> Result<MemIn, OpenError<'w>>
         ensures kept { self.new ≡ record self.old {
-          events = self.old.events ++ Open name.now ∷ [];
           outcomes = self.old.outcomes ++ opened_as shown_in size_in missing name.now result;
         } }
         ensures found { IfOk result
@@ -388,11 +388,8 @@ impl<'w> FileSet<'w> for MemFiles {
             ↔ (held_by missing (entry_of self.old.entries name.now) ≡ None) }
         ensures faults { IfErr result (MemFails FileFault.Read) }
     {
-        self.log.note(Doing::Open(name));
         let Some(bytes) = bytes_held(self.entries.as_slice(), name, missing) else {
-            self.log
-                .note(Doing::Refused(name, OpenFault::Fault(FileFault::Read)));
-            return Err(OpenFault::Fault(FileFault::Read));
+            return Err(OpenError::new(FileFault::Read, ErrorContext::Nothing));
         };
         let mut left = Tape::new();
         left.note(bytes);
@@ -409,29 +406,28 @@ impl<'w> FileSet<'w> for MemFiles {
         Some(source.source.remaining() as u64)
     }
 
-    fn finish(&mut self, source: MemIn)
+    fn close_input(&mut self, source: MemIn) -> ErrorContext<'w>
         ensures over { self.new ≡ record self.old {
-          outcomes = self.old.outcomes ++ Gave (reading_of source.0 (shown_in source)) ∷ [];
+          outcomes = self.old.outcomes ++ Gave (reading_of (shown_in source)) ∷ [];
         } }
     {
         self.log_reading(&source);
+        ErrorContext::Nothing
     }
 
     /// Tries nothing: a name that can't be written is refused when it is replaced.
     fn prepare(
         &mut self,
         _alloc: Global,
-        name: &'w str,
-        spared: Option<&'w str>,
+        _name: &'w str,
+        _spared: Option<&'w str>,
+        _others: &[Option<&'w str>],
+        _clobber: ClobberOption,
         _durability: Durability,
-    ) -> Result<(), OpenFault>
+    ) -> Result<(), OpenError<'w>>
         ensures ok { IsOk result }
-        ensures kept { self.new ≡ record self.old {
-          events = self.old.events
-              ++ Prepare name.now (option_map (λ s. s.now) spared.entry) ∷ [];
-        } }
+        ensures same { self.new ≡ self.old }
     {
-        self.log.note(Doing::Prepare(name, spared));
         Ok(())
     }
 
@@ -444,42 +440,35 @@ impl<'w> FileSet<'w> for MemFiles {
         name: &'w str,
         clobber: ClobberOption,
         _durability: Durability,
-    ) -> Result<MemOut, OpenFault>
+    ) -> Result<MemOut, OpenError<'w>>
         ensures made { IfOk result (λ o. o ≡ (name.now, empty_with self.old.room)) }
         ensures refused { IsErrOf result (Fault FileFault.Write)
             ↔ (Contains self.old.refused name.now ⊎ ((clobber ≡ Refused)
             × (is_some (entry_of self.old.entries name.now) ≡ true))) }
         ensures kept { self.new ≡ record self.old {
-          events = self.old.events ++ Create clobber name.now ∷ [];
-          outcomes = self.old.outcomes ++ made_as (created_as clobber name.now) name.now result;
+          outcomes = self.old.outcomes ++ made_as clobber name.now result;
         } }
         ensures faults { IfErr result (MemFails FileFault.Write) }
     {
-        self.log.note(Doing::Create(clobber, name));
         let is_kept = is_kept(self.entries.as_slice(), name, clobber);
         let out = open_out(alloc, self.refused.as_slice(), name, self.room, is_kept);
-        match out {
-            Ok(_) => self.log.note(Doing::Created(clobber, name)),
-            Err(fault) => self.log.note(Doing::Refused(name, fault)),
+        if let Ok(_) = out {
+            self.log.note(Doing::Created(clobber, name));
         }
         out
     }
 
     /// Refuses with `Write` (27) exactly if a file has the name.
-    fn check_absent(&mut self, name: &'w str) -> Result<(), OpenFault>
+    fn check_absent(&mut self, name: &'w str) -> Result<(), OpenError<'w>>
         ensures refused { IsErrOf result (Fault FileFault.Write)
             ↔ (is_some (entry_of self.old.entries name.now) ≡ true) }
-        ensures kept { self.new ≡ record self.old {
-          outcomes = self.old.outcomes ++ made_as [] name.now result;
-        } }
+        ensures same { self.new ≡ self.old }
         ensures faults { IfErr result (MemFails FileFault.Write) }
     {
         if self.get(name).is_none() {
             return Ok(());
         }
-        self.log
-            .note(Doing::Refused(name, OpenFault::Fault(FileFault::Write)));
-        Err(OpenFault::Fault(FileFault::Write))
+        Err(OpenError::new(FileFault::Write, ErrorContext::Nothing))
     }
 
     /// Exactly if no file has the name.
@@ -544,39 +533,35 @@ impl<'w> FileSet<'w> for MemFiles {
 
     /// Puts what the sink took under its name. That allocates nothing if a file of that name
     /// exists.
-    fn close(&mut self, out: MemOut, durability: Durability) -> Result<(), FileFault>
+    fn close(&mut self, out: MemOut, _durability: Durability) -> Result<(), FileError<'w>>
         ensures puts { PutsEntry out.0 out.1.held result self.old.entries self.new.entries }
         ensures there { is_some (entry_of self.old.entries out.0) ≡ true → IsOk result }
         ensures faults { IsOkUnless result FileFault.Write }
         ensures kept { self.new ≡ record self.old {
           entries = self.new.entries;
-          events = self.old.events ++ Close durability ∷ [];
-          outcomes = self.old.outcomes ++ written_as out.0 out.1.held result;
+          outcomes = self.old.outcomes ++ put_as out.0 out.1.held result;
           ended = Some (ended_with out.1.held true);
         } }
     {
-        self.log.note(Doing::Close(durability));
         let MemOut { name, sink } = out;
         self.ended = Some(MemEnded::of(&sink, true));
-        let mut own = Tape::new();
-        own.note(name.as_str().as_bytes());
         match self.put_noted(name, Bytes::from_vec(sink.into_bytes())) {
             Ok(()) => Ok(()),
-            Err(_) => {
-                self.log.note(Doing::Unwritten(&own));
-                Err(FileFault::Write)
-            }
+            Err(_) => Err(FileError::from(FileFault::Write)),
         }
     }
 
+    /// Nothing answers but the room that there is.
+    fn reason(&self, _out: &MemOut) -> ErrorContext<'w> {
+        ErrorContext::Nothing
+    }
+
     /// Drops whatever the sink took.
-    fn discard(&mut self, out: MemOut, durability: Durability)
+    fn discard(&mut self, out: MemOut, _durability: Durability)
         ensures kept { self.new ≡ record self.old {
-          events = self.old.events ++ Close durability ∷ [];
           ended = Some (ended_with out.1.held false);
         } }
     {
-        self.log.note(Doing::Close(durability));
         self.ended = Some(MemEnded::of(&out.sink, false));
         let _dropped = out;
     }
@@ -588,23 +573,19 @@ impl<'w> FileSet<'w> for MemFiles {
         alloc: Global,
         name: &'w str,
         bytes: &[u8],
-        durability: Durability,
-    ) -> Result<(), FileFault>
+        _durability: Durability,
+    ) -> Result<(), FileError<'w>>
         ensures puts { PutsEntry name.now bytes.now result self.old.entries self.new.entries }
         ensures refused { IsErrOf result FileFault.Write
             ↔ (Contains self.old.refused name.now ⊎ (self.old.room < length bytes.now)) }
         ensures faults { IfErr result (IsMemoryOr FileFault.Write) }
         ensures kept { self.new ≡ record self.old {
           entries = self.new.entries;
-          events = self.old.events ++ Replace name.now durability ∷ [];
-          outcomes = self.old.outcomes ++ written_as name.now bytes.now result;
+          outcomes = self.old.outcomes ++ put_as name.now bytes.now result;
         } }
     {
-        self.log.note(Doing::Replace(name, durability));
         if is_refused(self.refused.as_slice(), name) || bytes.len() > self.room {
-            self.log
-                .note(Doing::Refused(name, OpenFault::Fault(FileFault::Write)));
-            return Err(FileFault::Write);
+            return Err(FileError::from(FileFault::Write));
         }
         let copy = bytes.to_vec(alloc)?;
         Ok(self.put(alloc, name, copy)?)

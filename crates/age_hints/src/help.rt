@@ -1,28 +1,26 @@
 //! What `help N` and `help NAME` answer.
 
-use crate::faults::row_of;
+use crate::faults::{LAST_FAULT, row_of};
 
-/// What the words ask for if they are `help N` or `help NAME`: what this fault means.
-pub fn row_asked(words: &[&str]) -> Option<&'static str> {
-    if words.len() != 2 || words[0] != "help" {
-        return None;
+/// Finds what a fault means, if the words are `help N` or `help NAME`.
+pub fn find_row(words: &[&str]) -> Option<&'static str> {
+    match words {
+        ["help", word] => find_fault(*word),
+        _ => None,
     }
-    let word = words[1];
-    if let Ok(number) = word.parse() {
-        return row_of(number);
+}
+
+/// Finds what the fault of this number or name means.
+pub(crate) fn find_fault(word: &str) -> Option<&'static str> {
+    if let Ok(number) = word.parse::<u8>() {
+        let (_, text) = row_of(number)?;
+        return Some(text);
     }
-    for number in 1..=u8::MAX {
-        let row = row_of(number)?;
-        if name_in(row) == Some(word) {
-            return Some(row);
+    for number in 1..=LAST_FAULT {
+        let (name, text) = row_of(number)?;
+        if name == word {
+            return Some(text);
         }
     }
     None
-}
-
-/// The name of the fault that a row is about: it follows the number in the first line.
-fn name_in(row: &str) -> Option<&str> {
-    let (first, _) = row.split_once('\n')?;
-    let (_, name) = first.split_once(' ')?;
-    Some(name)
 }

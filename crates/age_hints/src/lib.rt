@@ -1,21 +1,28 @@
-//! What people read after a run: what its fault means and what to do, what the machine answered,
-//! and what may surprise; and what they read about words that are refused.
+//! What people read after a run: what its fault means and what to do, what the system answered, and
+//! what may surprise; what they read about words that are refused; and the help on a fault.
 //!
-//! `Heard` keeps the line of a fault as it passes by, `RunFailures` of `age_messages` what the
-//! machine answered, and `explain` says both. `run` asks `Refusals` for the text of a refusal. Only
-//! the program uses this crate, so changing a sentence needs no proof except its own and the
-//! program's.
+//! `explain` says how a run ended, by its `Ending`, and `explain_refusal` why words are refused, by the
+//! kind of the parser's error and the table of the commands. Only the program uses this crate, so
+//! changing a sentence needs no proof except its own and the program's.
 #![tactic(auto)]
 
-mod explaining;
+mod arguments;
+mod ending;
+mod failure_line;
+mod fault;
 mod faults;
-mod heard;
 mod help;
-mod hints;
 mod line;
+mod position;
+mod quoted;
 mod refusal;
+mod sentences;
+mod surprises;
+mod tips;
+mod usage;
+mod words;
+mod work_factor;
 
-pub use explaining::explain;
-pub use heard::Heard;
-pub use help::row_asked;
-pub use refusal::Refusals;
+pub use ending::{RunContext, explain};
+pub use help::find_row;
+pub use refusal::{explain_refusal, explain_word_like_help, find_word_like_help};

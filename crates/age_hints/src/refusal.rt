@@ -1,269 +1,257 @@
-//! What people read about words that ask for help, or are refused.
+//! What people read about words that the parser of command lines refuses. The kind of the error says
+//! what is wrong, and the table of the commands which word it is: no text of the parser is read.
 
-use age_cli_args::{Wording, read_request};
+use crate::faults::LAST_FAULT;
+use crate::help::find_fault;
+use crate::quoted::Quoted;
+use crate::tips::{KNOWN_COMMANDS, push_command_tip, push_option_tip};
+use crate::words::{Word, gives, is_option, read_words, split_option, takes_value};
+use age_cli_args::{Argument, Given, Subcommand, USAGE, find_command};
+use age_messages::Escaped;
 use clap::Error;
 use clap::error::ErrorKind;
-use std::alloc::{AllocError, Global};
+use std::alloc::AllocError;
+use std::fmt::{self, Display, Formatter};
+use std::fs;
+use std::io::Eprint;
+use std::rt::HostRuntime;
 
-/// Words of other programs, and what to give instead of them.
-type Hints = &'static [(&'static [&'static str], &'static str)];
+/// What begins a tip.
+const TIP: &str = "\n\n  tip: ";
 
-const COMMAND_HINTS: Hints = &[
-    (
-        &["verify", "test", "check"],
-        "age_tool decrypt --pass FILE IN /dev/null checks all of IN",
-    ),
-    (
-        &["list", "ls", "info", "show"],
-        "age_tool inspect FILE shows its header",
-    ),
-    (
-        &["extract", "open", "restore"],
-        "age_tool decrypt --pass FILE IN OUT decrypts",
-    ),
-    (&["keygen"], "age_tool makes no keys; age-keygen does"),
-    (&["version"], "the version is shown by age_tool --version"),
-];
+/// Says on standard error why the parser refuses words, what to give in place of them, and the usage.
+/// What can't be shown of a word is shown by its code.
+pub fn explain_refusal(rt: &HostRuntime, words: &[&str], error: &Error) -> Result<(), AllocError> {
+    let mut text = String::from_str(rt.alloc(), "age_tool: ")?;
+    let kind = error.kind();
+    let usage = match words.first().and_then(|it| find_command(*it)) {
+        Some(command) => {
+            push_refused_word(rt, &mut text, kind, command, words.get(1..).unwrap_or(&[]))?;
+            command.usage()
+        }
+        None => {
+            push_refused_command(rt, &mut text, words)?;
+            USAGE
+        }
+    };
+    push_usage(&mut text, kind, usage)?;
+    let _ = rt.eprint(text.as_str());
+    Ok(())
+}
 
-const OPTION_HINTS: Hints = &[
-    (
-        &["-d", "--decrypt"],
-        "age_tool decrypt --pass FILE IN OUT decrypts",
-    ),
-    (
-        &["-e", "--encrypt", "-c", "--symmetric"],
-        "age_tool encrypt --pass FILE IN OUT encrypts",
-    ),
-    (
-        &["-p", "--passphrase"],
-        "the passphrase is read from a file: --pass FILE",
-    ),
-    (
-        &["-o", "--output"],
-        "OUT is the last word, without an option",
-    ),
-    (
-        &["-i", "--identity"],
-        "for a key file (a release's Python module): python3 -m agefile decrypt --identity FILE IN OUT",
-    ),
-    (
-        &["-r", "--recipient"],
-        "for a recipient (a release's Python module): python3 -m agefile encrypt --recipient KEY IN OUT",
-    ),
-    (
-        &["-R", "--recipients-file"],
-        "for recipients (a release's Python module): \
-         python3 -m agefile encrypt --recipients-file FILE IN OUT",
-    ),
-    (
-        &["-a", "--armor"],
-        "age_tool doesn't do armor: leave it out",
-    ),
-    (
-        &["-f", "--force", "--overwrite", "--yes"],
-        "without --no-clobber an existing OUT is overwritten",
-    ),
-    (
-        &["-v", "--verbose"],
-        "--progress shows how far a run is, and age_tool --version the version",
-    ),
-    (
-        &["-q", "--quiet"],
-        "leave it out: without --progress a run that succeeds says little",
-    ),
-];
+/// Appends the usage, unless a value alone is wrong, and where to find help.
+fn push_usage(text: &mut String, kind: ErrorKind, usage: &str) -> Result<(), AllocError> {
+    if !matches!(kind, ErrorKind::InvalidValue | ErrorKind::ValueValidation) {
+        write!(text, "\n\nUsage: {usage}")?;
+    }
+    text.push_str("\n\nFor more information, try '--help'.\n")
+}
 
-/// What such a table says of a word.
-fn hint_among(hints: Hints, word: &str) -> Option<&'static str> {
-    for (words, hint) in hints {
-        if words.iter().any(|it| *it == word) {
-            return Some(*hint);
+/// Says what is wrong with words whose first is no command.
+fn push_refused_command(
+    rt: &HostRuntime,
+    text: &mut String,
+    words: &[&str],
+) -> Result<(), AllocError> {
+    match words {
+        [] | ["--"] => write!(text, "no command is given{TIP}{KNOWN_COMMANDS}"),
+        ["help", topic, word, ..] if is_topic(*topic) => {
+            push_unexpected(text, *word)?;
+            text.push_str("help takes one command or fault")
+        }
+        ["help", word, ..] if word.bytes().all(|it| it.is_ascii_digit()) => {
+            write!(
+                text,
+                "no such fault: '{word}'{TIP}the faults are 1 to {LAST_FAULT}"
+            )
+        }
+        ["help", word, ..] | [word, ..] => push_no_command(rt, text, *word),
+    }
+}
+
+/// Says that a word is no command.
+fn push_no_command(rt: &HostRuntime, text: &mut String, word: &str) -> Result<(), AllocError> {
+    if is_option(word) {
+        push_unexpected(text, word)?;
+        return push_option_tip(rt, text, None, word);
+    }
+    let shown = Escaped(word.as_bytes());
+    write!(text, "no such command: '{shown}'{TIP}")?;
+    push_command_tip(rt.alloc(), text, word)
+}
+
+/// Whether there is help on a command or a fault of this name.
+fn is_topic(word: &str) -> bool {
+    find_command(word).is_some() || find_fault(word).is_some()
+}
+
+/// Says what is wrong with the words after a command.
+fn push_refused_word(
+    rt: &HostRuntime,
+    text: &mut String,
+    kind: ErrorKind,
+    command: &'static Subcommand,
+    words: &[&str],
+) -> Result<(), AllocError> {
+    let found = read_words(rt.alloc(), command, words)?;
+    if kind == ErrorKind::MissingRequiredArgument {
+        return push_missing(text, command, found.as_slice());
+    }
+    match find_refused(kind, found.as_slice()) {
+        Some(Word::Unknown(word)) => {
+            let (name, _) = split_option(word);
+            push_unexpected(text, name)?;
+            push_option_tip(rt, text, Some(command), word)
+        }
+        Some(Word::Extra(word)) => {
+            push_unexpected(text, word)?;
+            text.push_str("a command takes one IN and one OUT at a time")
+        }
+        Some(Word::Given(argument, value)) => push_wrong(text, kind, argument, value.unwrap_or("")),
+        None => text.push_str(kind.as_str().unwrap_or("bad command line")),
+    }
+}
+
+/// Says that a word isn't expected, before a tip.
+fn push_unexpected(text: &mut String, word: &str) -> Result<(), AllocError> {
+    let shown = Escaped(word.as_bytes());
+    write!(text, "unexpected argument '{shown}'{TIP}")
+}
+
+/// Says what is wrong with an argument that the command has.
+fn push_wrong(
+    text: &mut String,
+    kind: ErrorKind,
+    argument: &'static Argument,
+    value: &str,
+) -> Result<(), AllocError> {
+    let (argument, is_empty) = (Form(argument), value.is_empty());
+    let value = Escaped(value.as_bytes());
+    match kind {
+        ErrorKind::ValueValidation if !is_empty => write!(
+            text,
+            "invalid value '{value}' for '{argument}': not a number from 1 to 22"
+        ),
+        ErrorKind::InvalidValue | ErrorKind::ValueValidation => write!(
+            text,
+            "a value is required for '{argument}' but none was supplied"
+        ),
+        ErrorKind::TooManyValues => write!(text, "unexpected value '{value}' for '{argument}'"),
+        _ => write!(
+            text,
+            "the argument '{argument}' cannot be used multiple times"
+        ),
+    }
+}
+
+/// Finds the first word that the parser refuses by an error of this kind.
+fn find_refused<'w>(kind: ErrorKind, found: &[Word<'w>]) -> Option<Word<'w>> {
+    for (i, word) in found.iter().enumerate() {
+        if is_refused(kind, word, found.get(..i).unwrap_or(&[])) {
+            return Some(*word);
         }
     }
     None
 }
 
-/// What people read about words with which the parser fails: help, the version, or why they are
-/// refused. In a refusal, what can't be shown of a word is shown by its code, as in `age_messages`,
-/// an option or a command of another program gets a hint, and the first line is in the words of
-/// this program.
-#[derive(Clone, Copy, Debug)]
-pub struct Refusals;
+/// Whether a word is refused by an error of this kind, after these found.
+fn is_refused(kind: ErrorKind, word: &Word<'_>, before: &[Word<'_>]) -> bool {
+    match (kind, *word) {
+        (ErrorKind::UnknownArgument, Word::Unknown(_) | Word::Extra(_)) => true,
+        (ErrorKind::ValueValidation, Word::Given(argument, Some(value))) => {
+            matches!(argument.given, Given::Number) && !is_work_factor(value)
+        }
+        (ErrorKind::InvalidValue, Word::Given(argument, value)) => {
+            takes_value(argument) && value.unwrap_or("").is_empty()
+        }
+        (ErrorKind::TooManyValues, Word::Given(argument, Some(_))) => !takes_value(argument),
+        (ErrorKind::ArgumentConflict, Word::Given(argument, _)) => gives(before, argument.id),
+        _ => false,
+    }
+}
 
-impl Wording for Refusals {
-    fn text_of(&self, alloc: Global, words: &[&str], error: &Error) -> Result<String, AllocError> {
-        match error.kind() {
-            ErrorKind::DisplayHelp | ErrorKind::DisplayVersion => error.to_string(alloc),
-            _ => reworded(alloc, with_hint(alloc, words, coded_text(alloc, words)?)?),
+/// Whether a text is a number from 1 to 22.
+fn is_work_factor(text: &str) -> bool {
+    matches!(text.parse::<u32>(), Ok(1..=22))
+}
+
+/// The form in which an argument is given.
+#[derive(Clone, Copy)]
+struct Form(&'static Argument);
+
+impl Display for Form {
+    fn fmt<W: fmt::Write>(&self, f: &mut Formatter<W>) -> fmt::Result {
+        let id = self.0.id;
+        match self.0.given {
+            Given::Value(value) => write!(f, "--{id} <{value}>"),
+            Given::File => write!(f, "--{id} <FILE>"),
+            Given::Number => write!(f, "--{id} <N>"),
+            Given::Flag => write!(f, "--{id}"),
+            Given::Operand | Given::Word => write!(f, "<{id}>"),
         }
     }
 }
 
-/// The parser's text, its first line in plainer words and after the program's name.
-fn reworded(alloc: Global, text: String) -> Result<String, AllocError> {
-    let said = text.as_str();
-    let (first, rest) = said.split_once('\n').unwrap_or((said, ""));
-    let (before, words, after) = plain(first.strip_prefix("error: ").unwrap_or(first));
-    format!(in alloc; "age_tool: {before}{words}{after}\n{rest}")
-}
-
-/// What the parser says in its first line, in plainer words: what comes before its own, these, and
-/// what comes after them.
-fn plain(said: &str) -> (&'static str, &str, &'static str) {
-    if let Some(word) = said.strip_prefix("unrecognized subcommand ") {
-        return ("no such command: ", word, "");
-    }
-    if let Some((value, _)) = said.rsplit_once("': ")
-        && said.starts_with("invalid value '")
-    {
-        return ("", value, "': not a number from 1 to 22");
-    }
-    if said == "the following required arguments were not provided:" {
-        return ("these arguments are missing:", "", "");
-    }
-    ("", said.strip_suffix(" found").unwrap_or(said), "")
-}
-
-/// Why the parser refuses words. It is given their codes, since it copies words into its text. (It
-/// refuses the same words by their codes too.)
-fn coded_text(alloc: Global, words: &[&str]) -> Result<String, AllocError> {
-    let mut coded = Vec::new(alloc);
-    for word in words.iter() {
-        coded.push(codes_of(alloc, word)?)?;
-    }
-    let mut shown = Vec::new(alloc);
-    for word in coded.iter() {
-        shown.push(word.as_str())?;
-    }
-    match read_request(alloc, shown.as_slice()) {
-        Err(error) if error.kind() != ErrorKind::OutOfMemory => error.to_string(alloc),
-        Err(_) => Err(AllocError),
-        Ok(_) => String::from_str(alloc, "error: bad command line\n"),
-    }
-}
-
-/// A word in which whatever would begin a line or control a terminal is shown by its code.
-fn codes_of(alloc: Global, word: &str) -> Result<String, AllocError> {
-    let mut shown = String::new(alloc);
-    for c in word.chars() {
-        if matches!(c, '\'' | '"') {
-            shown.push(c)?;
-        } else {
-            for code in c.escape_debug() {
-                shown.push(code)?;
-            }
+/// Names the arguments that a command needs and doesn't get.
+fn push_missing(
+    text: &mut String,
+    command: &'static Subcommand,
+    found: &[Word<'_>],
+) -> Result<(), AllocError> {
+    text.push_str("these arguments are missing:")?;
+    for argument in command.arguments {
+        let is_required = matches!(argument.given, Given::File | Given::Operand);
+        if is_required && !gives(found, argument.id) {
+            write!(text, "\n  {}", Form(argument))?;
         }
     }
-    Ok(shown)
+    match missing_choice(command.name, found) {
+        Some(choice) => write!(text, "\n  {choice}"),
+        None => Ok(()),
+    }
 }
 
-/// The text with a hint instead of the parser's tip, if it is about an option or a command that isn't
-/// ours; and with what opens a file among the arguments that are missing.
-fn with_hint(alloc: Global, words: &[&str], text: String) -> Result<String, AllocError> {
-    let (Some((first, rest)), Some((_, usage))) = (
-        text.as_str().split_once("\n\n"),
-        text.as_str().split_once("\nUsage: "),
-    ) else {
-        return Ok(text);
+/// The options of which a command needs one, if none is given. The parser doesn't know of them.
+fn missing_choice(command: &str, found: &[Word<'_>]) -> Option<&'static str> {
+    let (ids, choice): (&[&str], &str) = match command {
+        "decrypt" | "resume" => (
+            &["pass", "file-key", "shared"],
+            "one of --pass <FILE>, --file-key <HEX> and --shared <FILE>",
+        ),
+        "drill" => (&["clear", "pass"], "one of --clear and --pass <FILE>"),
+        _ => return None,
     };
-    match hint_after(first, rest, usage, words) {
-        Some((before, hint, after)) => {
-            format!(in alloc; "{first}{before}{hint}{after}\n\nUsage: {usage}")
-        }
-        None => Ok(text),
-    }
-}
-
-/// What follows the parser's first lines in place of its tip: a hint, with the words around it. (The
-/// parser proposes a name that begins with a dash.)
-fn hint_after<'t>(
-    first: &'t str,
-    rest: &str,
-    usage: &str,
-    words: &[&str],
-) -> Option<(&'static str, &'t str, &'static str)> {
-    if first.starts_with("error: the following required arguments were not provided:")
-        && let Some(missing) = missing_choice(usage, words)
-    {
-        return Some(("\n  ", missing, ""));
-    }
-    if let Some(word) = unrecognized(first) {
-        let hint = command_hint_of(word, rest.starts_with("  tip: "))?;
-        return Some(("\n\n  tip: ", hint, ""));
-    }
-    let word = unexpected(first)?;
-    // (Of a name that begins with one dash the parser shows no more than a letter.)
-    let is_whole = !word.starts_with('-') || gives(words, word);
-    if is_whole && let Some(hint) = hint_of(word) {
-        return Some(("\n\n  tip: ", hint, ""));
-    }
-    let is_name = rest.starts_with("  tip: to pass '");
-    is_name.then_some((
-        "\n\n  tip: ",
-        "write ./ before a name that begins with a dash",
-        "",
-    ))
-}
-
-/// The options of which one is missing, where a command needs one of several: the parser doesn't
-/// know.
-fn missing_choice(usage: &str, words: &[&str]) -> Option<&'static str> {
-    let is_given = |option| gives(words, option);
-    if usage.contains("<--pass <FILE>|--file-key <HEX>|--shared <FILE>>") {
-        let has_key = is_given("--pass") || is_given("--file-key") || is_given("--shared");
-        (!has_key).then_some("one of --pass <FILE>, --file-key <HEX> and --shared <FILE>")
-    } else if usage.contains("<--clear|--pass <FILE>>") {
-        let has_way = is_given("--clear") || is_given("--pass");
-        (!has_way).then_some("one of --clear and --pass <FILE>")
-    } else {
+    if ids.iter().any(|id| gives(found, *id)) {
         None
+    } else {
+        Some(choice)
     }
 }
 
-/// Whether words have an option, with its value after it or in the same word.
-fn gives(words: &[&str], option: &str) -> bool {
+/// Finds a word that begins with `-h`, such as the name `-holiday.jpg`. The parser would show the help,
+/// with status 0, and a script would take the file for done.
+pub fn find_word_like_help<'w>(words: &[&'w str]) -> Option<&'w str> {
     for word in words {
         if *word == "--" {
-            return false;
+            return None;
         }
-        if let Some(rest) = word.strip_prefix(option)
-            && (rest.is_empty() || rest.starts_with('='))
-        {
-            return true;
+        if word.len() > 2 && word.starts_with("-h") {
+            return Some(*word);
         }
     }
-    false
+    None
 }
 
-/// The word that the parser's text says is no command.
-fn unrecognized(first: &str) -> Option<&str> {
-    first
-        .strip_prefix("error: unrecognized subcommand '")?
-        .strip_suffix("'")
-}
-
-/// What to give instead of a command that other programs have; or else which commands there are, if
-/// the parser gives no tip.
-fn command_hint_of(word: &str, has_tip: bool) -> Option<&'static str> {
-    let hint = hint_among(COMMAND_HINTS, word);
-    if hint.is_none() && !has_tip {
-        return Some("the commands are encrypt, decrypt, resume, inspect, drill and help");
+/// Says on standard error that such a word is refused, and what to write in place of it.
+pub fn explain_word_like_help(rt: &HostRuntime, word: &str) {
+    let shown = Escaped(word.as_bytes());
+    let name = Quoted(word);
+    if fs::exists(rt, word).unwrap_or(false) {
+        let _ = eprintln!(rt;
+            "age_tool: unexpected argument '{shown}'{TIP}write --help for help, \
+             and {name} for the file of that name"
+        );
+    } else {
+        let _ = eprintln!(rt; "age_tool: unexpected argument '{shown}'{TIP}write --help for help");
     }
-    hint
-}
-
-/// The word that the parser's text says is unexpected.
-fn unexpected(text: &str) -> Option<&str> {
-    let (word, _) = text
-        .strip_prefix("error: unexpected argument '")?
-        .split_once("' found")?;
-    Some(word)
-}
-
-/// What to give instead of an option of `age` or `gpg`.
-fn hint_of(word: &str) -> Option<&'static str> {
-    if !word.starts_with('-') {
-        return Some("a command takes one IN and one OUT at a time");
-    }
-    hint_among(OPTION_HINTS, word)
 }

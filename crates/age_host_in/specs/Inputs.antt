@@ -35,4 +35,5 @@ as_source source = record {
   };
   failed = source.failed;
   failing = source.failing;
+  label = source.name;
 }

@@ -2,15 +2,15 @@
 
 ghost use Rattle.std.specs.Prelude.{◌≡◌, ◌≤◌, [], ◌∷◌, ◌++◌, IfOk, OnErr, false};
 ghost use Rattle.std.specs.Io.{ReadsAtMost};
-ghost use Rattle.age_io.specs.{IsNamed, ReadConsumes};
+ghost use Rattle.age_io.specs.{ReadConsumes};
 ghost use Rattle.age_fileset.specs.{Gave, reading_of};
 ghost use Rattle.age_host_in.specs.{IsFresh, as_source};
 ghost use Rattle.age_host_in.specs.inner.{supply_of};
 
-use age_fileset::{Doing, Log, Missing};
+use age_fileset::{Action, Doing, ErrorContext, Failure, Log, Missing, ReadSummary};
 use age_io::{Failed, Failures, Source, Tape};
 use age_machine::{TRIES, above_streams, is_to_retry, too_many_tries};
-use age_messages::{Action, RunFailures};
+use age_messages::Typing;
 use age_names::{FileId, Led, Resolved, StandardStream, is_on_disk, is_random, tape_of};
 use std::alloc::Global;
 use std::fs::{File, Metadata};
@@ -140,7 +140,7 @@ fn length_of(metadata: &Metadata) -> Option<u64> {
 /// the end; how many pulls have failed, and whether the last one did; and which file it is. What it
 /// gave and why it failed are kept for what people are told.
 #[derive(Drop)]
-pub struct HostIn<'r, 'w> {
+pub struct HostIn<'w> {
     rt: HostRuntime,
     name: &'w str,
     handle: Handle,
@@ -151,10 +151,14 @@ pub struct HostIn<'r, 'w> {
     is_at_end: bool,
     // Which file it is, if that is known.
     id: Option<FileId>,
-    told: &'r RunFailures<'w>,
+    // What it gave, and why a pull has failed, for what people are told.
+    summary: ReadSummary<'w>,
+    error: Option<io::Error>,
+    typing: Option<Typing>,
+    is_cut_off: bool,
 }
 
-impl<'r, 'w> Model for HostIn<'r, 'w> {
+impl<'w> Model for HostIn<'w> {
     ghost use Rattle.age_host_in.specs.{InputView};
 
     ghost Value = { InputView };
@@ -170,25 +174,24 @@ impl<'r, 'w> Model for HostIn<'r, 'w> {
     } };
 }
 
-impl<'r, 'w> HostIn<'r, 'w> {
+impl<'w> HostIn<'w> {
     /// Opens what a name stands for. Standard output, standard error and folders can't be read.
     pub fn open(
         alloc: Global,
         rt: &HostRuntime,
         name: &'w str,
         missing: Missing,
-        told: &'r RunFailures<'w>,
-    ) -> io::Result<HostIn<'r, 'w>>
+    ) -> io::Result<HostIn<'w>>
         ensures { IfOk result (IsFresh name.now) }
     {
         let Led { name, to, .. } = Led::of(alloc, rt, name)?;
         let opened = match to {
-            Resolved::Stream(stream) => HostIn::open_stream(rt, name, stream, told),
-            Resolved::Path(_) => HostIn::open_path(rt, name, told),
+            Resolved::Stream(stream) => HostIn::open_stream(rt, name, stream),
+            Resolved::Path(_) => HostIn::open_path(rt, name),
         };
         match opened {
             Err(error) if missing == Missing::Empty && error.kind() == io::ErrorKind::NotFound => {
-                Ok(HostIn::new(rt, name, Handle::Nothing, Some(0), None, told))
+                Ok(HostIn::new(rt, name, Handle::Nothing, Some(0), None))
             }
             opened => opened,
         }
@@ -200,8 +203,7 @@ impl<'r, 'w> HostIn<'r, 'w> {
         handle: Handle,
         left: Option<u64>,
         id: Option<FileId>,
-        told: &'r RunFailures<'w>,
-    ) -> HostIn<'r, 'w>
+    ) -> HostIn<'w>
         ensures fresh { IsFresh name.now result }
         ensures same { result.id ≡ id }
     {
@@ -214,7 +216,10 @@ impl<'r, 'w> HostIn<'r, 'w> {
             given: Tape::new(),
             is_at_end: false,
             id,
-            told,
+            summary: ReadSummary::none(name),
+            error: None,
+            typing: None,
+            is_cut_off: false,
         }
     }
 
@@ -234,13 +239,44 @@ impl<'r, 'w> HostIn<'r, 'w> {
 
     /// Notes that its reading is over.
     pub fn log_to(&self, log: &mut Log)
-        ensures { log.new ≡ record log.old {
-          outcomes = log.old.outcomes
-              ++ Gave (reading_of self.now.name (as_source self.now)) ∷ [];
-        } }
+        ensures { log.new ≡ log.old ++ Gave (reading_of (as_source self.now)) ∷ [] }
     {
-        let (name, is_failing) = (tape_of(self.name.as_bytes()), self.failures.last);
-        log.note(Doing::Gave(&name, &self.given, self.is_at_end, is_failing));
+        let name = tape_of(self.name.as_bytes());
+        log.note(Doing::Gave(&name, &self.given, self.is_at_end));
+    }
+
+    /// What is to be told of it: how much it gave, or why a pull has failed.
+    pub fn context(&self) -> ErrorContext<'w> {
+        match self.error {
+            Some(error) => ErrorContext::Failed(Failure {
+                action: Action::Read,
+                name: self.name,
+                error,
+            }),
+            None => ErrorContext::Read(self.summary),
+        }
+    }
+
+    /// Its name.
+    pub fn name(&self) -> &'w str {
+        self.name
+    }
+
+    /// Whether it became shorter while it was read.
+    pub fn is_cut_off(&self) -> bool {
+        self.is_cut_off
+    }
+
+    /// Looks from now on whether what it gives can be typed, as a passphrase.
+    pub fn watch_typing(&mut self)
+        ensures { self.new ≡ self.old }
+    {
+        self.typing = Some(Typing::new());
+    }
+
+    /// Whether it can, if that was looked at.
+    pub fn typing(&self) -> Option<Typing> {
+        self.typing
     }
 
     /// Keeps what a pull gave: how much is left, and that the file was truncated, if it is shorter
@@ -248,7 +284,10 @@ impl<'r, 'w> HostIn<'r, 'w> {
     fn note_pulled(&mut self, pulled: &[u8])
         ensures { self.new ≡ record self.old { size = self.new.size } }
     {
-        self.told.count(self.name, pulled);
+        self.summary.count(pulled);
+        if let Some(typing) = self.typing {
+            self.typing = Some(typing.after(pulled));
+        }
         let Some(left) = &mut self.left else {
             return;
         };
@@ -258,7 +297,7 @@ impl<'r, 'w> HostIn<'r, 'w> {
             && *left > 0
             && is_at_end(file)
         {
-            self.told.cut_off.set(Some(self.name));
+            self.is_cut_off = true;
         }
     }
 
@@ -266,8 +305,7 @@ impl<'r, 'w> HostIn<'r, 'w> {
         rt: &HostRuntime,
         name: &'w str,
         stream: StandardStream,
-        told: &'r RunFailures<'w>,
-    ) -> io::Result<HostIn<'r, 'w>>
+    ) -> io::Result<HostIn<'w>>
         ensures { IfOk result (IsFresh name.now) }
     {
         let StandardStream::Input = stream else {
@@ -275,21 +313,17 @@ impl<'r, 'w> HostIn<'r, 'w> {
         };
         stream.check(rt)?;
         let id = FileId::of_open_stream(rt, stream)?;
-        Ok(HostIn::new(rt, name, Handle::Input(rt.stdin()), None, id, told))
+        Ok(HostIn::new(rt, name, Handle::Input(rt.stdin()), None, id))
     }
 
-    fn open_path(
-        rt: &HostRuntime,
-        name: &'w str,
-        told: &'r RunFailures<'w>,
-    ) -> io::Result<HostIn<'r, 'w>>
+    fn open_path(rt: &HostRuntime, name: &'w str) -> io::Result<HostIn<'w>>
         ensures { IfOk result (IsFresh name.now) }
     {
         let file = above_streams(File::open(rt, name)?)?;
         let metadata = file.metadata()?;
         check_found(name, &metadata)?;
         let (left, id) = (length_of(&metadata), FileId::of(&metadata));
-        Ok(HostIn::new(rt, name, Handle::File(file), left, id, told))
+        Ok(HostIn::new(rt, name, Handle::File(file), left, id))
     }
 
     fn read(&mut self, into: &mut [u8]) -> io::Result<usize>
@@ -305,10 +339,8 @@ impl<'r, 'w> HostIn<'r, 'w> {
     }
 }
 
-impl<'r, 'w> Source for HostIn<'r, 'w> {
+impl<'w> Source for HostIn<'w> {
     ghost view = { as_source };
-
-    ghost began = { λ s. IsNamed s.name };
 
     fn pull(&mut self, into: &mut [u8]) -> Result<usize, Failed> {
         let pulled = match self.read(into) {
@@ -317,7 +349,7 @@ impl<'r, 'w> Source for HostIn<'r, 'w> {
                 Ok(n)
             }
             Err(error) => {
-                self.told.note(Action::Read, self.name, error);
+                self.error = Some(error);
                 Err(Failed)
             }
         };

@@ -1,38 +1,63 @@
-//! The standard streams, whose failures are kept.
+//! A standard stream, and what is to be said of it.
 
-use age_messages::{Action, RunFailures};
+use age_fileset::{Action, ErrorContext, Failure, ReadSummary};
 use std::io::{self, Read, Write};
 
-/// A standard stream, whose failures are kept.
+/// A standard stream, which a run has for itself, and how much it gave, or why it failed.
 #[derive(Drop)]
-pub struct Watched<'r, 'w, T> {
+pub struct Watched<T> {
     stream: T,
-    failures: &'r RunFailures<'w>,
+    context: ErrorContext<'static>,
 }
 
-impl<'r, 'w, T> Watched<'r, 'w, T> {
-    /// A stream whose failures are kept.
-    pub fn new(stream: T, failures: &'r RunFailures<'w>) -> Watched<'r, 'w, T> {
-        Watched { stream, failures }
+impl<T> Watched<T> {
+    /// Watches a stream.
+    pub fn new(stream: T) -> Watched<T> {
+        Watched {
+            stream,
+            context: ErrorContext::Nothing,
+        }
+    }
+
+    /// Returns how much it gave, or why it failed.
+    pub fn context(&self) -> ErrorContext<'static> {
+        self.context
+    }
+
+    fn count(&mut self, read: &[u8]) {
+        let mut summary = match self.context {
+            ErrorContext::Read(summary) => summary,
+            _ => ReadSummary::none(""),
+        };
+        summary.count(read);
+        self.context = ErrorContext::Read(summary);
+    }
+
+    fn fail(&mut self, action: Action, name: &'static str, error: io::Error) {
+        self.context = ErrorContext::Failed(Failure {
+            action,
+            name,
+            error,
+        });
     }
 }
 
-impl<'r, 'w, R: Read> Read for Watched<'r, 'w, R> {
+impl<R: Read> Read for Watched<R> {
     fn read(&mut self, into: &mut [u8]) -> io::Result<usize> {
         let read = self.stream.read(into);
         match read {
-            Ok(n) => self.failures.count("", &into[..n]),
-            Err(error) => self.failures.note(Action::Read, "standard input", error),
+            Ok(n) => self.count(&into[..n]),
+            Err(error) => self.fail(Action::Read, "standard input", error),
         }
         read
     }
 }
 
-impl<'r, 'w, W: Write> Write for Watched<'r, 'w, W> {
+impl<W: Write> Write for Watched<W> {
     fn write(&mut self, from: &[u8]) -> io::Result<usize> {
         let written = self.stream.write(from);
         if let Err(error) = written {
-            self.failures.note(Action::Write, "standard output", error);
+            self.fail(Action::Write, "standard output", error);
         }
         written
     }

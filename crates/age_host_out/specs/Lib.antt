@@ -1,5 +1,5 @@
 pub mod Outputs
 pub mod Targets
 pub mod inner
-pub use Outputs.{HasNode, IsNew, OutputView, Stays, as_sink}
+pub use Outputs.{HasNode, OutputView, Stays, as_sink}
 unfoldable pub use Targets.*

@@ -4,12 +4,12 @@ ghost use Rattle.std.specs.Prelude.{◌≡◌, Some};
 ghost use Rattle.age_names.specs.{number_of};
 ghost use Rattle.age_host_out.specs.inner.Devices.{device_of};
 
-use age_machine::{HostFile, HostMachine};
+use age_machine::{HostFile, Machine};
 
 /// A device or a pipe, and the machine that opened it.
 #[derive(Drop)]
 pub(crate) struct Device {
     pub(crate) file: HostFile,
-    pub(crate) machine: HostMachine,
+    pub(crate) machine: Machine,
     ghost opened: { device_of machine.calls ≡ Some (number_of file.node) },
 }

@@ -8,8 +8,8 @@ ghost use Rattle.age_host_out.specs.inner.Ending.{WasWritten, tally_sink};
 
 use crate::target::{OutName, Target};
 use age_io::{Failures, Tape};
-use age_machine::{HostMachine, Out};
-use age_names::{FileId, Link, Node, tape_of};
+use age_machine::{Machine, Out};
+use age_names::{Link, Node, tape_of};
 use age_options::Durability;
 use std::io;
 use std::marker::Model;
@@ -38,7 +38,7 @@ impl Model for Which {
 
 impl Which {
     /// The file of an output.
-    fn of(out: &Out<HostMachine>) -> Which
+    fn of(out: &Out) -> Which
         ensures { result ≡ out.now.file }
     {
         let (path, file, is_made) = out.which();
@@ -59,7 +59,7 @@ pub struct HostEnded {
     which: Option<Which>,
     // If its name is a link.
     link: Option<Link>,
-    machine: HostMachine,
+    machine: Machine,
 }
 
 impl Model for HostEnded {
@@ -86,14 +86,6 @@ impl HostEnded {
         &self.took
     }
 
-    /// Which regular file it is, if it is one.
-    pub fn id(&self) -> Option<FileId> {
-        match &self.which {
-            Some(which) => Some(FileId::of_node(which.node)),
-            None => None,
-        }
-    }
-
     /// Whether its file system has no way to wait until it has reached the disk.
     pub fn is_unwaited(&self) -> bool {
         self.machine.is_unwaited()
@@ -110,7 +102,7 @@ pub(crate) struct OutTally {
 
 /// Ends a regular file, and closes it.
 pub(crate) fn end_file(
-    out: Out<HostMachine>,
+    out: Out,
     tally: OutTally,
     durability: Durability,
 ) -> (HostEnded, io::Result<()>)
@@ -130,11 +122,7 @@ pub(crate) fn end_file(
 }
 
 /// Ends a regular file unchanged, if nothing was written.
-pub(crate) fn discard_file(
-    out: Out<HostMachine>,
-    tally: OutTally,
-    durability: Durability,
-) -> HostEnded
+pub(crate) fn discard_file(out: Out, tally: OutTally, durability: Durability) -> HostEnded
     requires { WasWritten out tally }
     ensures { Discards (Some out.file) (tally_sink tally) result }
 {
@@ -151,7 +139,7 @@ pub(crate) fn discard_file(
 
 /// Ends a regular file to which each put failed, by closing it unchanged.
 pub(crate) fn close_untouched(
-    out: Out<HostMachine>,
+    out: Out,
     tally: OutTally,
     durability: Durability,
 ) -> (HostEnded, io::Result<()>)
@@ -179,7 +167,7 @@ pub(crate) fn unseen(rt: &HostRuntime, target: &Target, took: Tape, is_closed: b
 {
     let machine = match target {
         Target::Device(device) => device.machine.again(),
-        _ => HostMachine::new(rt),
+        _ => Machine::new(rt),
     };
     HostEnded {
         took,

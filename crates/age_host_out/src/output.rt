@@ -21,11 +21,10 @@ use crate::target::{OutName, Target, claimed, make_first};
 use age_calls::{Kind, Opening};
 use age_io::{Failed, Failures, Sink, Tape};
 use age_machine::calls::close;
-use age_machine::{HostFile, HostMachine, Machine, Out};
+use age_machine::{HostFile, Machine, Out};
 use age_names::{FileId, Led, Resolved, StandardStream, check_place, found_at, is_for_faults};
 use age_options::Durability;
 use std::alloc::Global;
-use std::fs::File;
 use std::io::{self, IsTerminal};
 use std::marker::Model;
 use std::rt::HostRuntime;
@@ -349,7 +348,7 @@ impl HostOut {
         ensures named { IfOk result (λ o. o.name ≡ string_bytes name.text) }
     {
         let own = String::from_str(alloc, path)?;
-        let mut machine = HostMachine::new(rt);
+        let mut machine = Machine::new(rt);
         match machine.open(name.text.as_str(), own.as_str())? {
             Some(opened) => HostOut::of_opened(rt, machine, opened, name, own),
             None => HostOut::unmade_at(rt, name, own),
@@ -370,7 +369,7 @@ impl HostOut {
     /// Takes what was opened for writing. What is written to a regular file replaces what it holds.
     fn of_opened(
         rt: &HostRuntime,
-        machine: HostMachine,
+        machine: Machine,
         opened: (HostFile, Kind),
         name: OutName,
         path: String,
@@ -395,18 +394,6 @@ impl HostOut {
         let id = Some(FileId::of_node(file.node()));
         let out = Out::new(machine, file, path, opening);
         Ok(HostOut::new(rt, name, Target::File(out), id))
-    }
-
-    /// Takes a file that is open for writing, to which a path leads, unless it is a device. Its
-    /// name isn't waited for.
-    pub fn over(alloc: Global, rt: &HostRuntime, file: File, path: &str) -> io::Result<HostOut>
-        ensures { IfOk result IsNew }
-    {
-        let name = OutName::own(String::from_str(alloc, path)?);
-        let own = String::from_str(alloc, path)?;
-        let mut machine = HostMachine::new(rt);
-        let opened = machine.adopt(file, own.as_str())?;
-        HostOut::of_opened(rt, machine, opened, name, own)
     }
 
     /// A stream of this name that can be written, from where it stands.

@@ -13,7 +13,7 @@ use crate::sync::{Witness, sync_file};
 use age_calls::Opening;
 use age_io::Tape;
 use age_machine::calls::close;
-use age_machine::{HostMachine, Machine, Out, TRIES, is_to_retry, too_many_tries};
+use age_machine::{Machine, Out, TRIES, is_to_retry, too_many_tries};
 use age_names::{FileId, Link, StandardStream, is_handed_on, led_to};
 use std::io::{self, Write};
 use std::os::fd::AsFd;
@@ -44,7 +44,7 @@ impl OutName {
 #[derive(Drop)]
 pub(crate) enum Target {
     /// A regular file that was opened or made.
-    File(Out<HostMachine>),
+    File(Out),
     /// A file that is to be made at this path, once something is to be written.
     Unmade(String),
     /// A pipe or a device that was opened.
@@ -192,12 +192,7 @@ impl Target {
 }
 
 /// Takes a regular file for this run alone, if its name leads to it.
-fn take_alone(
-    rt: &HostRuntime,
-    out: &mut Out<HostMachine>,
-    id: Option<FileId>,
-    name: &str,
-) -> io::Result<()>
+fn take_alone(rt: &HostRuntime, out: &mut Out, id: Option<FileId>, name: &str) -> io::Result<()>
     ensures same { (out.new.file ≡ out.old.file) × (out.new.is_lost ≡ out.old.is_lost) }
     ensures text { text_of out.new.calls ≡ text_of out.old.calls }
     ensures sound { OnOk result (out.new.failed ≡ out.old.failed) }
@@ -254,7 +249,7 @@ pub(crate) fn make_first(
     let Target::Unmade(path) = target else {
         return Ok(());
     };
-    let mut machine = HostMachine::new(rt);
+    let mut machine = Machine::new(rt);
     let file = machine.make_output(path.as_str())?;
     let own = mem::replace(path, String::new(rt.alloc()));
     *id = Some(FileId::of_node(file.node()));

@@ -1,7 +1,6 @@
 //! Reads a file to its end, or only its header, and reports what it holds.
 
 ghost use Rattle.std.specs.Prelude.{◌≡◌, ◌^◌, ◌<◌, ◌≤◌, ℕ, List, length, Some, IfOk, IfErr, OnOk, map};
-ghost use Rattle.age_io.specs.{Origin};
 ghost use Rattle.age_intake.specs.{HeadFails, InHeader, NoHeadFault, view_of_reader, SameReader};
 ghost use Rattle.age_inspection.specs.Reports.{stanza_report, IsPlainOf, IsReport, Inspects};
 ghost use Rattle.age_inspection.specs.Reports.{InspectsFront};
@@ -26,7 +25,7 @@ fn count_rest<S: Source>(reader: &mut Reader<'_, S>) -> Result<u128, FileFault>
         (view_of_reader S.view reader.new)) }
     ensures fails { IfErr result (RestFails (view_of_reader S.view reader.old)
         (view_of_reader S.view reader.new)) }
-    ensures same { SameReader S.began reader.old reader.new }
+    ensures same { SameReader S.view reader.old reader.new }
 {
     let mut count = reader.intake.bytes().len() as u128;
     reader.intake.use_all();
@@ -89,7 +88,7 @@ pub fn inspect<S: Source>(alloc: Global, source: &mut S) -> Result<Report, FileF
     ensures ok { IfOk result (Inspects (S.view source.old).supply
         (S.view source.new).supply) }
     ensures unfailed { OnOk result ((S.view source.new).failed ≡ (S.view source.old).failed) }
-    ensures began { (from : Origin) → S.began source.old from → S.began source.new from }
+    ensures named { (S.view source.new).label ≡ (S.view source.old).label }
     // When each fault comes.
     ensures fails { IfErr result (HeadFails NoHeadFault (S.view source.old) (S.view source.new)) }
 {
@@ -125,7 +124,7 @@ pub fn inspect_sized<S: Source>(
     ensures whole { (bytes : List ℕ) → (S.view source.old).supply.left ≡ Some bytes
         → len ≡ length bytes → IfOk result (IsReport bytes) }
     ensures unfailed { OnOk result ((S.view source.new).failed ≡ (S.view source.old).failed) }
-    ensures began { (from : Origin) → S.began source.old from → S.began source.new from }
+    ensures named { (S.view source.new).label ≡ (S.view source.old).label }
     // When each fault comes.
     ensures fails { IfErr result (HeadFails InHeader (S.view source.old) (S.view source.new)) }
 {

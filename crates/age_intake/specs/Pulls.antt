@@ -2,7 +2,7 @@
 use Rattle.std.specs.Prelude.{◌≡◌, ℕ, ◌+◌, ◌*◌, ◌^◌, ◌<◌, ◌≤◌, List, [], ◌++◌, length, Result, Ok}
 use Rattle.std.specs.Prelude.{Err, Bool, true, false}
 use Rattle.age_io.specs.Supply.{Supply}
-use Rattle.age_io.specs.{Consumes, IsAtEnd, Origin, SourceView, HasFailed}
+use Rattle.age_io.specs.{Consumes, IsAtEnd, SourceView, HasFailed}
 use Rattle.sha2.specs.Hashers.{Holds256}
 use Rattle.age_stanza.specs.{HeadText}
 use Rattle.age_fault.specs.declared.fault.FileFault.{FileFault}
@@ -25,11 +25,11 @@ reader_view source unread = record { source = source; unread = unread }
 abbrev pub view_of_reader : {S : Type 0} → (S → SourceView) → Reader S → ReaderView
 view_of_reader source r = reader_view (source r.source.now) r.intake.now
 
--- a reader still has the same source, which still began as it did, and the same intake
-abbrev pub SameReader : {S : Type 0} → (S → Origin → Type 0) → Reader S → Reader S → Type 0
-SameReader began old new = (new.source.ghost_name ≡ old.source.ghost_name)
+-- a reader still has the same source, of the same name, and the same intake
+abbrev pub SameReader : {S : Type 0} → (S → SourceView) → Reader S → Reader S → Type 0
+SameReader source old new = (new.source.ghost_name ≡ old.source.ghost_name)
     × (new.intake.ghost_name ≡ old.intake.ghost_name)
-    × ((from : Origin) → began old.source.now from → began new.source.now from)
+    × ((source new.source.now).label ≡ (source old.source.now).label)
 
 -- ---- What pulls into the intake did.
 

@@ -84,7 +84,7 @@ pub fn read_head<S: Source>(alloc: Global, reader: &mut Reader<'_, S>) -> Result
         (view_of_reader S.view reader.new)) }
     ensures fails { IfErr result (HeadFails InHeader (S.view reader.old.source.now)
         (S.view reader.new.source.now)) }
-    ensures same { SameReader S.began reader.old reader.new }
+    ensures same { SameReader S.view reader.old reader.new }
 {
     let mut front = HeadReader::new(alloc);
     'pieces: while reader.intake.refill(reader.source)? {

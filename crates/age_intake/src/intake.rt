@@ -3,7 +3,6 @@
 ghost use Rattle.std.specs.Prelude.{◌≡◌, ◌≤◌, ℕ, List, [], length, drop, IfOk};
 ghost use Rattle.age_intake.specs.Pulls.{Passes, Refills, reader_view};
 ghost use Rattle.age_intake.specs.Headers.{pull_room};
-ghost use Rattle.age_io.specs.{Origin};
 
 use age_chunk::CHUNK_LEN;
 use age_fault::FileFault;
@@ -101,7 +100,7 @@ impl Intake {
             × Passes (reader_view (S.view source.old) self.old)
             (reader_view (S.view source.new) self.new) bytes }
         ensures none { self.new.bytes ≡ [] }
-        ensures began { (from : Origin) → S.began source.old from → S.began source.new from }
+        ensures named { (S.view source.new).label ≡ (S.view source.old).label }
     {
         let pulls_left = MOST_PULLS - self.pulls;
         let n = source.skip(most.min(pulls_left.saturating_mul(PULL_ROOM as u64)));
@@ -114,7 +113,7 @@ impl Intake {
         requires { self.old.bytes ≡ [] }
         ensures refills { Refills (reader_view (S.view source.old) self.old)
             (reader_view (S.view source.new) self.new) result }
-        ensures began { (from : Origin) → S.began source.old from → S.began source.new from }
+        ensures named { (S.view source.new).label ≡ (S.view source.old).label }
     {
         if self.pulls == MOST_PULLS {
             return Err(FileFault::ReadNeverEnds);

@@ -1,21 +1,21 @@
--- What contracts see of sources, sinks and meters, and what those over memory do.
-use base.Fml.{GName}
-use Rattle.std.specs.Prelude.{ℕ, List, Option, Bool, ◌+◌, ◌-◌, ◌^◌, min, option_map, Result, Ok, Err, ◌≡◌, []}
-use Rattle.std.specs.Prelude.{◌∷◌, ◌++◌, Some, None, ◌≢◌, ◌⊎◌, length, take, drop, true, false, map, IfSome}
+-- What contracts see of sources and sinks, and what those over memory do.
+use Rattle.std.specs.Prelude.{ℕ, List, Option, Bool, ◌+◌, ◌-◌, ◌^◌, min, Result, Ok, Err, ◌≡◌, []}
+use Rattle.std.specs.Prelude.{◌++◌, Some, ◌≢◌, ◌⊎◌, length, take, drop, true, false}
 use Rattle.std.specs.Prelude.{nat_eq, ◌<◌, MatchResult, OnErr}
-use Rattle.std.specs.List.{sum}
-use Rattle.age_io.specs.Supply.{Supply, Consumes}
+use Rattle.age_io.specs.Supply.{Supply}
 use Rattle.age_io.specs.Taken.{Taken, Appends}
 use Rattle.age_io.specs.declared.failed.Failed.{Failed}
 
 -- ---- What a contract sees of a source, and of a sink.
 
 -- the bytes that came and that are still to come, how many pulls have failed, and whether the last
--- one did; the count stays at the greatest value of its type
+-- one did; the count stays at the greatest value of its type; and the name that it goes by, which no
+-- call changes
 pub record SourceView : Type 0 where
   pub supply : Supply
   pub failed : ℕ
   pub failing : Bool
+  pub label : List ℕ
 
 -- the bytes that were taken, how many puts and flushes have failed, whether the last of them did,
 -- and whether what was taken was sent on, which is true if the sink doesn't say
@@ -54,84 +54,6 @@ pub record Writes {E : Type 0} (old new : SinkView) (written_old written_new : �
   pub answered : MatchResult result (λ _. (unwritten ≡ []) × (new.failed ≡ old.failed))
       (λ _. HasFailed old.failed new.failed new.failing)
   pub stopped : OnErr result (0 < length unwritten)
-
--- ---- What a meter counts.
-
--- a count after this many bytes more; it stays at the greatest value of its type
-abbrev pub with_more : ℕ → ℕ → ℕ
-with_more bytes count = min (count + bytes) (2 ^ 64 - 1)
-
--- a meter's count after this many bytes more, if it counts
-abbrev pub counted : ℕ → Option ℕ → Option ℕ
-counted bytes count = option_map (with_more bytes) count
-
--- a meter's count as a run begins, if it counts
-abbrev pub begun : Option ℕ → Option ℕ
-begun count = option_map (λ _. 0) count
-
--- a meter's count after a pull: the bytes that it gave are added, and nothing if it failed
-abbrev pub pulled : {E : Type 0} → Result ℕ E → Option ℕ → Option ℕ
-pulled (Ok bytes) count = counted bytes count
-pulled (Err failed) count = count
-
--- ---- What a meter was shown.
-
--- that a run begins, with its length, if that is known; that this many bytes more were read; that
--- the run is over
-pub data Shown : Type 0 where
-  Begins : Option ℕ → Shown
-  Advances : ℕ → Shown
-  Ends : Shown
-
--- what a meter was shown grows by this, if contracts see it
-abbrev pub Adds : Option (List Shown) → Option (List Shown) → Shown → Type 0
-Adds None now more = now ≡ None
-Adds (Some shown) None more = ⊥
-Adds (Some shown) (Some now) more = now ≡ shown ++ more ∷ []
-
--- what a meter was shown grows by what a pull gave, and by nothing if the pull failed
-abbrev pub AddsPull : {E : Type 0} → Option (List Shown) → Option (List Shown) → Result ℕ E
-    → Type 0
-AddsPull old new (Ok bytes) = Adds old new (Advances bytes)
-AddsPull old new (Err failed) = new ≡ old
-
--- a meter that is lent to a source: the name by which it is, the bytes that were to come then, if they
--- are shown, and what the meter was shown by then
-pub record Lending : Type 0 where
-  pub meter : GName
-  pub coming : Supply
-  pub shown : Option (List Shown)
-
--- how a source began: with the file of this name, or with a meter
-pub data Origin : Type 0 where
-  Named : List ℕ → Origin
-  Metered : Lending → Origin
-
--- a source of the file of this name began so
-abbrev pub IsNamed : List ℕ → Origin → Type 0
-IsNamed own (Named name) = name ≡ own
-IsNamed own (Metered from) = ⊥
-
--- since it was lent a meter a source gave some bytes, and the meter was shown as many and nothing else
-abbrev pub CountsSince : Lending → Supply → Option (List Shown) → Type 0
-CountsSince from left shown = IfSome from.shown (λ before.
-    (bytes : List ℕ) × (counts : List ℕ) × Consumes from.coming left bytes
-    × (length bytes ≡ sum counts) × (shown ≡ Some (before ++ map Advances counts)))
-
--- a source that hands on what another one gives began so: with the file of that, which `Began` says, or
--- with its own meter
-abbrev pub BeganWith : (Began : Origin → Type 0) → GName → Supply → Option (List Shown) → Origin → Type 0
-BeganWith Began lent left shown (Named name) = Began (Named name)
-BeganWith Began lent left shown (Metered from) = (lent ≡ from.meter) × CountsSince from left shown
-
--- a meter was shown a complete reading: that it begins, with its length if that is known; how many
--- bytes the source gave; and that it is over
-abbrev pub ShowsReading : Option ℕ → (coming left : Supply) → (old new : Option (List Shown))
-    → Type 0
-ShowsReading size coming left old new = IfSome old (λ before.
-    (bytes : List ℕ) × (counts : List ℕ) × Consumes coming left bytes
-    × (length bytes ≡ sum counts)
-    × (new ≡ Some (before ++ Begins size ∷ (map Advances counts ++ Ends ∷ []))))
 
 -- ---- Sources and sinks over memory: what each call returns and leaves, by their plan of failures.
 

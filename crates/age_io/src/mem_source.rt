@@ -98,6 +98,7 @@ impl Source for MemSource {
       supply = memory_supply s.given s.left;
       failed = s.failures;
       failing = s.failing;
+      label = [];
     } };
 
     /// Leaves the slice unchanged past the bytes that it gives, or entirely if it fails.

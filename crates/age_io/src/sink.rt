@@ -75,6 +75,13 @@ impl<W: Write> Writing<W> {
             tape: Tape::new(),
         }
     }
+
+    /// Returns the writer.
+    pub fn inner(&self) -> &W
+        ensures { result.now ≡ self.now.0 }
+    {
+        &self.inner
+    }
 }
 
 impl<W: Write> Sink for Writing<W> {

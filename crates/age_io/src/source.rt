@@ -1,7 +1,7 @@
 //! Where bytes come from.
 
 ghost use Rattle.std.specs.Prelude.{◌≡◌, ◌≤◌, ℕ, Bool, false, [], length, IfOk, MatchResult, is_err, List};
-ghost use Rattle.age_io.specs.{ReadConsumes, Skips, one_more, Origin, SourceView};
+ghost use Rattle.age_io.specs.{ReadConsumes, Skips, one_more, SourceView};
 ghost use Rattle.std.specs.Coded.{coded_ℕ, coded×, coded_bool, coded_list};
 
 use crate::failed::Failed;
@@ -14,12 +14,9 @@ use std::marker::Model;
 /// counts the pulls that fail. docs/LIBRARY.md has an example, `Counted`.
 pub trait Source {
     // The bytes that were given, and those that are still to come, if they are shown; how many pulls
-    // have failed, and whether the last one did.
+    // have failed, and whether the last one did; and the name that the source goes by, so that a set
+    // of files can say which file gave its bytes.
     ghost view: { Self → SourceView };
-
-    // It began as the `Origin` says: its file was opened under that name; or it has that meter, which
-    // was shown what it gave since. Every call that pulls keeps this.
-    ghost began: { Self → Origin → Type 0 } = { λ _ _. Unit {0} };
 
     /// Puts the next bytes at the beginning of a slice, and returns how many: none only at the end,
     /// or if the slice is empty. A pull that fails moves no bytes.
@@ -31,7 +28,7 @@ pub trait Source {
             (λ _. (view self.new).failed ≡ (view self.old).failed)
             (λ _. (view self.new).failed ≡ one_more (view self.old).failed) }
         ensures last { (view self.new).failing ≡ is_err result }
-        ensures began { (from : Origin) → began self.old from → began self.new from };
+        ensures named { (view self.new).label ≡ (view self.old).label };
 
     /// Passes over bytes that are to come, without reading them, and returns how many: at most as
     /// many as asked for, and none if the source can't, or is at its end.
@@ -40,7 +37,7 @@ pub trait Source {
         ensures skipped { Skips (view self.old).supply (view self.new).supply result }
         ensures counted { (view self.new).failed ≡ (view self.old).failed }
         ensures last { (view self.new).failing ≡ (view self.old).failing }
-        ensures began { (from : Origin) → began self.old from → began self.new from }
+        ensures named { (view self.new).label ≡ (view self.old).label }
     {
         0
     }
@@ -83,6 +80,13 @@ impl<R: Read> Reading<R> {
             is_at_end: false,
         }
     }
+
+    /// Returns the reader.
+    pub fn inner(&self) -> &R
+        ensures { result.now ≡ self.now.0 }
+    {
+        &self.inner
+    }
 }
 
 impl<R: Read> Source for Reading<R> {
@@ -94,6 +98,7 @@ impl<R: Read> Source for Reading<R> {
       };
       failed = s.1.0.0;
       failing = s.1.0.1;
+      label = [];
     } };
 
     fn pull(&mut self, into: &mut [u8]) -> Result<usize, Failed> {

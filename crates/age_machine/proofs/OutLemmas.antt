@@ -1,22 +1,28 @@
 -- A file that is written in place, call by call.
 use Rattle.std.proofs.lemmas.Grind.{common_steps}
-use Rattle.std.proofs.Common.{◌≡◌, ◌⊎◌, inl, inr, ⊎_elim, ℕ, ◌+◌, ◌<◌, List, [], ◌∷◌, ◌++◌, Bool, true, false, Option, None, length}
-use Rattle.std.proofs.Common.{refl, sym, ◌∙◌, ap, subst, arith, length-append, length-take}
+use Rattle.std.proofs.Common.{◌≡◌, ◌⊎◌, inl, inr, ⊎_elim, ℕ, ◌+◌, ◌<◌, List, [], ◌∷◌, ◌++◌, Bool, true, false}
+use Rattle.std.proofs.Common.{Option, None, length, refl, sym, ◌∙◌, ap, subst, arith, length-append}
+use Rattle.std.proofs.Common.{length-take}
 use Rattle.std.specs.Prelude.{Contains, Result, Ok, Err, OnOk, OnErr, is_ok}
 use Rattle.std.proofs.lemmas.Bool.{cases_Bool}
 use Rattle.std.proofs.lemmas.List.{append-nil, take_at, drop_all}
-use Rattle.age_calls.specs.{FileCall, Made, Opened, Wrote, Broke, Synced, Unwaited, ClosesLast, Locked, Unlockable, Removed, SyncedNames, UnwaitedNames, CountsFailure, Waited}
+use Rattle.age_calls.specs.{FileCall, Made, Opened, Wrote, Broke, Synced, Unwaited, ClosesLast, Locked}
+use Rattle.age_calls.specs.{Unlockable, Removed, SyncedNames, UnwaitedNames, CountsFailure, Waited, sized}
+use Rattle.age_calls.specs.{after_call, after_calls, IsAmong, MayLead, MayLeave, IsAnswered, AllAnswered}
+use Rattle.age_calls.specs.{SavesWhole, LeadsTo, OutFile, opening_of, is_making, is_waited, text_of, IsOn}
+use Rattle.age_calls.specs.{MayChange, IsClaimed, TouchesFile}
 use Rattle.age_calls.specs.declared.opening.Opening.{Opening}
 use Rattle.age_calls.specs.declared.opening.Opening.TheVariants as way
 use Rattle.age_calls.specs.declared.opening.Kind.{Kind}
 use Rattle.age_calls.specs.declared.opening.Kind.TheVariants.{Regular}
-use Rattle.age_calls.specs.{sized, after_call, after_calls, IsAmong, MayLead, MayLeave, IsAnswered, AllAnswered, SavesWhole, LeadsTo}
-use Rattle.age_calls.specs.{OutFile, opening_of, is_making, is_waited, text_of, IsOn, MayChange, IsClaimed, TouchesFile}
 use Rattle.age_machine.specs.{HasWritten, AlwaysHasWritten, IsJustOpened, IsOut}
 use Rattle.age_calls.specs.Disk.{Disk}
 use Rattle.age_machine.specs.inner.{IsHeld, IsAtPath, StaysHeld, RemovesAt}
-use Rattle.age_calls.proofs.DiskLemmas.{path_same, file_same, file_other, sized_within, contains_first, contains_later, contains_none, contains_cases, claimed_later, no_claim}
-use Rattle.age_machine.proofs.SaveLemmas.{led, leaves_fewer, leaves_new, leaves_synced, if_either, if_made, if_waited, saves_loudly, saves_none, saves_quietly}
+use Rattle.age_calls.proofs.DiskLemmas.{path_same, file_same, file_other, sized_within, contains_first}
+use Rattle.age_calls.proofs.DiskLemmas.{contains_later, contains_none, contains_cases, claimed_later}
+use Rattle.age_calls.proofs.DiskLemmas.{no_claim}
+use Rattle.age_machine.proofs.SaveLemmas.{led, leaves_fewer, leaves_new, leaves_synced, if_either, if_made}
+use Rattle.age_machine.proofs.SaveLemmas.{if_waited, saves_loudly, saves_none, saves_quietly}
 
 -- ---- A file that was only opened.
 

@@ -1,6 +1,6 @@
 -- What holds of a file that is written in place, between the calls of its methods.
-use Rattle.std.specs.Prelude.{◌≡◌, ◌⊎◌, ◌<◌, ℕ, List, [], ◌∷◌, length, take, Bool, true, false}
-use Rattle.std.specs.Prelude.{Some, Contains}
+use Rattle.std.specs.Prelude.{◌≡◌, ◌⊎◌, ◌<◌, ℕ, List, [], ◌∷◌, length, take, Bool, true, false, Some}
+use Rattle.std.specs.Prelude.{Contains}
 use Rattle.age_calls.specs.Calls.{FileCall, Locked, Unlockable, Waited}
 use Rattle.age_calls.specs.Disk.{Disk, after_calls}
 use Rattle.age_calls.specs.Saves.{AllAnswered}

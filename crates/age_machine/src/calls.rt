@@ -76,15 +76,10 @@ pub fn make_to_append(rt: &HostRuntime, path: &str, mode: u32) -> io::Result<Fil
         .open(rt, path)
 }
 
-/// Opens a file for writing, and reading if wanted. It is made if it has just been removed.
-pub fn open_or_make(rt: &HostRuntime, name: &str, is_read: bool, mode: u32) -> io::Result<File> {
+/// Opens a file for writing. It is made if it has just been removed.
+pub fn open_or_make(rt: &HostRuntime, name: &str, mode: u32) -> io::Result<File> {
     let mut options = File::options();
-    options
-        .read(is_read)
-        .write(true)
-        .create(true)
-        .mode(mode)
-        .open(rt, name)
+    options.write(true).create(true).mode(mode).open(rt, name)
 }
 
 /// Opens an existing file for writing, and reading if wanted, so that a pipe keeps nobody waiting.

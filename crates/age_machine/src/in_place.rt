@@ -1,21 +1,20 @@
 //! A regular file that is written in place.
 
-ghost use Rattle.std.specs.Prelude.{◌≡◌, ◌≢◌, ◌⊎◌, ◌≤◌, ◌<◌, ◌+◌, ◌^◌, ◌∷◌, ◌++◌, [], ℕ, List, length};
-ghost use Rattle.std.specs.Prelude.{take, string_bytes, true, false, is_some, IfOk, OnOk};
-ghost use Rattle.std.specs.Prelude.{OnErr};
+ghost use Rattle.std.specs.Prelude.{◌≡◌, ◌≢◌, ◌⊎◌, ◌≤◌, ◌<◌, ◌+◌, ◌^◌, ◌∷◌, ◌++◌, [], ℕ, List, length, take};
+ghost use Rattle.std.specs.Prelude.{string_bytes, true, false, is_some, IfOk, OnOk, OnErr};
 ghost use Rattle.std.specs.Io.{WritesAtMost};
 ghost use Rattle.age_options.specs.declared.Durability.TheVariants as wait;
-ghost use Rattle.age_calls.specs.Calls.{FileCall, Synced, Unwaited, Closed, ClosesLast, Locked, Unlockable};
-ghost use Rattle.age_calls.specs.Calls.{SyncedNames, UnwaitedNames, Waited};
+ghost use Rattle.age_calls.specs.Calls.{FileCall, Broke, Synced, Unwaited, Closed, ClosesLast, Locked};
+ghost use Rattle.age_calls.specs.Calls.{Unlockable, SyncedNames, UnwaitedNames, Waited};
 ghost use Rattle.age_calls.specs.Saves.{SavesWhole, IsSafe, IsThereAs};
-ghost use Rattle.age_calls.specs.Outs.{opening_of, is_making, is_waited, text_of, has_changed};
-ghost use Rattle.age_calls.specs.Outs.{IsClaimed, TouchesFile};
+ghost use Rattle.age_calls.specs.Outs.{opening_of, is_making, is_waited, text_of, has_changed, IsClaimed};
+ghost use Rattle.age_calls.specs.Outs.{TouchesFile};
 ghost use Rattle.age_machine.specs.Held.{AlwaysHasWritten};
+ghost use Rattle.age_names.specs.{number_of};
 ghost use Rattle.age_machine.specs.inner.Steps.{IsAtPath, StaysHeld, RemovesAt};
 
-use crate::beside::settle;
-use crate::machine::{Machine, Shape};
-use crate::replacing::settle_names;
+use crate::file::{HostFile, Shape};
+use crate::machine::Machine;
 use age_calls::Opening;
 use age_options::Durability;
 use std::io;
@@ -29,9 +28,9 @@ const SIGHT_OF_MADE: u64 = 1 << 30;
 
 /// A regular file that is written in place, from its beginning on, by a machine of its own.
 #[derive(Drop)]
-pub struct Out<M: Machine> {
-    machine: M,
-    file: M::File,
+pub struct Out {
+    machine: Machine,
+    file: HostFile,
     // Its path, at the end of all links.
     path: String,
     opening: Opening,
@@ -52,51 +51,81 @@ pub struct Out<M: Machine> {
 
 /// What became of a file that was written in place and ended.
 #[derive(Drop)]
-pub struct Ended<M> {
+pub struct Ended {
     pub end: io::Result<()>,
     /// The machine after all calls.
-    pub machine: M,
+    pub machine: Machine,
 }
 
-impl<M: Machine> Model for Out<M> {
+impl Model for Out {
     ghost use Rattle.std.specs.Prelude.{◌≡◌, ◌<◌, ℕ, true, string_bytes, is_some};
     ghost use Rattle.age_calls.specs.Outs.{OutView, opening_of, is_making};
     ghost use Rattle.age_machine.specs.Held.{IsOut};
+    ghost use Rattle.age_names.specs.{number_of};
 
     ghost Value = { OutView };
 
     ghost view = { λ o. record {
       file = record {
         path = string_bytes o.path;
-        number = M.number o.file;
+        number = number_of o.file.node;
         is_made = is_making o.opening;
       };
-      calls = M.calls o.machine;
-      failed = M.failed o.machine;
+      calls = o.machine.calls;
+      failed = o.machine.failed;
       is_lost = is_some o.lost;
     } };
 
-    ghost invariant = { λ o. IsOut (string_bytes o.path) (M.number o.file)
-        (opening_of (string_bytes o.path) (M.number o.file) o.opening) o.is_stale (is_some o.lost)
-        o.is_claimed o.written (M.failed o.machine) (M.calls o.machine) };
+    ghost invariant = { λ o. IsOut (string_bytes o.path) (number_of o.file.node)
+        (opening_of (string_bytes o.path) (number_of o.file.node) o.opening) o.is_stale (is_some o.lost)
+        o.is_claimed o.written (o.machine.failed) (o.machine.calls) };
+}
+
+/// Waits until what a file holds has reached the disk, if it is to be there.
+fn settle(machine: &mut Machine, file: &HostFile, durability: Durability) -> io::Result<()>
+    ensures either { OnOk result ((machine.new.calls ≡ machine.old.calls)
+        ⊎ Waited (Synced (number_of file.now.node)) (Unwaited (number_of file.now.node)) (machine.old.calls)
+        (machine.new.calls)) }
+    ensures synced { OnOk result (durability ≡ wait.Synced
+        → Waited (Synced (number_of file.now.node)) (Unwaited (number_of file.now.node))
+        (machine.old.calls) (machine.new.calls)) }
+    ensures broken { OnErr result
+        (machine.new.calls ≡ Broke (number_of file.now.node) ∷ machine.old.calls) }
+    ensures counted { machine.old.failed ≤ machine.new.failed }
+    ensures caused { OnErr result (machine.old.failed < machine.new.failed) }
+{
+    match durability {
+        Durability::Synced => machine.sync(file),
+        Durability::Buffered => Ok(()),
+    }
+}
+
+/// Waits until the names in the folder of a path have reached the disk, if they are to be there.
+fn settle_names(machine: &mut Machine, path: &str, durability: Durability) -> io::Result<()>
+    ensures ok { OnOk result (durability ≡ wait.Synced → Waited (SyncedNames path.now)
+        (UnwaitedNames path.now) (machine.old.calls) (machine.new.calls)) }
+    ensures either { (machine.new.calls ≡ machine.old.calls) ⊎ Waited (SyncedNames path.now)
+        (UnwaitedNames path.now) (machine.old.calls) (machine.new.calls) }
+    ensures counted { machine.old.failed ≤ machine.new.failed }
+    ensures caused { OnErr result (machine.old.failed < machine.new.failed) }
+{
+    match durability {
+        Durability::Synced => machine.sync_names(path),
+        Durability::Buffered => Ok(()),
+    }
 }
 
 /// Truncates a file to the bytes that were written, if what it held may be beyond them.
-fn cut_stale<M: Machine>(
-    machine: &mut M,
-    file: &M::File,
-    is_stale: bool,
-    written: u64,
-) -> io::Result<()>
+fn cut_stale(machine: &mut Machine, file: &HostFile, is_stale: bool, written: u64) -> io::Result<()>
     ensures held { (path : List ℕ) (opening : FileCall)
-        → length (text_of (M.calls machine.old)) ≤ written → StaysHeld path (M.number file.now)
-        opening (M.calls machine.old) (M.calls machine.new) }
+        → length (text_of (machine.old.calls)) ≤ written → StaysHeld path (number_of file.now.node)
+        opening (machine.old.calls) (machine.new.calls) }
     ensures cut { OnOk result ((path text : List ℕ) → length text ≡ written
-        → AlwaysHasWritten path (M.number file.now) is_stale text (M.calls machine.old)
-        → AlwaysHasWritten path (M.number file.now) false text (M.calls machine.new)) }
-    ensures text { text_of (M.calls machine.new) ≡ text_of (M.calls machine.old) }
-    ensures counted { OnOk result (M.failed machine.new ≡ M.failed machine.old) }
-    ensures caused { OnErr result (M.failed machine.old < M.failed machine.new) }
+        → AlwaysHasWritten path (number_of file.now.node) is_stale text (machine.old.calls)
+        → AlwaysHasWritten path (number_of file.now.node) false text (machine.new.calls)) }
+    ensures text { text_of (machine.new.calls) ≡ text_of (machine.old.calls) }
+    ensures counted { OnOk result (machine.new.failed ≡ machine.old.failed) }
+    ensures caused { OnErr result (machine.old.failed < machine.new.failed) }
 {
     if !is_stale {
         return Ok(());
@@ -106,28 +135,28 @@ fn cut_stale<M: Machine>(
 
 /// Truncates a file to what was written, and waits for the disk. Fails if another program has
 /// harmed the file.
-fn finish<M: Machine>(
-    machine: &mut M,
-    file: &M::File,
+fn finish(
+    machine: &mut Machine,
+    file: &HostFile,
     is_stale: bool,
     lost: Option<io::Error>,
     shape: &Shape,
     durability: Durability,
 ) -> io::Result<()>
     ensures held { (path : List ℕ) (opening : FileCall)
-        → length (text_of (M.calls machine.old)) ≤ shape.now.len → StaysHeld path
-        (M.number file.now) opening (M.calls machine.old) (M.calls machine.new) }
+        → length (text_of (machine.old.calls)) ≤ shape.now.len → StaysHeld path
+        (number_of file.now.node) opening (machine.old.calls) (machine.new.calls) }
     ensures finished { OnOk result (durability ≡ wait.Synced → (path text : List ℕ)
         → length text ≡ shape.now.len
-        → AlwaysHasWritten path (M.number file.now) is_stale text (M.calls machine.old)
-        → IsAtPath path (M.number file.now) text (M.calls machine.new)) }
+        → AlwaysHasWritten path (number_of file.now.node) is_stale text (machine.old.calls)
+        → IsAtPath path (number_of file.now.node) text (machine.new.calls)) }
     ensures begun { OnOk result ((path text : List ℕ) → length text ≡ shape.now.len
-        → AlwaysHasWritten path (M.number file.now) is_stale text (M.calls machine.old)
-        → AlwaysHasWritten path (M.number file.now) false text (M.calls machine.new)) }
+        → AlwaysHasWritten path (number_of file.now.node) is_stale text (machine.old.calls)
+        → AlwaysHasWritten path (number_of file.now.node) false text (machine.new.calls)) }
     ensures sure { OnOk result (is_some lost ≡ false) }
-    ensures counted { M.failed machine.old ≤ M.failed machine.new }
+    ensures counted { machine.old.failed ≤ machine.new.failed }
     ensures caused { OnErr result ((is_some lost ≡ true)
-        ⊎ (M.failed machine.old < M.failed machine.new)) }
+        ⊎ (machine.old.failed < machine.new.failed)) }
 {
     if let Some(error) = lost {
         return Err(error);
@@ -139,19 +168,19 @@ fn finish<M: Machine>(
 
 /// Waits until the name of a file has reached the disk, if it is to be there. If another program
 /// made the name, this waits only if the folder can be read.
-fn settle_name<M: Machine>(
-    machine: &mut M,
+fn settle_name(
+    machine: &mut Machine,
     path: &str,
     opening: Opening,
     durability: Durability,
 ) -> io::Result<()>
     ensures ok { OnOk result (durability ≡ wait.Synced → is_waited opening ≡ true
-        → Waited (SyncedNames path.now) (UnwaitedNames path.now) (M.calls machine.old)
-        (M.calls machine.new)) }
-    ensures either { (M.calls machine.new ≡ M.calls machine.old) ⊎ Waited (SyncedNames path.now)
-        (UnwaitedNames path.now) (M.calls machine.old) (M.calls machine.new) }
-    ensures counted { M.failed machine.old ≤ M.failed machine.new }
-    ensures caused { OnErr result (M.failed machine.old < M.failed machine.new) }
+        → Waited (SyncedNames path.now) (UnwaitedNames path.now) (machine.old.calls)
+        (machine.new.calls)) }
+    ensures either { (machine.new.calls ≡ machine.old.calls) ⊎ Waited (SyncedNames path.now)
+        (UnwaitedNames path.now) (machine.old.calls) (machine.new.calls) }
+    ensures counted { machine.old.failed ≤ machine.new.failed }
+    ensures caused { OnErr result (machine.old.failed < machine.new.failed) }
 {
     match opening {
         Opening::New => settle_names(machine, path, durability),
@@ -163,39 +192,39 @@ fn settle_name<M: Machine>(
 }
 
 /// Closes a file, and waits for its name.
-fn close_named<M: Machine>(
-    machine: &mut M,
-    file: &M::File,
+fn close_named(
+    machine: &mut Machine,
+    file: &HostFile,
     path: &str,
     opening: Opening,
     durability: Durability,
 ) -> io::Result<()>
-    ensures held { (opened : FileCall) → StaysHeld path.now (M.number file.now) opened
-        (M.calls machine.old) (M.calls machine.new) }
+    ensures held { (opened : FileCall) → StaysHeld path.now (number_of file.now.node) opened
+        (machine.old.calls) (machine.new.calls) }
     ensures named { OnOk result (durability ≡ wait.Synced → is_waited opening ≡ true
         → Waited (SyncedNames path.now) (UnwaitedNames path.now)
-        (Closed (M.number file.now) ∷ M.calls machine.old) (M.calls machine.new)) }
-    ensures closed { OnOk result (ClosesLast (M.number file.now) (M.calls machine.new)) }
+        (Closed (number_of file.now.node) ∷ machine.old.calls) (machine.new.calls)) }
+    ensures closed { OnOk result (ClosesLast (number_of file.now.node) (machine.new.calls)) }
     ensures begun { OnOk result ((text : List ℕ)
-        → AlwaysHasWritten path.now (M.number file.now) false text (M.calls machine.old)
-        → AlwaysHasWritten path.now (M.number file.now) false text (M.calls machine.new)) }
-    ensures counted { M.failed machine.old ≤ M.failed machine.new }
-    ensures caused { OnErr result (M.failed machine.old < M.failed machine.new) }
+        → AlwaysHasWritten path.now (number_of file.now.node) false text (machine.old.calls)
+        → AlwaysHasWritten path.now (number_of file.now.node) false text (machine.new.calls)) }
+    ensures counted { machine.old.failed ≤ machine.new.failed }
+    ensures caused { OnErr result (machine.old.failed < machine.new.failed) }
 {
     machine.close(file)?;
     settle_name(machine, path, opening, durability)
 }
 
 /// Removes a file that opening made, if this run alone has it, and it is still empty.
-fn take_back<M: Machine>(
-    machine: &mut M,
-    file: &M::File,
+fn take_back(
+    machine: &mut Machine,
+    file: &HostFile,
     path: &str,
     opening: Opening,
     durability: Durability,
 )
-    ensures removed { RemovesAt path.now (M.calls machine.old) (M.calls machine.new) }
-    ensures there { is_making opening ≡ false → M.calls machine.new ≡ M.calls machine.old }
+    ensures removed { RemovesAt path.now (machine.old.calls) (machine.new.calls) }
+    ensures there { is_making opening ≡ false → machine.new.calls ≡ machine.old.calls }
 {
     if !opening.is_made() || !is_as_long(machine, file, 0) || !machine.is_alone(file) {
         return;
@@ -214,23 +243,23 @@ fn sight_of(opening: Opening) -> u64 {
 }
 
 /// Whether a file has this many bytes, as far as that is known.
-fn is_as_long<M: Machine>(machine: &M, file: &M::File, len: u64) -> bool {
+fn is_as_long(machine: &Machine, file: &HostFile, len: u64) -> bool {
     matches!(machine.look(file), Ok(now) if now.len == len)
 }
 
-impl<M: Machine + Drop> Out<M> {
+impl Out {
     /// Takes a file that was opened for writing. What is written replaces what it holds.
-    pub fn new(machine: M, file: M::File, path: String, opening: Opening) -> Out<M>
-        requires unfailed { M.failed machine ≡ 0 }
-        requires opened { M.calls machine
-            ≡ opening_of (string_bytes path) (M.number file) opening ∷ [] }
+    pub fn new(machine: Machine, file: HostFile, path: String, opening: Opening) -> Out
+        requires unfailed { machine.failed ≡ 0 }
+        requires opened { machine.calls
+            ≡ opening_of (string_bytes path) (number_of file.node) opening ∷ [] }
         ensures { result ≡ record {
           file = record {
             path = string_bytes path;
-            number = M.number file;
+            number = number_of file.node;
             is_made = is_making opening;
           };
-          calls = M.calls machine;
+          calls = machine.calls;
           failed = 0;
           is_lost = false;
         } }
@@ -250,9 +279,9 @@ impl<M: Machine + Drop> Out<M> {
     }
 
     /// Its path, the file itself, and whether opening made it.
-    pub fn which(&self) -> (&str, &M::File, bool)
+    pub fn which(&self) -> (&str, &HostFile, bool)
         ensures path { result.0.now ≡ self.now.file.path }
-        ensures number { M.number result.1.now ≡ self.now.file.number }
+        ensures number { number_of result.1.now.node ≡ self.now.file.number }
         ensures made { result.2 ≡ self.now.file.is_made }
     {
         (self.path.as_str(), &self.file, self.opening.is_made())
@@ -266,8 +295,8 @@ impl<M: Machine + Drop> Out<M> {
     }
 
     /// The file itself.
-    pub fn file(&self) -> &M::File
-        ensures { M.number result.now ≡ self.now.file.number }
+    pub fn file(&self) -> &HostFile
+        ensures { number_of result.now.node ≡ self.now.file.number }
     {
         &self.file
     }
@@ -454,17 +483,17 @@ impl<M: Machine + Drop> Out<M> {
 
     /// Ends it with what was written, and closes it in any case. If nothing was written, it is
     /// claimed first, and stays unchanged if another run has it.
-    pub fn end(mut self, durability: Durability) -> Ended<M>
+    pub fn end(mut self, durability: Durability) -> Ended
         ensures safe { durability ≡ wait.Synced → self.failed ≡ 0 → OnOk result.end
-            (IsSafe self.file.path (text_of self.calls) (M.calls result.machine)) }
+            (IsSafe self.file.path (text_of self.calls) (result.machine.calls)) }
         ensures there { self.failed ≡ 0 → OnOk result.end (IsThereAs self.file.path self.file.number
-            (text_of self.calls) (M.calls result.machine)) }
+            (text_of self.calls) (result.machine.calls)) }
         ensures sure { OnOk result.end (self.is_lost ≡ false) }
-        ensures closed { OnOk result.end (ClosesLast self.file.number (M.calls result.machine)) }
-        ensures within { TouchesFile self.file (M.calls result.machine) }
+        ensures closed { OnOk result.end (ClosesLast self.file.number (result.machine.calls)) }
+        ensures within { TouchesFile self.file (result.machine.calls) }
         ensures caused { OnErr result.end ((self.is_lost ≡ true)
-            ⊎ (self.failed < M.failed result.machine)) }
-        ensures failing { OnErr result.end (0 < M.failed result.machine) }
+            ⊎ (self.failed < result.machine.failed)) }
+        ensures failing { OnErr result.end (0 < result.machine.failed) }
     {
         let claimed = self.claim();
         let shape = self.shape(false);
@@ -499,13 +528,13 @@ impl<M: Machine + Drop> Out<M> {
 
     /// Ends it unchanged, if nothing was written. One that opening made is removed, if this run
     /// alone has it, and it is still empty.
-    pub fn discard(self, durability: Durability) -> M
+    pub fn discard(self, durability: Durability) -> Machine
         ensures kept { self.failed ≡ 0 → text_of self.calls ≡ []
-            → SavesWhole self.file.path [] [] (M.calls result) }
-        ensures there { self.file.is_made ≡ false → M.calls result ≡ self.calls }
+            → SavesWhole self.file.path [] [] (result.calls) }
+        ensures there { self.file.is_made ≡ false → result.calls ≡ self.calls }
         ensures untouched { self.file.is_made ≡ false → text_of self.calls ≡ []
-            → has_changed (M.calls result) ≡ false }
-        ensures within { TouchesFile self.file (M.calls result) }
+            → has_changed (result.calls) ≡ false }
+        ensures within { TouchesFile self.file (result.calls) }
     {
         let Out {
             mut machine,

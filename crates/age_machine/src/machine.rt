@@ -1,183 +1,278 @@
-//! The system calls that write a file, or put one in another's place.
+//! The system calls that write a file. Each is noted where it is made. No proof sees what they do.
 
-ghost use Rattle.std.specs.Prelude.{◌≡◌, ◌≤◌, ◌<◌, ℕ, List, ◌∷◌, take, length, true, false, IfOk};
-ghost use Rattle.std.specs.Prelude.{OnOk, OnErr, MatchOption};
-ghost use Rattle.age_calls.specs.Calls.{FileCall, Made, Opened, Wrote, Cut, Broke, Measured};
-ghost use Rattle.age_calls.specs.Calls.{Synced, Unwaited, Closed, Locked, Unlockable, Missing};
-ghost use Rattle.age_calls.specs.Calls.{Linked, Renamed, Removed, Reclaimed, SyncedNames};
-ghost use Rattle.age_calls.specs.Calls.{UnwaitedNames, MayHave, Waited, CountsFailure};
+ghost use Rattle.std.specs.Prelude.{◌≡◌, ◌+◌, ◌≤◌, ◌<◌, [], ◌∷◌, take, length, IfOk, OnOk, OnErr, MatchOption};
+ghost use Rattle.age_calls.specs.Calls.{Made, Opened, Wrote, Cut, Broke, Synced, Unwaited, Closed, Locked};
+ghost use Rattle.age_calls.specs.Calls.{Unlockable, Removed, SyncedNames, UnwaitedNames, MayHave, Waited};
+ghost use Rattle.age_calls.specs.Calls.{CountsFailure};
+ghost use Rattle.age_names.specs.{number_of};
 
+use crate::calls;
+use crate::file::{
+    HostFile, OUTPUT_MODE, Shape, Sight, check, close_copy, lock, made_file, sight_of, sync_folder,
+    sync_readable_folder, write_at,
+};
+use crate::notes::{Calls, FailedCalls, Word};
+use crate::waiting::wait_for;
 use age_calls::Kind;
+use age_names::is_at;
 use std::io;
+use std::rt::HostRuntime;
 
-/// What a file is now.
-#[derive(Clone, Copy)]
-pub struct Sight {
-    /// Whether it has a name.
-    pub is_named: bool,
-    pub len: u64,
-}
-
-/// What a file is to look like, unless another program has harmed it.
-#[derive(Clone, Copy)]
-pub struct Shape {
-    pub len: u64,
-    /// Whether it may have more bytes than that.
-    pub may_be_longer: bool,
-    /// Whether its length says how much was written to it.
-    pub has_length: bool,
-    pub is_named: bool,
-}
-
-/// A system that makes the calls.
+/// The machine, and which of its calls were made for one file.
 ///
 /// Contracts see which calls were made, and which file each one was about. A call that fails has
 /// changed nothing, or what it changes if it succeeds, and nobody can tell which.
-pub trait Machine {
-    /// A file that is open for writing.
-    type File: Drop;
+#[derive(Drop)]
+pub struct Machine {
+    rt: HostRuntime,
+    // The calls that were made, the newest first, and how many have failed.
+    calls: Calls,
+    failed: FailedCalls,
+    // Whether a file system had no way to wait for a file.
+    is_unwaited: bool,
+}
 
-    /// What a path's folder was when it was judged.
-    type Folder: Drop;
+impl Machine {
+    ghost use Rattle.age_machine.specs.inner.{file_call_of};
 
-    // The calls that were made, the newest first.
-    ghost calls: { Self → List FileCall };
+    /// Returns the machine before the first call.
+    pub fn new(rt: &HostRuntime) -> Machine
+        ensures { (result.calls ≡ []) × (result.failed ≡ 0) }
+    {
+        Machine {
+            rt: *rt,
+            calls: Calls::new(),
+            failed: FailedCalls::new(),
+            is_unwaited: false,
+        }
+    }
 
-    // How many calls have failed.
-    ghost failed: { Self → ℕ };
+    /// Returns the same machine, after the same calls, none of which counts as failed.
+    pub fn again(&self) -> Machine
+        ensures { (result.calls ≡ self.now.calls) × (result.failed ≡ 0) }
+    {
+        Machine {
+            rt: self.rt,
+            calls: self.calls.again(),
+            failed: FailedCalls::new(),
+            is_unwaited: self.is_unwaited,
+        }
+    }
 
-    // Which file it is, whatever its names, by its device and inode as one number.
-    ghost number: { Self.File → ℕ };
+    /// Whether a file system had no way to wait until a file had reached the disk.
+    pub fn is_unwaited(&self) -> bool {
+        self.is_unwaited
+    }
 
-    /// Makes an empty file at a path where nothing exists, not even a link, and opens it.
-    fn make(&mut self, path: &str) -> io::Result<Self::File>
-        ensures ok { IfOk result
-            (λ f. calls self.new ≡ Made path.now (number f) ∷ calls self.old) }
-        ensures err { OnErr result (calls self.new ≡ calls self.old) }
-        ensures counted { CountsFailure result (failed self.old) (failed self.new) };
+    /// Counts a call that failed.
+    fn fail(&mut self, error: io::Error) -> io::Error
+        ensures calls { self.new.calls ≡ self.old.calls }
+        ensures failed { self.new.failed ≡ self.old.failed + 1 }
+    {
+        self.failed.note();
+        error
+    }
 
-    /// Makes an empty output, like `make`. Each write to it goes to its end.
-    fn make_output(&mut self, path: &str) -> io::Result<Self::File>
-        ensures ok { IfOk result
-            (λ f. calls self.new ≡ Made path.now (number f) ∷ calls self.old) }
-        ensures err { OnErr result (calls self.new ≡ calls self.old) }
-        ensures counted { CountsFailure result (failed self.old) (failed self.new) };
+    /// Counts a call after which nothing is known of a file.
+    fn break_file(&mut self, file: &HostFile, error: io::Error) -> io::Error
+        ensures calls { self.new.calls ≡ Broke (number_of file.now.node) ∷ self.old.calls }
+        ensures failed { self.new.failed ≡ self.old.failed + 1 }
+    {
+        self.calls.note(&Word::Broke(file.node()));
+        self.fail(error)
+    }
+
+    /// Notes one call if the machine could make it, and another if it has no way to make it.
+    fn note_either(
+        &mut self,
+        made: &Word<'_>,
+        cant: &Word<'_>,
+        was_made: io::Result<bool>,
+    ) -> io::Result<()>
+        ensures ok { OnOk result (Waited (file_call_of made.now) (file_call_of cant.now)
+            self.old.calls self.new.calls) }
+        ensures err { OnErr result (self.new.calls ≡ self.old.calls) }
+        ensures counted { CountsFailure result self.old.failed self.new.failed }
+    {
+        match was_made {
+            Ok(true) => self.calls.note(made),
+            Ok(false) => self.calls.note(cant),
+            Err(error) => return Err(self.fail(error)),
+        }
+        Ok(())
+    }
+
+    /// Makes an empty output at a path where nothing exists, not even a link, and opens it. Each write
+    /// to it goes to its end.
+    pub fn make_output(&mut self, path: &str) -> io::Result<HostFile>
+        ensures ok { IfOk result (λ f. self.new.calls ≡ Made path.now (number_of f.node) ∷ self.old.calls) }
+        ensures err { OnErr result (self.new.calls ≡ self.old.calls) }
+        ensures counted { CountsFailure result self.old.failed self.new.failed }
+    {
+        let made = calls::make_to_append(&self.rt, path, OUTPUT_MODE);
+        match made_file(&self.rt, made, path) {
+            Ok(file) => {
+                self.calls.note(&Word::Made(path, file.node()));
+                Ok(file)
+            }
+            Err(error) => Err(self.fail(error)),
+        }
+    }
 
     /// Opens what a name leads to, without emptying it, and says what it is; `None` if it leads to
     /// nothing. The path is the one at the end of the name's links.
-    fn open(&mut self, name: &str, path: &str) -> io::Result<Option<(Self::File, Kind)>>
-        ensures ok { IfOk result (λ found. MatchOption found (calls self.new ≡ calls self.old)
-            (λ f. calls self.new ≡ Opened path.now (number f.0) f.1 ∷ calls self.old)) }
-        ensures err { OnErr result (calls self.new ≡ calls self.old) }
-        ensures counted { CountsFailure result (failed self.old) (failed self.new) };
+    pub fn open(&mut self, name: &str, path: &str) -> io::Result<Option<(HostFile, Kind)>>
+        ensures ok { IfOk result (λ found. MatchOption found (self.new.calls ≡ self.old.calls)
+            (λ f. self.new.calls ≡ Opened path.now (number_of f.0.node) f.1 ∷ self.old.calls)) }
+        ensures err { OnErr result (self.new.calls ≡ self.old.calls) }
+        ensures counted { CountsFailure result self.old.failed self.new.failed }
+    {
+        match HostFile::open(&self.rt, name, path) {
+            Ok(Some((file, kind))) => {
+                self.calls.note(&Word::Opened(path, file.node(), kind));
+                Ok(Some((file, kind)))
+            }
+            Ok(None) => Ok(None),
+            Err(error) => Err(self.fail(error)),
+        }
+    }
 
-    /// What a file is now.
-    fn look(&self, file: &Self::File) -> io::Result<Sight>;
+    /// Returns what a file is now.
+    pub fn look(&self, file: &HostFile) -> io::Result<Sight> {
+        sight_of(file.file())
+    }
 
     /// Fails if a file doesn't look as it should.
-    fn check(&mut self, file: &Self::File, shape: &Shape) -> io::Result<()>
-        ensures same { calls self.new ≡ calls self.old }
-        ensures counted { CountsFailure result (failed self.old) (failed self.new) };
+    pub fn check(&mut self, file: &HostFile, shape: &Shape) -> io::Result<()>
+        ensures same { self.new.calls ≡ self.old.calls }
+        ensures counted { CountsFailure result self.old.failed self.new.failed }
+    {
+        match check(file.file(), shape) {
+            Ok(()) => Ok(()),
+            Err(error) => Err(self.fail(error)),
+        }
+    }
 
     /// Takes a file for this run alone, until it is ended, if the system has locks. Fails if another
     /// run has it.
-    fn lock(&mut self, file: &Self::File) -> io::Result<()>
-        ensures ok { OnOk result (Waited (Locked (number file.now)) (Unlockable (number file.now))
-            (calls self.old) (calls self.new)) }
-        ensures err { OnErr result (calls self.new ≡ calls self.old) }
-        ensures counted { CountsFailure result (failed self.old) (failed self.new) };
+    pub fn lock(&mut self, file: &HostFile) -> io::Result<()>
+        ensures ok { OnOk result (Waited (Locked (number_of file.now.node))
+            (Unlockable (number_of file.now.node)) self.old.calls self.new.calls) }
+        ensures err { OnErr result (self.new.calls ≡ self.old.calls) }
+        ensures counted { CountsFailure result self.old.failed self.new.failed }
+    {
+        let (made, cant) = (Word::Locked(file.node()), Word::Unlockable(file.node()));
+        self.note_either(&made, &cant, lock(file.file()))
+    }
 
     /// Takes a file for this run alone if that is possible, and says whether this run alone has it.
-    fn is_alone(&self, file: &Self::File) -> bool;
+    pub fn is_alone(&self, file: &HostFile) -> bool {
+        matches!(file.file().try_lock(), Ok(()))
+    }
 
     /// Writes some of these bytes to a file, from an offset on.
-    fn write(&mut self, file: &Self::File, at: u64, bytes: &[u8]) -> io::Result<usize>
+    pub fn write(&mut self, file: &HostFile, at: u64, bytes: &[u8]) -> io::Result<usize>
         ensures bound { IfOk result (λ n. n ≤ length bytes.now) }
         ensures some { IfOk result (λ n. 0 < length bytes.now → 0 < n) }
-        ensures ok { IfOk result (λ n. calls self.new
-            ≡ Wrote (number file.now) at (take n bytes.now) ∷ calls self.old) }
-        ensures err { OnErr result (calls self.new ≡ Broke (number file.now) ∷ calls self.old) }
-        ensures counted { CountsFailure result (failed self.old) (failed self.new) };
-
-    /// How many bytes a file has.
-    fn len(&mut self, file: &Self::File) -> io::Result<u64>
-        ensures ok { IfOk result (λ len. calls self.new
-            ≡ Measured (number file.now) len ∷ calls self.old) }
-        ensures err { OnErr result (calls self.new ≡ calls self.old) }
-        ensures counted { CountsFailure result (failed self.old) (failed self.new) };
+        ensures ok { IfOk result (λ n. self.new.calls
+            ≡ Wrote (number_of file.now.node) at (take n bytes.now) ∷ self.old.calls) }
+        ensures err { OnErr result (self.new.calls ≡ Broke (number_of file.now.node) ∷ self.old.calls) }
+        ensures counted { CountsFailure result self.old.failed self.new.failed }
+    {
+        match write_at(&self.rt, file.file(), at, bytes) {
+            Ok(n) => {
+                self.calls.note(&Word::Wrote(file.node(), at, &bytes[..n]));
+                Ok(n)
+            }
+            Err(error) => Err(self.break_file(file, error)),
+        }
+    }
 
     /// Truncates a file to this many bytes.
-    fn cut(&mut self, file: &Self::File, len: u64) -> io::Result<()>
-        ensures ok { OnOk result (calls self.new ≡ Cut (number file.now) len ∷ calls self.old) }
-        ensures err { OnErr result (calls self.new ≡ Broke (number file.now) ∷ calls self.old) }
-        ensures counted { CountsFailure result (failed self.old) (failed self.new) };
+    pub fn cut(&mut self, file: &HostFile, len: u64) -> io::Result<()>
+        ensures ok { OnOk result (self.new.calls ≡ Cut (number_of file.now.node) len ∷ self.old.calls) }
+        ensures err { OnErr result (self.new.calls ≡ Broke (number_of file.now.node) ∷ self.old.calls) }
+        ensures counted { CountsFailure result self.old.failed self.new.failed }
+    {
+        match calls::cut(file.file(), len) {
+            Ok(()) => {
+                self.calls.note(&Word::Cut(file.node(), len));
+                Ok(())
+            }
+            Err(error) => Err(self.break_file(file, error)),
+        }
+    }
 
     /// Waits until what a file holds has reached the disk, if the system can.
-    fn sync(&mut self, file: &Self::File) -> io::Result<()>
-        ensures ok { OnOk result (Waited (Synced (number file.now)) (Unwaited (number file.now))
-            (calls self.old) (calls self.new)) }
-        ensures err { OnErr result (calls self.new ≡ Broke (number file.now) ∷ calls self.old) }
-        ensures counted { CountsFailure result (failed self.old) (failed self.new) };
+    pub fn sync(&mut self, file: &HostFile) -> io::Result<()>
+        ensures ok { OnOk result (Waited (Synced (number_of file.now.node))
+            (Unwaited (number_of file.now.node)) self.old.calls self.new.calls) }
+        ensures err { OnErr result (self.new.calls ≡ Broke (number_of file.now.node) ∷ self.old.calls) }
+        ensures counted { CountsFailure result self.old.failed self.new.failed }
+    {
+        match wait_for(file.file()) {
+            Ok(None) => {
+                self.calls.note(&Word::Synced(file.node()));
+                Ok(())
+            }
+            Ok(Some(cant)) => {
+                self.calls.note(&Word::Unwaited(file.node(), &cant));
+                self.is_unwaited = true;
+                Ok(())
+            }
+            Err(error) => Err(self.break_file(file, error)),
+        }
+    }
 
     /// Lets the system report whether what was written has failed, as it does when a file is
     /// closed. The file stays open.
-    fn close(&mut self, file: &Self::File) -> io::Result<()>
-        ensures ok { OnOk result (calls self.new ≡ Closed (number file.now) ∷ calls self.old) }
-        ensures err { OnErr result (calls self.new ≡ Broke (number file.now) ∷ calls self.old) }
-        ensures counted { CountsFailure result (failed self.old) (failed self.new) };
+    pub fn close(&mut self, file: &HostFile) -> io::Result<()>
+        ensures ok { OnOk result (self.new.calls ≡ Closed (number_of file.now.node) ∷ self.old.calls) }
+        ensures err { OnErr result (self.new.calls ≡ Broke (number_of file.now.node) ∷ self.old.calls) }
+        ensures counted { CountsFailure result self.old.failed self.new.failed }
+    {
+        match close_copy(&self.rt, file.file()) {
+            Ok(()) => {
+                self.calls.note(&Word::Closed(file.node()));
+                Ok(())
+            }
+            Err(error) => Err(self.break_file(file, error)),
+        }
+    }
 
     /// Waits until the names in the folder of a path have reached the disk, if the system can.
-    fn sync_names(&mut self, path: &str) -> io::Result<()>
+    pub fn sync_names(&mut self, path: &str) -> io::Result<()>
         ensures ok { OnOk result (Waited (SyncedNames path.now) (UnwaitedNames path.now)
-            (calls self.old) (calls self.new)) }
-        ensures err { OnErr result (calls self.new ≡ calls self.old) }
-        ensures counted { CountsFailure result (failed self.old) (failed self.new) };
+            self.old.calls self.new.calls) }
+        ensures err { OnErr result (self.new.calls ≡ self.old.calls) }
+        ensures counted { CountsFailure result self.old.failed self.new.failed }
+    {
+        let synced = sync_folder(&self.rt, path);
+        self.note_either(&Word::SyncedNames(path), &Word::UnwaitedNames(path), synced)
+    }
 
     /// Like `sync_names`, for a name that another program made. If the folder can't be read, the
     /// system can't wait.
-    fn sync_readable_names(&mut self, path: &str) -> io::Result<()>
+    pub fn sync_readable_names(&mut self, path: &str) -> io::Result<()>
         ensures ok { OnOk result (Waited (SyncedNames path.now) (UnwaitedNames path.now)
-            (calls self.old) (calls self.new)) }
-        ensures err { OnErr result (calls self.new ≡ calls self.old) }
-        ensures counted { CountsFailure result (failed self.old) (failed self.new) };
-
-    /// Fails if a path no longer leads into the same folder.
-    fn check_folder(&mut self, folder: Option<&Self::Folder>, path: &str) -> io::Result<()>
-        ensures same { calls self.new ≡ calls self.old }
-        ensures counted { CountsFailure result (failed self.old) (failed self.new) };
-
-    /// Whether nothing is at a path, not even a link.
-    fn is_free(&mut self, path: &str) -> io::Result<bool>
-        ensures free { IfOk result (λ free. free ≡ true
-            → calls self.new ≡ Missing path.now ∷ calls self.old) }
-        ensures taken { IfOk result (λ free. free ≡ false → calls self.new ≡ calls self.old) }
-        ensures err { OnErr result (calls self.new ≡ calls self.old) }
-        ensures counted { CountsFailure result (failed self.old) (failed self.new) };
-
-    /// Whether a file is the one at a path, without following a link.
-    fn is_at(&self, file: &Self::File, path: &str) -> bool;
-
-    /// Gives a file a second path, where nothing is.
-    fn link(&mut self, from: &str, to: &str) -> io::Result<()>
-        ensures ok { OnOk result (calls self.new ≡ Linked from.now to.now ∷ calls self.old) }
-        ensures err { OnErr result
-            (MayHave (Linked from.now to.now) (calls self.old) (calls self.new)) }
-        ensures counted { CountsFailure result (failed self.old) (failed self.new) };
-
-    /// Gives a file another path, in place of what is there.
-    fn rename(&mut self, from: &str, to: &str) -> io::Result<()>
-        ensures ok { OnOk result (calls self.new ≡ Renamed from.now to.now ∷ calls self.old) }
-        ensures err { OnErr result
-            (MayHave (Renamed from.now to.now) (calls self.old) (calls self.new)) }
-        ensures counted { CountsFailure result (failed self.old) (failed self.new) };
+            self.old.calls self.new.calls) }
+        ensures err { OnErr result (self.new.calls ≡ self.old.calls) }
+        ensures counted { CountsFailure result self.old.failed self.new.failed }
+    {
+        let synced = sync_readable_folder(&self.rt, path);
+        self.note_either(&Word::SyncedNames(path), &Word::UnwaitedNames(path), synced)
+    }
 
     /// Removes what is at a path, unless another file than this one is there by now.
-    fn remove(&mut self, file: &Self::File, path: &str)
-        ensures calls { MayHave (Removed path.now) (calls self.old) (calls self.new) }
-        ensures counted { failed self.old ≤ failed self.new };
-
-    /// Removes what is at a path if it is an empty room of a stopped run, which no run has locked.
-    fn reclaim(&mut self, path: &str)
-        ensures calls { MayHave (Reclaimed path.now) (calls self.old) (calls self.new) }
-        ensures counted { failed self.old ≤ failed self.new };
+    pub fn remove(&mut self, file: &HostFile, path: &str)
+        ensures calls { MayHave (Removed path.now) self.old.calls self.new.calls }
+        ensures counted { self.old.failed ≤ self.new.failed }
+    {
+        if is_at(&self.rt, file.file(), path) {
+            match calls::remove(&self.rt, path) {
+                Ok(()) => self.calls.note(&Word::Removed(path)),
+                Err(_) => self.failed.note(),
+            }
+        }
+    }
 }

@@ -5,7 +5,6 @@ ghost use Rattle.std.specs.Coded.{coded_list};
 ghost use Rattle.age_calls.specs.Calls.{FileCall};
 ghost use Rattle.age_machine.specs.inner.Calls.{coded_call};
 
-use crate::room::EmptyRoom;
 use crate::waiting::CantWait;
 use age_calls::Kind;
 use age_io::{Seen, Shows, Tape};
@@ -20,17 +19,12 @@ pub(crate) enum Word<'a> {
     Wrote(Node, u64, &'a [u8]),
     Cut(Node, u64),
     Broke(Node),
-    Measured(Node, u64),
     Synced(Node),
     Unwaited(Node, &'a CantWait),
     Closed(Node),
     Locked(Node),
     Unlockable(Node),
-    Missing(&'a str),
-    Linked(&'a str, &'a str),
-    Renamed(&'a str, &'a str),
     Removed(&'a str),
-    Reclaimed(&'a EmptyRoom<'a>),
     SyncedNames(&'a str),
     UnwaitedNames(&'a str),
 }

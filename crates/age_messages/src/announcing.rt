@@ -2,9 +2,8 @@
 //! something that may take long.
 
 use crate::escaped::{Escaped, Leading};
-use crate::failures::RunFailures;
 use crate::line::size_line;
-use age_cli_args::{ProgressOption, Request};
+use age_options::ErrorContext;
 use std::env::{Env, FillError};
 use std::io::{Eprint, IsTerminal};
 use std::rt::HostRuntime;
@@ -48,13 +47,13 @@ pub fn announce_reading(rt: &HostRuntime) {
 }
 
 /// Says that a passphrase is read from a terminal, which shows no prompt.
-pub fn announce_passphrase(rt: &HostRuntime, failures: &RunFailures<'_>, name: &str) {
+pub fn announce_passphrase(rt: &HostRuntime, name: &str) {
     let is_typed = match name {
         "/dev/tty" => true,
         "/dev/stdin" => rt.stdin().is_terminal(),
         _ => false,
     };
-    if is_typed && failures.named_by("--pass") == Some(name) {
+    if is_typed {
         let _ = eprintln!(rt;
             "age_tool: reading the passphrase from the terminal, which shows it; Ctrl-D ends it"
         );
@@ -62,20 +61,10 @@ pub fn announce_passphrase(rt: &HostRuntime, failures: &RunFailures<'_>, name: &
 }
 
 /// Says that an earlier output is copied before more of the input is read, and how long it is, if
-/// that takes long and progress is to be shown, since progress counts what is read of the input.
-pub fn announce_copying(
-    rt: &HostRuntime,
-    failures: &RunFailures<'_>,
-    name: &str,
-    length: Option<u64>,
-) {
-    let (length, Some(Request::Resume(asked))) = (length.unwrap_or(0), failures.asked) else {
-        return;
-    };
-    if length < LONG
-        || asked.decrypting.paths.progress == ProgressOption::Silent
-        || asked.old != name
-    {
+/// that takes long. (Progress counts what is read of the input.)
+pub fn announce_copying(rt: &HostRuntime, name: &str, length: Option<u64>) {
+    let length = length.unwrap_or(0);
+    if length < LONG {
         return;
     }
     let name = Escaped(name.as_bytes());
@@ -87,8 +76,11 @@ pub fn announce_copying(
 
 /// Says at a terminal that a run waits until what it wrote has reached the disk, if it read much,
 /// and so wrote about as much.
-pub fn announce_sync(rt: &HostRuntime, failures: &RunFailures<'_>) {
-    if failures.last_read.get().bytes >= LONG && rt.stderr().is_terminal() {
+pub fn announce_sync(rt: &HostRuntime, last_read: ErrorContext<'_>) {
+    if let ErrorContext::Read(summary) = last_read
+        && summary.bytes >= LONG
+        && rt.stderr().is_terminal()
+    {
         let _ = eprintln!(rt; "age_tool: waiting for the disk");
     }
 }

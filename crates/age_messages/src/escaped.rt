@@ -17,26 +17,16 @@ impl<'a> fmt::Display for Escaped<'a> {
         }
         let mut left = SHOWN_MAX;
         for chunk in self.0.utf8_chunks() {
-            left = show_text(chunk.valid(), left, f)?;
-            left = show_bytes(chunk.invalid(), left, f)?;
+            let Some(after_text) = show_text(chunk.valid(), left, f)? else {
+                return f.write_str("..");
+            };
+            let Some(after_bytes) = show_bytes(chunk.invalid(), after_text, f)? else {
+                return f.write_str("..");
+            };
+            left = after_bytes;
         }
-        if is_cut(self.0) {
-            f.write_str("..")
-        } else {
-            Ok(())
-        }
+        Ok(())
     }
-}
-
-/// Whether a word has more characters than are shown. A byte that isn't text counts as one.
-fn is_cut(word: &[u8]) -> bool {
-    let mut count: usize = 0;
-    for chunk in word.utf8_chunks() {
-        count = count
-            .saturating_add(chunk.valid().chars().count())
-            .saturating_add(chunk.invalid().len());
-    }
-    count > SHOWN_MAX
 }
 
 /// A word at the beginning of a line, as `Escaped` shows it. A name that begins with a digit of any
@@ -55,20 +45,22 @@ impl<'a> fmt::Display for Leading<'a> {
     }
 }
 
-/// Shows as many characters of a text as are left; returns how many are left then.
+/// Shows as many characters of a text as are left; returns how many are left then, or `None` if it has
+/// more.
 fn show_text<W: fmt::Write>(
     text: &str,
     left: usize,
     f: &mut Formatter<W>,
-) -> Result<usize, fmt::Error> {
+) -> Result<Option<usize>, fmt::Error> {
     let mut left = left;
     for c in text.chars() {
-        if left > 0 {
-            show_char(c, f)?;
-            left -= 1;
+        if left == 0 {
+            return Ok(None);
         }
+        show_char(c, f)?;
+        left -= 1;
     }
-    Ok(left)
+    Ok(Some(left))
 }
 
 /// Quotes are harmless, and a backslash must differ from the one that begins a code.
@@ -80,85 +72,14 @@ fn show_char<W: fmt::Write>(c: char, f: &mut Formatter<W>) -> fmt::Result {
     }
 }
 
-/// Shows as many bytes that aren't text as are left.
+/// Shows as many bytes that aren't text as are left; returns how many characters are left then, or
+/// `None` if there are more bytes.
 fn show_bytes<W: fmt::Write>(
     bytes: &[u8],
     left: usize,
     f: &mut Formatter<W>,
-) -> Result<usize, fmt::Error> {
+) -> Result<Option<usize>, fmt::Error> {
     let shown = &bytes[..bytes.len().min(left)];
     write!(f, "{}", shown.escape_ascii())?;
-    Ok(left - shown.len())
-}
-
-/// A name as a shell takes it, so that a command that is shown can be pasted, and a name that was
-/// made to mislead does nothing there. No character of it is left out. Any shell takes a name
-/// without characters that must be shown by their codes; bash, zsh and ksh take those too.
-#[derive(Clone, Copy)]
-pub struct Quoted<'a>(pub &'a str);
-
-/// Whether a shell takes a character unquoted.
-fn is_plain(c: char) -> bool {
-    c.is_ascii_alphanumeric() || matches!(c, '_' | '-' | '.' | '/' | ':' | ',' | '+' | '@' | '%')
-}
-
-/// Whether a character can be shown between quotes.
-fn is_shown(c: char) -> bool {
-    c == ' ' || c.is_ascii_graphic() || c.is_alphanumeric()
-}
-
-impl<'a> fmt::Display for Quoted<'a> {
-    fn fmt<W: fmt::Write>(&self, f: &mut Formatter<W>) -> fmt::Result {
-        if self.0.starts_with('-') {
-            f.write_str("./")?;
-        }
-        if !self.0.is_empty() && self.0.chars().all(is_plain) {
-            f.write_str(self.0)
-        } else if self.0.chars().all(is_shown) {
-            quote(self.0, f)
-        } else {
-            quote_codes(self.0, f)
-        }
-    }
-}
-
-/// Shows a name between quotes, with any quote of its own outside of them.
-fn quote<W: fmt::Write>(name: &str, f: &mut Formatter<W>) -> fmt::Result {
-    f.write_str("'")?;
-    for c in name.chars() {
-        if c == '\'' {
-            f.write_str("'\\''")?;
-        } else {
-            write!(f, "{c}")?;
-        }
-    }
-    f.write_str("'")
-}
-
-/// Shows a name between `$'` and `'`.
-fn quote_codes<W: fmt::Write>(name: &str, f: &mut Formatter<W>) -> fmt::Result {
-    f.write_str("$'")?;
-    for c in name.chars() {
-        quote_char(c, f)?;
-    }
-    f.write_str("'")
-}
-
-/// Shows a character there: what can't be shown by the codes of its bytes, so that no locale
-/// matters.
-fn quote_char<W: fmt::Write>(c: char, f: &mut Formatter<W>) -> fmt::Result {
-    match c {
-        '\'' => f.write_str("\\'"),
-        '\\' => f.write_str("\\\\"),
-        _ if is_shown(c) => write!(f, "{c}"),
-        _ => quote_bytes(c, f),
-    }
-}
-
-fn quote_bytes<W: fmt::Write>(c: char, f: &mut Formatter<W>) -> fmt::Result {
-    let mut room = [0; 4];
-    for byte in c.encode_utf8(&mut room).bytes() {
-        write!(f, "\\{:03o}", byte)?;
-    }
-    Ok(())
+    Ok(left.checked_sub(bytes.len()))
 }

@@ -6,6 +6,7 @@ ghost use Rattle.std.specs.Prelude.{◌≤◌, ◌<◌, ◌^◌};
 use crate::line_style::LineStyle;
 use arrayvec::ArrayVec;
 use itoa::Buffer;
+use std::fmt::{self, Formatter};
 
 /// A line on the stack, so that it allocates nothing and goes out in one put. It has room for numbers of
 /// any length that itoa writes.
@@ -172,6 +173,16 @@ fn percentage(length: u64, count: u64) -> u64 {
         return 100;
     }
     (count as u128 * 100 / length as u128).min(100) as u64
+}
+
+/// Shows a number of bytes with its unit.
+#[derive(Clone, Copy)]
+pub struct Size(pub u64);
+
+impl fmt::Display for Size {
+    fn fmt<W: fmt::Write>(&self, f: &mut Formatter<W>) -> fmt::Result {
+        f.write_str(str::from_utf8(size_line(self.0).as_slice()).unwrap_or(""))
+    }
 }
 
 /// A number of bytes, with its unit.

@@ -1,7 +1,7 @@
 //! How lines of progress follow one another.
 
 /// How lines of progress follow one another.
-#[derive(Clone, Copy, Debug, PartialEq, Eq)]
+#[derive(Clone, Copy)]
 pub enum LineStyle {
     /// Each is written over the one before it, as on a terminal.
     Rewritten,

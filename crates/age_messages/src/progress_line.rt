@@ -69,8 +69,6 @@ fn millis_since<C: Clock>(begun: Option<Instant>, clock: &C) -> u64 {
 }
 
 impl<O: Sink, C: Clock + Drop> Meter for ProgressLine<O, C> {
-    ghost count = { λ p. Some p.count };
-
     /// Writes nothing.
     fn begin(&mut self, length: Option<u64>) {
         self.length = length;

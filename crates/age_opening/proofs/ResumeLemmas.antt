@@ -357,7 +357,8 @@ module _ (keep : PositionPolicy) (Allows : Header → List ℕ → Type 0) (Refu
         by Read (inr f) = stops_in_skipped m Read skipped short all.consumed
             (subst (λ (k : ℕ). HasFailed k m.source.failed m.source.failing) s.unfailed f, g.2)
         by ReadNeverEnds (inr f) =
-            stops_in_skipped m ReadNeverEnds skipped short all.consumed (never_end m s1.writer.sink (head ++ skipped) all f.0)
+            stops_in_skipped m ReadNeverEnds skipped short all.consumed
+            (never_end m s1.writer.sink (head ++ skipped) all f.0, (f.1 ∙ s.unfailed, g.2))
         by other (inr f) = absurd f
 
       -- the blocks before were not all passed over

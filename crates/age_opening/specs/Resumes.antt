@@ -148,7 +148,7 @@ module _ (Allows : Header → List ℕ → Type 0) (e : Resumption) (old new : P
       × (fault.chunk ≡ length skipped / block_length) × IsAtEnd new.source.supply
       × NoneFailed old new
   InSkippedFails skipped Read = ReadFailed old new
-  InSkippedFails skipped ReadNeverEnds = NeverEndTogether e old new
+  InSkippedFails skipped ReadNeverEnds = NeverEndTogether e old new × NoneFailed old new
   InSkippedFails skipped other = ⊥
 
   -- a stop in the blocks that are skipped has the earlier output written, and the position that the

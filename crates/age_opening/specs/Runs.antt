@@ -188,6 +188,7 @@ PayloadFails Never old new r Read = (r.out ≡ run_text r) × HasNoFault r × Re
 PayloadFails Never old new r Write =
     ((length r.out < length (run_text r)) ⊎ ((run_outcome r).status ≡ Done)) × WriteFailed old new
 PayloadFails Never old new r ReadNeverEnds = (r.out ≡ run_text r) × HasNoFault r × Never
+    × NoneFailed old new
 PayloadFails Never old new r other = ⊥
 
 -- a run that stopped in its payload

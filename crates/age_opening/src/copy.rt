@@ -25,7 +25,7 @@ fn copy_chunk<S: Source, O: Sink>(
     ensures copied { CopiesChunk chunk_length (view_of_reader S.view reader.old)
         (view_of_reader S.view reader.new) (view_of_writer O.view writer.old)
         (view_of_writer O.view writer.new) result }
-    ensures same_reader { SameReader S.began reader.old reader.new }
+    ensures same_reader { SameReader S.view reader.old reader.new }
     ensures same_writer { SameWriter writer.old writer.new }
 {
     let mut digest = writer.tally.digest();
@@ -57,7 +57,7 @@ pub(crate) fn copy_chunks<S: Source, O: Sink>(
     ensures copied { CopiesAll chunk_length chunks (view_of_reader S.view reader.old)
         (view_of_reader S.view reader.new) (view_of_writer O.view writer.old)
         (view_of_writer O.view writer.new) result }
-    ensures same_reader { SameReader S.began reader.old reader.new }
+    ensures same_reader { SameReader S.view reader.old reader.new }
     ensures same_writer { SameWriter writer.old writer.new }
 {
     for _copied in 0..chunks {

@@ -2,7 +2,6 @@
 
 ghost use Rattle.std.specs.Prelude.{◌≡◌, ◌<◌, None};
 ghost use Rattle.age_chunk.specs.{chunk_limit};
-ghost use Rattle.age_io.specs.{Origin};
 ghost use Rattle.age_intake.specs.{ports, SameReader};
 ghost use Rattle.age_position.specs.declared.position.PositionPolicy.TheVariants.{Kept};
 ghost use Rattle.age_opening.specs.Decrypts.{Decrypts, DecryptsMarked, from_start};
@@ -114,7 +113,7 @@ pub(crate) fn open_payload<S: Source, O: Sink>(
     ensures opened { OpensPayload unlocked.now index
         (stage_of S.view O.view reader.old writer.old)
         (stage_of S.view O.view reader.new writer.new) result }
-    ensures same_reader { SameReader S.began reader.old reader.new }
+    ensures same_reader { SameReader S.view reader.old reader.new }
     ensures same_writer { SameWriter writer.old writer.new }
 {
     let key = payload_key(&unlocked.key, &unlocked.nonce);
@@ -142,7 +141,7 @@ pub fn decrypt<U: Unlock, S: Source, O: Sink>(
         (from_start (U.allows unlock.now) (U.refuses unlock.now))
         (ports (S.view reader.old) (O.view writer.old))
         (ports (S.view reader.new) (O.view writer.new)) result }
-    ensures began { (from : Origin) → S.began reader.old from → S.began reader.new from }
+    ensures named { (S.view reader.new).label ≡ (S.view reader.old).label }
 {
     decrypt_marked(alloc, PositionPolicy::Kept, Lent { unlock }, reader, writer).0
 }
@@ -160,7 +159,7 @@ pub fn decrypt_marked<U: Unlock + Drop, S: Source, O: Sink>(
         (from_start (U.allows unlock) (U.refuses unlock))
         (ports (S.view reader.old) (O.view writer.old))
         (ports (S.view reader.new) (O.view writer.new)) result.0 result.1 }
-    ensures began { (from : Origin) → S.began reader.old from → S.began reader.new from }
+    ensures named { (S.view reader.new).label ≡ (S.view reader.old).label }
 {
     let Ok(mut intake) = Intake::new(alloc) else {
         return (Err(Stopped::early(FileFault::Memory)), None);

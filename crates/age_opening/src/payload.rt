@@ -76,7 +76,7 @@ pub(crate) fn decrypt_payload<S: Source, O: Sink>(
     ensures decrypts { DecryptsPayload (opens key.now) chunk_length index
         (stage_of S.view O.view reader.old writer.old)
         (stage_of S.view O.view reader.new writer.new) result }
-    ensures same_reader { SameReader S.began reader.old reader.new }
+    ensures same_reader { SameReader S.view reader.old reader.new }
     ensures same_writer { SameWriter writer.old writer.new }
 {
     let mut opener = PayloadOpener::at(key, index);

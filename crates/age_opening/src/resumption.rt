@@ -2,7 +2,6 @@
 
 ghost use Rattle.std.specs.Prelude.{◌≡◌, ◌<◌, [], IfOk, IfErr};
 ghost use Rattle.age_chunk.specs.{chunk_limit};
-ghost use Rattle.age_io.specs.{Origin};
 ghost use Rattle.age_opening.specs.inner.{VerdictOn, StartsFor, StartForFails, HasRoomAfter};
 ghost use Rattle.age_opening.specs.inner.{ResumesRest, stage_of, CopiesOld};
 ghost use Rattle.age_intake.specs.{view_of_reader, SameReader, ports};
@@ -51,7 +50,7 @@ fn start_for<U: Unlock + Drop, S: Source>(
         (S.view reader.old.source.now) (view_of_reader S.view reader.new)) }
     ensures fails { IfErr result (StartForFails (U.allows unlock) (U.refuses unlock)
         position.now (S.view reader.old.source.now) (view_of_reader S.view reader.new)) }
-    ensures same { SameReader S.began reader.old reader.new }
+    ensures same { SameReader S.view reader.old reader.new }
 {
     let unlocked = start(alloc, unlock, reader)?;
     verify(&unlocked, position)?;
@@ -74,7 +73,7 @@ fn copy_old<L: Source, O: Sink>(
     ensures copied { CopiesOld positions position.now (L.view source.old) (L.view source.new)
         intake.old intake.new (view_of_writer O.view writer.old) (view_of_writer O.view writer.new)
         result }
-    ensures began { (from : Origin) → L.began source.old from → L.began source.new from }
+    ensures named { (L.view source.new).label ≡ (L.view source.old).label }
     ensures same_writer { SameWriter writer.old writer.new }
 {
     old_intake.count_on(intake);
@@ -103,7 +102,7 @@ fn resume_rest<S: Source, O: Sink>(
     ensures resumes { ResumesRest unlocked.now index
         (stage_of S.view O.view reader.old writer.old)
         (stage_of S.view O.view reader.new writer.new) result }
-    ensures same_reader { SameReader S.began reader.old reader.new }
+    ensures same_reader { SameReader S.view reader.old reader.new }
     ensures same_writer { SameWriter writer.old writer.new }
 {
     skip_blocks(reader, index)?;
@@ -136,9 +135,8 @@ pub fn resume<U: Unlock, S: Source, L: Source, O: Sink>(
         (L.view old_reader.old) (L.view old_reader.new)))
         (ports (S.view reader.old) (O.view writer.old))
         (ports (S.view reader.new) (O.view writer.new)) result }
-    ensures began { (from : Origin) → S.began reader.old from → S.began reader.new from }
-    ensures old_began { (from : Origin) → L.began old_reader.old from
-        → L.began old_reader.new from }
+    ensures named { (S.view reader.new).label ≡ (S.view reader.old).label }
+    ensures old_named { (L.view old_reader.new).label ≡ (L.view old_reader.old).label }
 {
     let (keep, unlock) = (PositionPolicy::Kept, Lent { unlock });
     resume_marked(alloc, keep, unlock, position, reader, old_reader, writer).0
@@ -160,9 +158,8 @@ pub fn resume_marked<U: Unlock + Drop, S: Source, L: Source, O: Sink>(
         (L.view old_reader.old) (L.view old_reader.new)))
         (ports (S.view reader.old) (O.view writer.old))
         (ports (S.view reader.new) (O.view writer.new)) result.0 result.1 }
-    ensures began { (from : Origin) → S.began reader.old from → S.began reader.new from }
-    ensures old_began { (from : Origin) → L.began old_reader.old from
-        → L.began old_reader.new from }
+    ensures named { (S.view reader.new).label ≡ (S.view reader.old).label }
+    ensures old_named { (L.view old_reader.new).label ≡ (L.view old_reader.old).label }
 {
     let (Ok(mut intake), Ok(old_intake)) = (Intake::new(alloc), Intake::new(alloc)) else {
         return (Err(Stopped::early(FileFault::Memory)), None);

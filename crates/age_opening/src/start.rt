@@ -60,7 +60,7 @@ pub(crate) fn need_bytes<S: Source>(
         (view_of_reader S.view reader.new)) }
     ensures none { IfErr result (Dries at_end (view_of_reader S.view reader.old)
         (view_of_reader S.view reader.new) []) }
-    ensures same { SameReader S.began reader.old reader.new }
+    ensures same { SameReader S.view reader.old reader.new }
 {
     if reader.intake.bytes().is_empty() && !reader.intake.refill(reader.source)? {
         return Err(at_end);
@@ -74,7 +74,7 @@ fn skip_some<S: Source>(reader: &mut Reader<'_, S>, most: u128) -> u128
     ensures bound { result ≤ most }
     ensures skipped { (bytes : List ℕ) × (length bytes ≡ result)
         × Passes (view_of_reader S.view reader.old) (view_of_reader S.view reader.new) bytes }
-    ensures same { SameReader S.began reader.old reader.new }
+    ensures same { SameReader S.view reader.old reader.new }
 {
     let n = most.min(reader.intake.bytes().len() as u128);
     reader.intake.use_front(n as usize);
@@ -92,7 +92,7 @@ pub(crate) fn skip_blocks<S: Source>(
 ) -> Result<(), FileFault>
     ensures skipped { SkipsBlocks block_length blocks (view_of_reader S.view reader.old)
         (view_of_reader S.view reader.new) result }
-    ensures same { SameReader S.began reader.old reader.new }
+    ensures same { SameReader S.view reader.old reader.new }
 {
     let all = u128::from(blocks) * BLOCK_LEN as u128;
     let mut left = all - skip_some(reader, all);
@@ -127,7 +127,7 @@ fn take_nonce<S: Source>(reader: &mut Reader<'_, S>) -> Result<[u8; PAYLOAD_NONC
         (view_of_reader S.view reader.new)) }
     ensures fails { IfErr result (NonceFails (view_of_reader S.view reader.old)
         (view_of_reader S.view reader.new)) }
-    ensures same { SameReader S.began reader.old reader.new }
+    ensures same { SameReader S.view reader.old reader.new }
 {
     let mut nonce = [0; PAYLOAD_NONCE_LEN];
     let mut have = 0;
@@ -152,7 +152,7 @@ pub(crate) fn start<U: Unlock + Drop, S: Source>(
         (view_of_reader S.view reader.new)) }
     ensures fails { IfErr result (StartFails (U.allows unlock) (U.refuses unlock)
         (S.view reader.old.source.now) (S.view reader.new.source.now)) }
-    ensures same { SameReader S.began reader.old reader.new }
+    ensures same { SameReader S.view reader.old reader.new }
 {
     let head = read_head(alloc, reader)?;
     let key = open_header(alloc, &head.header, &unlock, &mut Steps::new())?;

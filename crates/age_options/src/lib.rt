@@ -1,6 +1,10 @@
 //! What is asked of a file that is written: when it reaches the disk, and whether it may take an
-//! existing one's place.
+//! existing one's place; and what is said of a file with which something failed.
 #![tactic(auto)]
+
+mod error_context;
+
+pub use error_context::{Action, ErrorContext, Failure, FirstBytes, ReadSummary};
 
 /// When a file that was written reaches the disk.
 #[derive(Clone, Copy, Debug, PartialEq, Eq)]

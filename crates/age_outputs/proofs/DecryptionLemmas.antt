@@ -1,31 +1,30 @@
 -- What a decryption did whose engine ran, resumed or not.
-use Rattle.std.proofs.Common.{◌≡◌, ◌⊎◌, ◌++◌, ◌≤◌, ◌<◌, [], ap, inl, inr, ℕ, List, Bool, Option, Some, None, true, true≢false, Result, Ok, Err, OnOk, OnErr, IsErr, IfErr, MatchResult, sym, subst, refl}
+use Rattle.std.proofs.Common.{◌∙◌, ◌≡◌, ◌⊎◌, ◌≤◌, ◌<◌, ap, inl, inr, ℕ, Option, Some, None, true, true≢false}
+use Rattle.std.proofs.Common.{Result, Ok, Err, OnOk, IfErr, MatchResult, sym, subst, refl}
 use Rattle.std.proofs.lemmas.Result.{on_ok_weaker, IfErr-weaker}
 use Rattle.std.specs.Prelude.{is_some, IfSome, IsSomeAnd, option_map}
 use Rattle.clap.specs.Words.{Text}
-use Rattle.age_io.specs.{SinkView, SourceView, Origin}
-use Rattle.age_io.specs.Supply.{Supply}
-use Rattle.age_opening.specs.{Beginning, DecryptEnds, DecryptStops, DecryptsMarked, FindsMarks, IsMarked, MarksView, Resumption, Run, from_either}
+use Rattle.age_io.specs.{SinkView, SourceView}
+use Rattle.age_opening.specs.{Beginning, DecryptEnds, DecryptStops, DecryptsMarked, FindsMarks, IsMarked}
+use Rattle.age_opening.specs.{MarksView, Resumption, Run, from_either}
 use Rattle.age_intake.specs.{Ports, ports}
 use Rattle.age_opening.specs.declared.decryption.Done.{Done}
 use Rattle.age_opening.specs.declared.decryption.Stopped.{Stopped}
 use Rattle.age_position.specs.declared.position.Position.{Position}
 use Rattle.age_position.specs.declared.position.PositionPolicy.{PositionPolicy}
 use Rattle.age_position.specs.declared.position.PositionPolicy.TheVariants.{Kept, Dropped}
-use Rattle.age_fileset.specs.{FilesView, CameSince, Outcome, Found, Gave, Settled, reading_of}
+use Rattle.age_fileset.specs.{FilesView, Outcome, Found, Gave, Settled, reading_of}
 use Rattle.age_cli_args.specs.{option_text}
-use Rattle.age_cli_args.specs.declared.request.ProgressOption.TheVariants.{Shown, Silent}
 use Rattle.age_command.specs.{allows_by, refuses_by}
 use Rattle.age_command.specs.declared.ending.Ending.{Ending}
 use Rattle.age_command.specs.declared.identity.Identity.{Identity}
-use Rattle.age_outputs.specs.{Engine, GoesOn, Reached, decrypt_engine, kept_for, start_of, EndsText, IsPlaced, StopsText}
-use Rattle.age_outputs.specs.{PortsOf, missing_at}
+use Rattle.age_outputs.specs.{Engine, GoesOn, Reached, decrypt_engine, kept_for, start_of, EndsText, IsPlaced}
+use Rattle.age_outputs.specs.{StopsText, PortsOf, missing_at}
 use Rattle.age_outputs.specs.declared.decrypt_command.OldText.{OldText}
 use Rattle.age_outputs.specs.declared.output.Writing.{Writing}
-use Rattle.age_outputs.specs.inner.{Concludes, IsNewOld, IsPlacedBy, IsSameOld, RunsEngine, earlier_of, end_of, goes_on, own_of}
+use Rattle.age_outputs.specs.inner.{Concludes, IsNewOld, IsPlacedBy, IsSameOld, RunsEngine, earlier_of}
+use Rattle.age_outputs.specs.inner.{end_of, goes_on, own_of}
 use Rattle.age_outputs.proofs.EngineLemmas.{the_some}
-use Rattle.age_outputs.proofs.PutLemmas.{concluded}
-use Rattle.age_outputs.proofs.FinalLemmas.{ended_with}
 
 -- ---- The position of a stop, by the marks of its run.
 
@@ -65,11 +64,9 @@ module _ (keep : PositionPolicy) (start : Option Position) (settled : ℕ) (Ends
 
 -- ---- It ran, and OUT was ended.
 
-module _ (IsPorts : Ports → Type 0) (Later : Outcome → Type 0) (w : Writing) (i : Identity) (earlier : Option (Position × Text)) (from : Option Resumption)
+module _ (IsPorts : Ports → Type 0) (First Later : Outcome → Type 0) (w : Writing) (i : Identity) (earlier : Option (Position × Text)) (from : Option Resumption)
     (before after : Ports) (after_is : IsPorts after) (goes : (P : Option Resumption → Ports → Ports → Type 0) → P from before after
-    → GoesOn IsPorts Later earlier P before after) (old new : FilesView) (later : (o : Outcome) → CameSince old new o → Later o)
-    (over : CameSince old new (Gave (reading_of w.paths.from.now after.source))) (Unshown : Type 0) (Progress : Supply → Supply → Type 0)
-    (silent : w.paths.progress ≡ Silent → Unshown) (shown : w.paths.progress ≡ Shown → Progress before.source.supply after.source.supply) where
+    → GoesOn IsPorts First earlier P before after) (old new : FilesView) (over : First (Gave (reading_of after.source))) (named : after.source.label ≡ w.paths.from.now) where
   abbrev keep : PositionPolicy
   keep = kept_for (option_text w.save)
 
@@ -83,12 +80,12 @@ module _ (IsPorts : Ports → Type 0) (Later : Outcome → Type 0) (w : Writing)
   Stops = DecryptStops keep (allows_by i) (begun from) before after
 
   abbrev engine : Engine
-  engine = decrypt_engine IsPorts Later (option_text w.save) i earlier
+  engine = decrypt_engine IsPorts First (option_text w.save) i earlier
 
   pub runs_opened : (end : Result Done Stopped) (marks : Option MarksView) (place : Reached) (r : Result (Unit {0}) Ending)
       → DecryptsMarked keep (allows_by i) (begun from) before after end marks → IsPlacedBy marks (start_of earlier) place.settled (own_of end) place.position
-      → (is_some (option_text w.save) ≡ true → CameSince old new (Settled w.paths.durability after.sink.taken.bytes place.settled))
-      → Concludes (option_text w.save) w.paths.durability after.sink (end_of end) place old new r → RunsEngine IsPorts Later engine w.paths before old new Unshown Progress r
+      → (is_some (option_text w.save) ≡ true → Later (Settled w.paths.durability after.sink.taken.bytes place.settled))
+      → Concludes (option_text w.save) w.paths.durability after.sink (end_of end) place old new r → RunsEngine IsPorts First Later engine w.paths before old new r
   runs_opened end marks place r asked placed certain concludes =
       let run = asked.is.run in
       let start = start_of earlier in
@@ -97,7 +94,8 @@ module _ (IsPorts : Ports → Type 0) (Later : Outcome → Type 0) (w : Writing)
       record {
         after = after;
         after_is = after_is;
-        over = later (Gave (reading_of w.paths.from.now after.source)) over;
+        over = over;
+        from = named;
         end = end_of end;
         place = place;
         ends = on_ok_weaker (end_of end) (λ did. (
@@ -108,12 +106,8 @@ module _ (IsPorts : Ports → Type 0) (Later : Outcome → Type 0) (w : Writing)
         stops = IfErr-weaker (end_of end) _ _ (λ fault. goes (λ from before after. StopsText keep start (DecryptStops keep (allows_by i) (begun from) before after) place.settled fault
             place.position)) (stops_so keep start place.settled Ends Stops place.position run end asked.is.answers at);
         named = asked.is.named;
-        certain = λ saves. later (Settled w.paths.durability after.sink.taken.bytes place.settled) (certain saves);
+        certain = certain;
         concludes = concludes;
-        silent = silent;
-        shown = shown;
-        whole = ended_with _ (end_of end) r _ (on_ok_weaker (end_of end) (λ did. did.2.1.is.at_end did.2.1.ended) ended)
-            (concluded (option_text w.save) w.paths.durability after.sink (end_of end) place old new r concludes).done;
       }
 
 -- ---- Where it goes on.
@@ -123,12 +117,12 @@ if_some None so p = tt
 if_some (Some x) so p = so x p
 
 -- the earlier output was read, if there is one
-pub went_on : {In Out : Type 0} (read : In → SourceView) (wrote : Out → SinkView) (size : In → Option ℕ) (began : In → Origin → Type 0) (First Later : Outcome → Type 0)
-    → ((o : Outcome) → First o → Later o) → (old new : Option (OldText In)) → IsSameOld began old new → IfSome old (IsNewOld read size First)
-    → IfSome new (λ e. Later (Gave (reading_of e.name.now (read e.source)))) → (out : Out × Out) (first last : SourceView)
+pub went_on : {In Out : Type 0} (read : In → SourceView) (wrote : Out → SinkView) (size : In → Option ℕ) (First Later : Outcome → Type 0)
+    → ((o : Outcome) → First o → Later o) → (old new : Option (OldText In)) → IsSameOld read old new → IfSome old (λ e. (read e.source).label ≡ e.name.now) → IfSome old (IsNewOld read size First)
+    → IfSome new (λ e. Later (Gave (reading_of (read e.source)))) → (out : Out × Out) (first last : SourceView)
     → (P : Option Resumption → Ports → Ports → Type 0) → P (goes_on read old new) (ports first (wrote out.0)) (ports last (wrote out.1))
     → GoesOn (PortsOf read wrote) Later (option_map earlier_of old) P (ports first (wrote out.0)) (ports last (wrote out.1))
-went_on read wrote size began First Later so (Some o) (Some n) same fresh over out first last P did = (
+went_on read wrote size First Later so (Some o) (Some n) same named fresh over out first last P did = (
   read o.source,
   read n.source,
   record { source = o.source; sink = out.0; is = refl },
@@ -137,10 +131,11 @@ went_on read wrote size began First Later so (Some o) (Some n) same fresh over o
     unread = fresh.0;
     size = size o.source;
     found = so (Found (missing_at o.position) o.name.now (read o.source).supply.left (size o.source)) fresh.1;
-    over = subst (λ (name : Text). Later (Gave (reading_of name (read n.source)))) same.0 over;
+    over = over;
+    named = same.1 ∙ named;
   },
   did,
 )
-went_on read wrote size began First Later so None None same fresh over out first last P did = did
-went_on read wrote size began First Later so (Some o) None same fresh over out first last P did = absurd same
-went_on read wrote size began First Later so None (Some n) same fresh over out first last P did = absurd same
+went_on read wrote size First Later so None None same named fresh over out first last P did = did
+went_on read wrote size First Later so (Some o) None same named fresh over out first last P did = absurd same
+went_on read wrote size First Later so None (Some n) same named fresh over out first last P did = absurd same

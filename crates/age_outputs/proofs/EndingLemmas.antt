@@ -1,38 +1,15 @@
--- How a command ended, or will when it is concluded, and what is reported of it.
-use Rattle.std.proofs.Common.{◌≡◌, subst, sym, inl, inr, ℕ, true≢false, false, true, Result, Ok, Err}
-use Rattle.std.specs.Prelude.{IsErr, IsErrAnd, is_err}
+-- How a command ended, or will when it is concluded.
+use Rattle.std.proofs.Common.{◌≡◌, subst, sym, inl, Result, Ok, Err}
+use Rattle.std.specs.Prelude.{IsErr, IsErrAnd}
 use Rattle.std.proofs.lemmas.Result.{IfErr-weaker, on_ok_weaker}
-use Rattle.age_io.specs.{SinkView, HasRisen}
-use Rattle.age_io.proofs.{Appends-trans}
-use Rattle.age_fault.specs.declared.fault.FileFault.{FileFault}
+use Rattle.age_intake.specs.{Ports}
 use Rattle.age_fileset.specs.{FilesView}
-use Rattle.age_command.specs.{PutsAll, ReportsEnding, fault_line}
+use Rattle.age_cli_args.specs.declared.request.Request.{Request}
 use Rattle.age_command.specs.declared.ending.Ending.{Ending}
-use Rattle.age_command.specs.declared.ending.Ending.TheVariants.{Fault, Unsaved}
-use Rattle.age_outputs.specs.Acts.{Concluding, Finally}
+use Rattle.age_outputs.specs.{HasNotBegun}
+use Rattle.age_outputs.specs.Acts.{Acts, Concluding, Finally}
 use Rattle.age_outputs.specs.declared.interruption.Unfinished.{Unfinished}
 use Rattle.age_outputs.specs.declared.interruption.Unfinished.TheVariants.{Ended}
-
--- ---- What is put to the sink of faults.
-
--- the line of a stop, and nothing more
-pub told_alone : (fault : FileFault) (told : Result (Unit {0}) FileFault) (old new : SinkView) → PutsAll (fault_line fault) old new told → ReportsEnding (Fault fault) old new
-told_alone fault (Ok done) old new puts = inl puts.taken
-told_alone fault (Err e) old new puts = inr puts.risen
-
--- and then that of a second fault
-pub told_both : (fault second : FileFault) (first then : Result (Unit {0}) FileFault) (old mid new : SinkView) → is_err first ≡ false → PutsAll (fault_line fault) old mid first
-    → PutsAll (fault_line second) mid new then → ReportsEnding (Unsaved fault second) old new
-told_both fault second (Ok x) (Ok y) old mid new is first puts =
-    inl (Appends-trans old.taken mid.taken new.taken (fault_line fault) (fault_line second) first.taken puts.taken)
-told_both fault second (Ok x) (Err e) old mid new is first puts = inr (subst (λ (n : ℕ). HasRisen n new.failed) first.same puts.risen)
-told_both fault second (Err e) then old mid new is first puts = absurd (true≢false is)
-
--- unless the first couldn't be put
-pub told_none : (fault second : FileFault) (first : Result (Unit {0}) FileFault) (old new : SinkView) → is_err first ≡ true → PutsAll (fault_line fault) old new first
-    → ReportsEnding (Unsaved fault second) old new
-told_none fault second (Ok x) old new is first = absurd (true≢false (sym is))
-told_none fault second (Err e) old new is first = inr first.risen
 
 -- ---- What is unfinished.
 
@@ -55,3 +32,8 @@ finally_as r so p = record {
   done = on_ok_weaker r (λ all. so _ (Ok tt) all) p.done;
   unfinished = IfErr-weaker r _ _ (λ u rest new ending concluded. so new (Err ending) (rest new ending concluded)) p.unfinished;
 }
+
+-- a command that ended before its engine ran
+pub acts_before : {IsPorts : Ports → Type 0} {asked : Request} {before after : FilesView} (r : Result (Unit {0}) Unfinished) (e : Ending)
+    → IsErr r × IsErrAnd r (λ u. u ≡ Ended e) → HasNotBegun before after → Finally (λ files. Acts IsPorts asked before files) after r
+acts_before r e is none = ended_finally r e is (record { done = tt; stopped = inl none })

@@ -1,6 +1,6 @@
 -- What becomes of OUT, from what an engine promises and how OUT was ended.
-use Rattle.std.proofs.Common.{◌≡◌, ◌∙◌, ◌⊎◌, ◌++◌, ◌∷◌, ◌<◌, ℕ, ap, sym, subst, refl, inl, inr, true, true≢false, List, [], Option, Some, None, Result, Ok, Err}
-use Rattle.std.proofs.Common.{OnOk, IfOk, IfErr}
+use Rattle.std.proofs.Common.{◌≡◌, ◌∙◌, ◌⊎◌, ◌++◌, ◌∷◌, ◌<◌, ℕ, ap, sym, subst, refl, inl, inr, true}
+use Rattle.std.proofs.Common.{true≢false, List, [], Option, Some, None, Result, Ok, Err, OnOk, IfOk, IfErr}
 use Rattle.std.specs.Prelude.{IsSomeAnd, IfSome, MatchOption, is_some, ◌≢◌, Contains, Bool, false}
 use Rattle.clap.specs.Words.{Text}
 use Rattle.age_intake.specs.{Ports}
@@ -9,14 +9,14 @@ use Rattle.age_sealing.specs.declared.encryption.Written.{Written}
 use Rattle.age_sealing.specs.Encrypts.{Encrypts}
 use Rattle.age_fault.specs.declared.fault.FileFault.{FileFault}
 use Rattle.age_fault.specs.declared.fault.FileFault.TheVariants.{Write}
-use Rattle.age_fileset.specs.{Event, FilesView, Close, Outcome, Absent, Unwritten, Settled, Put, Entry, entry, PutsOnly, CameSince}
+use Rattle.age_fileset.specs.{FilesView, Outcome, Absent, Settled, Put, Entry, entry, PutsOnly, CameSince}
 use Rattle.age_fileset.specs.declared.files.Missing.TheVariants.{Fails}
 use Rattle.age_fileset.proofs.{grows_then}
 use Rattle.age_options.specs.declared.ClobberOption.TheVariants.{Refused}
 use Rattle.age_cli_args.specs.declared.request.Paths.{Paths}
-use Rattle.age_command.specs.{Follows}
 use Rattle.age_command.specs.declared.ending.Ending.{Ending}
-use Rattle.age_calls.specs.{EndedFile, IsAtName, OutFile, TouchesItself, TouchesFile, FileCall, Opened, opening_of, is_waited, AllAnswered}
+use Rattle.age_calls.specs.{EndedFile, IsAtName, OutFile, TouchesItself, TouchesFile, FileCall, Opened}
+use Rattle.age_calls.specs.{opening_of, is_waited, AllAnswered}
 use Rattle.age_calls.specs.declared.opening.Kind.TheVariants.{Regular}
 use Rattle.age_calls.specs.declared.opening.Opening.{Opening}
 use Rattle.age_calls.specs.declared.opening.Opening.TheVariants as way
@@ -24,9 +24,10 @@ use Rattle.age_calls.specs.Disk.{Disk}
 use Rattle.age_calls.specs.Ends.{OpensDevice}
 use Rattle.age_calls.proofs.LawLemmas.{calls_answered}
 use Rattle.age_outputs.specs.Acts.{IsAnsweredOnce, Stopping, Unended}
-use Rattle.age_outputs.specs.{WasRead, Engine, encrypt_engine, Returned, HasEngineEnded, HasEngineStopped, Reached}
+use Rattle.age_outputs.specs.{WasRead, Engine, encrypt_engine, Returned, HasEngineEnded, HasEngineStopped}
+use Rattle.age_outputs.specs.{Reached}
 use Rattle.age_outputs.specs.inner.{AreNew, sealing_end, Concludes, IsLeft, IsPut, IsUnended, SavesStop}
-use Rattle.age_outputs.proofs.PutLemmas.{due_as, saved_as, put_came}
+use Rattle.age_outputs.proofs.PutLemmas.{due_as, put_came}
 
 -- ---- What an engine promises, by how it ended.
 
@@ -67,11 +68,11 @@ answered_once e touches = answered_by e.file e.calls touches
 
 -- ---- What becomes of the file of OUT, and of the position.
 
-module _ (IsPorts : Ports → Type 0) (Came : Outcome → Type 0) (engine : Engine) (p : Paths) (before after : Ports)
-    (before_is : IsPorts before) (after_is : IsPorts after) (new : AreNew before) (input : WasRead Came Fails p.from.now before.source after.source)
-    (fresh : p.clobber ≡ Refused → Came (Absent p.to.now)) (named : after.sink.taken.label ≡ p.to.now) where
+module _ (IsPorts : Ports → Type 0) (First Came : Outcome → Type 0) (engine : Engine) (p : Paths) (before after : Ports)
+    (before_is : IsPorts before) (after_is : IsPorts after) (new : AreNew before) (input : WasRead First Fails p.from.now before.source after.source)
+    (fresh : p.clobber ≡ Refused → First (Absent p.to.now)) (named : after.sink.taken.label ≡ p.to.now) where
   abbrev returned : (e : Option EndedFile) (out : EndedFile) → e ≡ Some out → out.took ≡ after.sink.taken.bytes → IsAtName after.sink.taken.label out
-      → Returned IsPorts Came p e
+      → Returned IsPorts First Came p e
   returned e out is took at = record {
     before = before;
     after = after;
@@ -95,7 +96,7 @@ module _ (IsPorts : Ports → Type 0) (Came : Outcome → Type 0) (engine : Engi
 
   module _ (old mid now : FilesView) (opened : PutsOnly [] old mid) (late : (o : Outcome) → CameSince mid now o → Came o) where
     pub engine_ended : (end : Result (Unit {0}) FileFault) (place : Reached) → OnOk end (engine.ends before after × (after.sink.failed ≡ before.sink.failed)) → (r : Result (Unit {0}) Ending)
-        → Concludes engine.save p.durability after.sink end place mid now r → OnOk r (HasEngineEnded IsPorts Came engine p old now)
+        → Concludes engine.save p.durability after.sink end place mid now r → OnOk r (HasEngineEnded IsPorts First Came engine p old now)
     engine_ended (Ok x) place did (Ok y) c =
         let o = the_some now.ended c.ended in
         record {
@@ -120,17 +121,16 @@ module _ (IsPorts : Ports → Type 0) (Came : Outcome → Type 0) (engine : Engi
     out_so out took puts (inl none) = inl none
     out_so out took puts (inr (all, some)) = inr (all ∙ ap (λ (x : Entry). x ∷ []) (same_entry out took), (λ none. some (sym took ∙ none)))
 
-    pub engine_stopped : (done : List Event) → (now.events ≡ mid.events ++ Close p.durability ∷ [] → Follows done old.events now.events) → (end : Result (Unit {0}) FileFault)
-        → (place : Reached) → OnOk end (engine.ends before after × (after.sink.failed ≡ before.sink.failed))
+    pub engine_stopped : (end : Result (Unit {0}) FileFault) → (place : Reached) → OnOk end (engine.ends before after × (after.sink.failed ≡ before.sink.failed))
         → OnOk end (engine.unended place.settled place.position before after) → IfErr end (λ f. engine.stops place.settled f place.position before after)
         → (is_some engine.save ≡ true → Came (Settled p.durability after.sink.taken.bytes place.settled)) → (r : Result (Unit {0}) Ending)
-        → Concludes engine.save p.durability after.sink end place mid now r → IfErr r (λ e. HasEngineStopped IsPorts Came engine p done e old now)
-    engine_stopped done closed end place did placed stops certain r c = go end r did placed stops c where
+        → Concludes engine.save p.durability after.sink end place mid now r → IfErr r (λ e. HasEngineStopped IsPorts First Came engine p e old now)
+    engine_stopped end place did placed stops certain r c = go end r did placed stops c where
       stopped : (IsFile : EndedFile → Type 0) (fault : FileFault) (e : Ending) → SavesStop engine.save p.durability after.sink IsFile fault place mid now e
           → ((out : EndedFile) → IsFile out → (out.took ≡ after.sink.taken.bytes) × IsAtName after.sink.taken.label out × TouchesItself out)
           → ((out : EndedFile) (is : now.ended ≡ Some out) (took : out.took ≡ after.sink.taken.bytes) (at : IsAtName after.sink.taken.label out) → IsFile out
-          → Stopping IsPorts Came engine p place.settled fault place.position (returned now.ended out is took at)
-          ⊎ Unended IsPorts Came engine p place.settled fault place.position (returned now.ended out is took at)) → HasEngineStopped IsPorts Came engine p done e old now
+          → Stopping IsPorts First Came engine p place.settled fault place.position (returned now.ended out is took at)
+          ⊎ Unended IsPorts First Came engine p place.settled fault place.position (returned now.ended out is took at)) → HasEngineStopped IsPorts First Came engine p e old now
       stopped IsFile fault e c left cause =
           let o = the_some now.ended c.ended in
           let was = left o.0 o.2 in
@@ -151,17 +151,17 @@ module _ (IsPorts : Ports → Type 0) (Came : Outcome → Type 0) (engine : Engi
             out = out_so o.0 took c.outs c.out;
             due = c.due;
             is_due = due_as (CameSince mid now) Came late place.position engine.save c.due c.is_due;
-            saved = saved_as (CameSince mid now) Came late closed p.durability place.settled c.due engine.save c.how c.rest now.saved c.saved;
+            saved = c.saved;
           }
 
       go : (end : Result (Unit {0}) FileFault) (r : Result (Unit {0}) Ending) → OnOk end (engine.ends before after × (after.sink.failed ≡ before.sink.failed))
           → OnOk end (engine.unended place.settled place.position before after) → IfErr end (λ f. engine.stops place.settled f place.position before after)
-          → Concludes engine.save p.durability after.sink end place mid now r → IfErr r (λ e. HasEngineStopped IsPorts Came engine p done e old now)
-      go (Ok x) (Err e) did placed stops c = stopped (IsUnended p.durability after.sink) Write e c.0 (λ out left. (left.1.took, left.1.at, left.1.within)) (λ out is took at left. inr (record {
+          → Concludes engine.save p.durability after.sink end place mid now r → IfErr r (λ e. HasEngineStopped IsPorts First Came engine p e old now)
+      go (Ok x) (Err e) did placed stops c = stopped (IsUnended p.durability after.sink) Write e c (λ out left. (left.1.took, left.1.at, left.1.within)) (λ out is took at left. inr (record {
         promise = did.0;
         placed = placed;
         is = refl;
-        said = subst (λ (n : Text). Came (Unwritten n)) named (late (Unwritten after.sink.taken.label) c.1);
+        closed = left.1.closed;
         caused = subst (λ (x : Option OutFile). IfSome x (λ y. 0 < out.failed)) (sym left.1.same) left.1.caused;
       }))
       go (Err f) (Err e) did placed stops c = stopped (IsLeft p.durability after.sink) f e c (λ out left. (left.took, left.at, left.within)) (λ out is took at left. inl (record {

@@ -1,9 +1,8 @@
 -- What the commands that write OUT find in the options and the files.
-use Rattle.std.specs.Prelude.{◌≡◌, ℕ, List, [], ◌++◌, length, Option, ◌⊎◌, ◌<◌, ◌==◌, if◌then◌else◌}
+use Rattle.std.specs.Prelude.{◌≡◌, ℕ, List, [], ◌++◌, length, Option, ◌==◌, if◌then◌else◌}
 use Rattle.age_io.specs.{SourceView}
 use Rattle.age_keys.specs.{IsAllowed}
 use Rattle.age_sealing.specs.{SecretView}
-use Rattle.age_position.specs.{NoPosition}
 use Rattle.age_position.specs.declared.position.Position.{Position}
 use Rattle.age_fileset.specs.{Outcome, Found, Gave, reading_of}
 use Rattle.age_fileset.specs.declared.files.Missing.{Missing}
@@ -23,7 +22,8 @@ pub record WasRead (Came : Outcome → Type 0) (missing : Missing) (name : Text)
   -- how long it is, if the set of files can say
   pub size : Option ℕ
   pub found : Came (Found missing name first.supply.left size)
-  pub over : Came (Gave (reading_of name last))
+  pub over : Came (Gave (reading_of last))
+  pub named : last.label ≡ name
 
 -- ---- What `encrypt` makes a file of.
 
@@ -42,10 +42,6 @@ pub record MakesSecret (GaveAll Gave : Text → List ℕ → Type 0) (asked : En
   pub nonce_length : length s.nonce ≡ 16
 
 -- ---- Where `resume` begins.
-
--- these bytes are no position: none is longer than 256 bytes
-abbrev pub HoldsNoPosition : List ℕ → Type 0
-HoldsNoPosition held = (256 < length held) ⊎ NoPosition held
 
 -- at chunk 0 nothing of the earlier output is needed, and a missing one counts as empty
 abbrev pub missing_at : Position → Missing

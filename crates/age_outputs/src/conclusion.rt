@@ -1,7 +1,6 @@
 //! How a decryption ends, and where it can continue.
 
-ghost use Rattle.std.specs.Prelude.{◌≡◌, ◌⊎◌, ◌≤◌, ◌<◌, [], Some, IfSome, option_map};
-ghost use Rattle.age_io.specs.{Named};
+ghost use Rattle.std.specs.Prelude.{◌≡◌, ◌⊎◌, ◌≤◌, ◌<◌, Some, IfSome, option_map};
 ghost use Rattle.age_fileset.specs.{CameSince, Does, Gave, reading_of};
 ghost use Rattle.age_cli_args.specs.{option_text};
 ghost use Rattle.age_outputs.specs.{kept_for, start_of};
@@ -10,7 +9,7 @@ ghost use Rattle.age_outputs.specs.inner.{IsPlacedBy, earlier_of, end_of, own_of
 use crate::decrypt_command::OldText;
 use crate::interruption::Reached;
 use age_fault::FileFault;
-use age_fileset::FileSet;
+use age_fileset::{ErrorContext, FileError, FileSet};
 use age_io::Source;
 use age_opening::{Done, Marks, Stopped};
 use age_position::{Position, PositionPolicy};
@@ -97,14 +96,37 @@ pub(crate) fn end_of(end: &Result<Done, Stopped>) -> Result<(), FileFault>
     }
 }
 
-/// Ends the reading of the earlier output, if there is one.
-pub(crate) fn finish_old<'w, F: FileSet<'w>>(files: &mut F, earlier: Option<OldText<'w, F::In>>)
-    requires { IfSome earlier (λ e. F.In.began e.source (Named e.name.now)) }
-    ensures does { Does [] (F.view files.old) (F.view files.new) }
-    ensures over { IfSome earlier.entry (λ e. CameSince (F.view files.old) (F.view files.new)
-        (Gave (reading_of e.name.now (F.In.view e.source)))) }
+/// Returns how an engine ended, its fault with a context: that of the output, if it couldn't be
+/// written; else that of the earlier output, if it couldn't be read, or of the input.
+pub(crate) fn attach_context<'w>(
+    end: Result<(), FileFault>,
+    out: ErrorContext<'w>,
+    earlier: ErrorContext<'w>,
+    input: ErrorContext<'w>,
+) -> Result<(), FileError<'w>>
+    ensures { result ≡ end }
 {
-    if let Some(old) = earlier {
-        files.finish(old.source);
+    match end {
+        Ok(()) => Ok(()),
+        Err(FileFault::Write) => Err(FileError::new(FileFault::Write, out)),
+        Err(fault) => match earlier {
+            ErrorContext::Failed(_) => Err(FileError::new(fault, earlier)),
+            _ => Err(FileError::new(fault, input)),
+        },
+    }
+}
+
+/// Ends the reading of the earlier output, if there is one.
+pub(crate) fn close_old<'w, F: FileSet<'w>>(
+    files: &mut F,
+    earlier: Option<OldText<'w, F::In>>,
+) -> ErrorContext<'w>
+    ensures does { Does (F.view files.old) (F.view files.new) }
+    ensures over { IfSome earlier.entry (λ e. CameSince (F.view files.old) (F.view files.new)
+        (Gave (reading_of (F.In.view e.source)))) }
+{
+    match earlier {
+        Some(old) => files.close_input(old.source),
+        None => ErrorContext::Nothing,
     }
 }

@@ -1,26 +1,20 @@
 //! How a file is decrypted, from its start or from a position, and the command that begins at its start.
 
-ghost use Rattle.std.specs.Prelude.{◌≡◌, ℕ, List, IfSome, option_map};
+ghost use Rattle.std.specs.Prelude.{◌≡◌, [], IfSome, option_map};
 ghost use Rattle.age_opening.specs.{DecryptsMarked, from_either};
 ghost use Rattle.age_intake.specs.{ports};
 ghost use Rattle.age_cli_args.specs.{option_text};
-ghost use Rattle.age_cli_args.specs.declared.request.ProgressOption.TheVariants.{Silent, Shown};
 ghost use Rattle.age_cli_args.specs.declared.request.Request.TheVariants.{Decrypt};
-ghost use Rattle.age_command.specs.{NamesTwice, allows_by, identity_order, refuses_by};
-ghost use Rattle.age_io.specs.{Named, Origin};
-ghost use Rattle.age_fileset.specs.{CameSince, FilesView, Outcome};
-ghost use Rattle.age_outputs.specs.Acts.{Acts, Finally};
-ghost use Rattle.age_outputs.specs.{OpensNone, OpensOf, PortsOf, ShowsProgress, decrypt_engine};
-ghost use Rattle.age_outputs.specs.{kept_for};
-ghost use Rattle.age_outputs.specs.inner.{EndsBy, IsBlamedBy, IsNewOld, IsSameOld, OpensFiles, RunsEngine};
-ghost use Rattle.age_outputs.specs.inner.{ShowsRun, earlier_of, goes_on, order_in};
+ghost use Rattle.age_command.specs.{allows_by, refuses_by};
+ghost use Rattle.age_fileset.specs.{CameSince, FilesView, PutsOnly};
+ghost use Rattle.age_outputs.specs.Acts.{Acts, CameFirst, Finally};
+ghost use Rattle.age_outputs.specs.{OpensOf, PortsOf, decrypt_engine, kept_for};
+ghost use Rattle.age_outputs.specs.inner.{IsNewOld, IsSameOld, OpensFiles, RunsEngine, earlier_of, goes_on};
 
-use crate::conclusion::{end_of, finish_old, place_of, positions_for, start_of};
+use crate::conclusion::{attach_context, close_old, end_of, place_of, positions_for, start_of};
 use crate::interruption::Unfinished;
-use crate::output::{
-    Content, Writing, begin_meter, check_names, end_meter, end_output, open_both, settle_end,
-};
-use age_cli_args::{Decrypting, ProgressOption};
+use crate::output::{Content, Writing, check_names, end_output, meter_for, open_both, settle_end};
+use age_cli_args::Decrypting;
 use age_command::{Choice, Ending, Identity};
 use age_fileset::FileSet;
 use age_io::{Meter, Metered, Sink, Source};
@@ -36,13 +30,8 @@ pub(crate) fn identify<'w, F: FileSet<'w>>(
     files: &mut F,
     asked: &Decrypting<'w>,
     writing: &Writing<'w>,
-) -> Result<Identity, Ending>
-    ensures { OpensFiles (identity_order (option_text asked.now.identity.pass)
-        (option_text asked.now.identity.shared))
-        (identity_order (option_text asked.now.identity.pass) (option_text asked.now.identity.shared))
-        (NamesTwice (order_in writing.now).apart) (λ Came. EndsBy Came ⊥ (IsBlamedBy Came
-        writing.now (OpensNone Came asked.now.identity)))
-        (F.view files.old) (F.view files.new)
+) -> Result<Identity, Ending<'w>>
+    ensures { OpensFiles (F.view files.old) (F.view files.new)
         (OpensOf (CameSince (F.view files.old) (F.view files.new)) asked.now) result }
 {
     let choice = Choice::of(&asked.identity)?;
@@ -89,8 +78,8 @@ fn run_engine<S: Source, L: Source, O: Sink>(
         (refuses_by identity) (goes_on L.view outputs.old.earlier outputs.new.earlier))
         (ports (S.view source.old) (O.view outputs.old.out))
         (ports (S.view source.new) (O.view outputs.new.out)) result.0 result.1 }
-    ensures began { (from : Origin) → S.began source.old from → S.began source.new from }
-    ensures old { IsSameOld L.began outputs.old.earlier outputs.new.earlier }
+    ensures named { (S.view source.new).label ≡ (S.view source.old).label }
+    ensures old { IsSameOld L.view outputs.old.earlier outputs.new.earlier }
 {
     let out = &mut outputs.out;
     match &mut outputs.earlier {
@@ -116,40 +105,21 @@ fn decrypt_text<'w, F: FileSet<'w>, P: Meter>(
         (goes_on F.In.view ready.entry.outputs.earlier result.2.earlier))
         (ports (F.In.view ready.entry.source) (F.Out.view ready.entry.outputs.out))
         (ports (F.In.view result.1) (F.Out.view result.2.out)) result.0.0 result.0.1 }
-    ensures began { (name : List ℕ) → F.In.began ready.entry.source (Named name)
-        → F.In.began result.1 (Named name) }
-    ensures old { IsSameOld F.In.began ready.entry.outputs.earlier result.2.earlier }
-    ensures silent { writing.now.paths.progress ≡ Silent → progress.new ≡ progress.old }
-    ensures shown { writing.now.paths.progress ≡ Shown → ShowsRun (F.size ready.entry.source)
-        (F.In.view ready.entry.source).supply (F.In.view result.1).supply (P.shown progress.old)
-        (P.shown progress.new) }
+    ensures named { (F.In.view result.1).label ≡ (F.In.view ready.entry.source).label }
+    ensures old { IsSameOld F.In.view ready.entry.outputs.earlier result.2.earlier }
 {
     let Ready {
         identity,
-        mut source,
+        source,
         mut outputs,
     } = ready;
     let positions = positions_for(writing.save);
-    match writing.paths.progress {
-        ProgressOption::Silent => {
-            let run = run_engine(alloc, positions, identity, &mut source, &mut outputs);
-            (run, source, outputs)
-        }
-        ProgressOption::Shown => {
-            begin_meter(files, &source, &mut *progress);
-            let mut metered = Metered {
-                source,
-                meter: &mut *progress,
-            };
-            let run = run_engine(alloc, positions, identity, &mut metered, &mut outputs);
-            let Metered {
-                source,
-                meter: _meter,
-            } = metered;
-            end_meter(&mut *progress);
-            (run, source, outputs)
-        }
-    }
+    let length = files.length(&source);
+    let mut metered = Metered::new(source, meter_for(&writing.paths, progress), length);
+    let run = run_engine(alloc, positions, identity, &mut metered, &mut outputs);
+    metered.end();
+    let Metered { source, .. } = metered;
+    (run, source, outputs)
 }
 
 /// Decrypts the input into the output, and ends both. If it stops, or the output can't be ended, its
@@ -161,30 +131,26 @@ pub(crate) fn decrypt_ready<'w, F: FileSet<'w>, P: Meter>(
     ready: Ready<'w, F::In, F::Out>,
     progress: &mut P,
 ) -> Result<(), Unfinished<'w>>
-    requires input { F.In.began ready.source (Named writing.now.paths.from.now) }
-    requires old { IfSome ready.outputs.earlier (λ e. F.In.began e.source (Named e.name.now)) }
-    ensures { (first : FilesView)
-        → ((after : FilesView) (o : Outcome) → CameSince (F.view files.old) after o
-        → CameSince first after o)
+    requires input { (F.In.view ready.source).label ≡ writing.now.paths.from.now }
+    requires old { IfSome ready.outputs.earlier (λ e. (F.In.view e.source).label ≡ e.name.now) }
+    ensures { (first : FilesView) → PutsOnly [] first (F.view files.old)
         → IfSome ready.entry.outputs.earlier (IsNewOld F.In.view F.size
         (CameSince first (F.view files.old)))
-        → Finally (λ after. RunsEngine (PortsOf F.In.view F.Out.view) (CameSince first after)
-        (decrypt_engine (PortsOf F.In.view F.Out.view) (CameSince first after)
+        → Finally (λ after. RunsEngine (PortsOf F.In.view F.Out.view) (CameFirst first after)
+        (CameSince first after) (decrypt_engine (PortsOf F.In.view F.Out.view) (CameFirst first after)
         (option_text writing.now.save) ready.entry.identity
         (option_map earlier_of ready.entry.outputs.earlier))
         writing.now.paths (ports (F.In.view ready.entry.source) (F.Out.view ready.entry.outputs.out))
-        (F.view files.old) after (progress.new ≡ progress.old) (λ coming left.
-        ShowsRun (F.size ready.entry.source) coming left (P.shown progress.old) (P.shown progress.new)))
-        (F.view files.new) result }
+        (F.view files.old) after) (F.view files.new) result }
 {
     let start = start_of(&ready.outputs.earlier);
     let ((end, marks), source, outputs) = decrypt_text(alloc, files, writing, ready, progress);
     let Outputs { earlier, mut out } = outputs;
-    finish_old(files, earlier);
-    files.finish(source);
+    let old = close_old(files, earlier);
+    let input = files.close_input(source);
     let settled = settle_end(files, &mut out, writing, end.is_err());
     let place = place_of(&end, &marks, start, settled);
-    let engine = end_of(&end);
+    let engine = attach_context(end_of(&end), files.reason(&out), old, input);
     end_output(files, out, writing, place, engine)
 }
 
@@ -197,9 +163,7 @@ pub fn decrypt_file<'w, F: FileSet<'w>, P: Meter>(
     progress: &mut P,
 ) -> Result<(), Unfinished<'w>>
     ensures { Finally (λ after. Acts (PortsOf F.In.view F.Out.view) (Decrypt asked.now)
-        (F.view files.old) after (progress.new ≡ progress.old)
-        (ShowsProgress (CameSince (F.view files.old) after) (P.shown progress.old)
-        (P.shown progress.new))) (F.view files.new) result }
+        (F.view files.old) after) (F.view files.new) result }
 {
     let writing = Writing {
         first: asked.identity.pass,

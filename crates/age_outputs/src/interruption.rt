@@ -1,21 +1,15 @@
 //! How a command that writes OUT stops, and where its position goes then.
 
-ghost use Rattle.std.specs.Prelude.{◌≡◌, ◌⊎◌, ◌++◌, ◌≤◌, ◌*◌, [], true, None, OnOk, IfErr};
-ghost use Rattle.std.specs.Prelude.{IsSomeAnd, is_some};
-ghost use Rattle.age_chunk.specs.{chunk_length};
-ghost use Rattle.age_fault.specs.declared.fault.FileFault.TheVariants.{Write};
-ghost use Rattle.age_fileset.specs.{CameSince, Does, IsMemoryOr, written_as};
+ghost use Rattle.std.specs.Prelude.{◌≡◌};
+ghost use Rattle.age_fileset.specs.{CameSince, Does};
 ghost use Rattle.age_cli_args.specs.{option_text};
-ghost use Rattle.age_command.specs.{Follows, ReportsEnding, replacing};
 ghost use Rattle.age_outputs.specs.Acts.{Concluding, IsConcluded, IsDue, stop_ending};
-ghost use Rattle.age_outputs.specs.inner.{IsUnsavable, LacksOne, sealing_end};
+ghost use Rattle.age_outputs.specs.inner.{Saved, sealing_end};
 ghost use Rattle.age_outputs.specs.declared.interruption.Unfinished.TheVariants.{Ended};
-ghost use Rattle.age_calls.specs.Saved.{Saves};
-ghost use Rattle.age_position.specs.{position_text};
 
-use age_command::{Ending, report_ending, report_fault};
+use age_command::{Ending, UnsavedError, report_ending, report_fault};
 use age_fault::FileFault;
-use age_fileset::FileSet;
+use age_fileset::{FileError, FileSet};
 use age_io::Sink;
 use age_options::Durability;
 use age_position::Position;
@@ -60,7 +54,7 @@ fn due_position<'w, F: FileSet<'w>>(
     name: Option<&'w str>,
     position: Option<Position>,
 ) -> Option<Position>
-    ensures does { Does [] (F.view files.old) (F.view files.new) }
+    ensures does { Does (F.view files.old) (F.view files.new) }
     ensures due { IsDue (CameSince (F.view files.old) (F.view files.new)) position
         (option_text name.entry) result }
 {
@@ -82,35 +76,24 @@ pub(crate) fn save<'w, F: FileSet<'w>>(
     position: Option<Position>,
     settled: u64,
     durability: Durability,
-) -> Result<(), FileFault>
-    ensures noted { Follows (replacing (option_text name.entry) durability)
-        (F.view files.old).events (F.view files.new).events }
-    ensures unended { (F.view files.new).ended ≡ (F.view files.old).ended }
-    ensures put { ((F.view files.new ≡ F.view files.old)
-        × OnOk result (LacksOne (option_text name.entry) position)
-        × IfErr result (λ second. IsSomeAnd position (λ p. IsUnsavable settled p second)))
-        ⊎ IsSomeAnd position
-        (λ p. Saves (position_text p) durability result (F.view files.new).saved
-        × (p.index * chunk_length ≤ settled)
-        × IsSomeAnd (option_text name.entry) (λ to. (F.view files.new).outcomes
-        ≡ (F.view files.old).outcomes ++ written_as to (position_text p) result)) }
-    ensures unsaved { IfErr result (λ second. IsMemoryOr Write second
-        × (is_some (option_text name.entry) ≡ true) × (is_some position ≡ true)) }
+) -> Result<(), FileError<'w>>
+    ensures { Saved (option_text name.entry) settled position (F.view files.old) (F.view files.new) result }
 {
     let (Some(name), Some(position)) = (name, position) else {
         return Ok(());
     };
     if position.old_len() > u128::from(settled) {
-        return Err(FileFault::Write);
+        return Err(FileError::from(FileFault::Write));
     }
     let text = position.text(alloc)?;
     files.replace(alloc, name, text.as_slice(), durability)
 }
 
 /// A command that stopped, and whose position is still to be saved.
-#[derive(Clone, Copy)]
+#[derive(Drop)]
 pub struct Stop<'w> {
-    pub(crate) fault: FileFault,
+    /// Why.
+    pub(crate) fault: FileError<'w>,
     /// How far it came.
     pub(crate) place: Reached,
     /// The file of its position.
@@ -123,15 +106,15 @@ pub struct Stop<'w> {
 #[derive(Drop)]
 pub enum Unfinished<'w> {
     /// It ended with this.
-    Ended(Ending),
+    Ended(Ending<'w>),
     /// It stopped.
     Stopped(Stop<'w>),
 }
 
-impl<'w> From<Ending> for Unfinished<'w> {
+impl<'w> From<Ending<'w>> for Unfinished<'w> {
     ghost from_gives = { λ e u. u ≡ Ended e };
 
-    fn from(ending: Ending) -> Unfinished<'w> {
+    fn from(ending: Ending<'w>) -> Unfinished<'w> {
         Unfinished::Ended(ending)
     }
 }
@@ -141,39 +124,35 @@ fn save_stop<'w, F: FileSet<'w>>(
     alloc: Global,
     files: &mut F,
     stop: &Stop<'w>,
-) -> Result<(), FileFault>
+) -> Result<(), UnsavedError<'w>>
     ensures { IsConcluded stop.now (F.view files.old) (F.view files.new)
         (stop_ending stop.now.fault result) }
 {
     let due = due_position(files, stop.save, stop.place.position);
-    save(
-        alloc,
-        files,
-        stop.save,
-        due,
-        stop.place.settled,
-        stop.durability,
-    )
+    let settled = stop.place.settled;
+    match save(alloc, files, stop.save, due, settled, stop.durability) {
+        Ok(()) => Ok(()),
+        Err(error) => Err(UnsavedError::new(error, due)),
+    }
 }
 
 /// Reports a stop, and saves its position only after that, since the file that it goes to may block.
 fn conclude_stop<'w, F: FileSet<'w>, E: Sink>(
     alloc: Global,
     files: &mut F,
-    stop: &Stop<'w>,
+    stop: Stop<'w>,
     faults: &mut E,
-) -> Ending
-    ensures concludes { IsConcluded stop.now (F.view files.old) (F.view files.new) result }
-    ensures reported { ReportsEnding result (E.view faults.old) (E.view faults.new) }
+) -> Ending<'w>
+    ensures { IsConcluded stop.entry (F.view files.old) (F.view files.new) result }
 {
-    let told = report_fault(faults, stop.fault);
-    match save_stop(alloc, files, stop) {
+    let told = report_fault(faults, stop.fault.fault());
+    match save_stop(alloc, files, &stop) {
         Ok(()) => Ending::Fault(stop.fault),
         Err(second) => {
             if told.is_err() {
                 return Ending::Unsaved(stop.fault, second);
             }
-            let _ = report_fault(faults, second);
+            let _ = report_fault(faults, second.fault());
             Ending::Unsaved(stop.fault, second)
         }
     }
@@ -186,15 +165,14 @@ pub fn conclude<'w, F: FileSet<'w>, E: Sink>(
     files: &mut F,
     unfinished: Unfinished<'w>,
     faults: &mut E,
-) -> Ending
-    ensures concludes { Concluding unfinished.entry (F.view files.old) (F.view files.new) result }
-    ensures reported { ReportsEnding result (E.view faults.old) (E.view faults.new) }
+) -> Ending<'w>
+    ensures { Concluding unfinished.entry (F.view files.old) (F.view files.new) result }
 {
     match unfinished {
         Unfinished::Ended(ending) => {
-            report_ending(faults, &ending);
+            report_ending(alloc, faults, &ending);
             ending
         }
-        Unfinished::Stopped(stop) => conclude_stop(alloc, files, &stop, faults),
+        Unfinished::Stopped(stop) => conclude_stop(alloc, files, stop, faults),
     }
 }

@@ -1,25 +1,17 @@
 //! How the input and the output of a command are opened, and how the output is ended.
 
-ghost use Rattle.std.specs.Prelude.{◌≡◌, [], ◌∷◌, ◌++◌, map, Some, None, true, is_some, length, IfSome};
-ghost use Rattle.age_io.specs.{Adds, Begins, Ends, Named};
-ghost use Rattle.age_fileset.specs.{Open, Create, Found, Absent, Settled, Terminal, Does, CameSince};
+ghost use Rattle.std.specs.Prelude.{◌≡◌, [], true, is_some};
+ghost use Rattle.age_fileset.specs.{Found, Absent, Settled, Does, CameSince};
 ghost use Rattle.age_cli_args.specs.{option_text};
 ghost use Rattle.age_options.specs.declared.ClobberOption.TheVariants.{Refused};
-ghost use Rattle.age_command.specs.{AreApart, NamesTwice, preparing, making};
-ghost use Rattle.age_command.specs.declared.ending.Usage.TheVariants.{SameFile};
-ghost use Rattle.age_command.specs.declared.ending.Ending.TheVariants.{Usage as UsageEnding};
-ghost use Rattle.age_outputs.specs.Acts.{Finally, IsUnusable, NamesOne};
-ghost use Rattle.age_outputs.specs.inner.{Concludes, EndsOut, IsLeft, LeavesOut};
-ghost use Rattle.age_outputs.specs.inner.{Compares, EndsBy, IsNewBy, IsUnopened, OpensFiles};
-ghost use Rattle.age_outputs.specs.inner.{age_file_in, order_in};
-ghost use Rattle.age_outputs.specs.declared.output.Content.TheVariants.{AgeFile};
+ghost use Rattle.age_outputs.specs.Acts.{Finally};
+ghost use Rattle.age_outputs.specs.inner.{Concludes, EndsOut, IsLeft, LeavesOut, IsNewBy, OpensFiles};
 
 use crate::interruption::{Reached, Stop, Unfinished};
-use age_cli_args::Paths;
-use age_command::{Ending, Usage};
-use age_fault::FileFault;
-use age_fileset::{FileSet, Missing};
-use age_io::{Meter, Metered};
+use age_cli_args::{Paths, ProgressOption};
+use age_command::{Ending, Usage, UsageError};
+use age_fileset::{ErrorContext, FileError, FileSet, Missing, Purpose};
+use age_io::Meter;
 use age_options::{ClobberOption, Durability};
 use std::alloc::Global;
 
@@ -54,8 +46,7 @@ pub(crate) struct Writing<'a> {
 
 /// Whether two names are given, and stand for one file.
 fn are_one<'w, F: FileSet<'w>>(files: &mut F, one: Option<&'w str>, other: Option<&'w str>) -> bool
-    ensures { Compares (F.view files.old) (F.view files.new) result
-        (λ a b. (option_text one.entry ≡ Some a) × (option_text other.entry ≡ Some b)) }
+    ensures { F.view files.new ≡ F.view files.old }
 {
     match one {
         Some(one) => match other {
@@ -66,29 +57,30 @@ fn are_one<'w, F: FileSet<'w>>(files: &mut F, one: Option<&'w str>, other: Optio
     }
 }
 
-/// Whether a name is given, and stands for the same file as one of others that are given.
+/// Whether a name is given, and stands for the same file as one of others that are given: both then.
 fn is_one_of<'w, F: FileSet<'w>>(
     files: &mut F,
     name: Option<&'w str>,
     others: &[Option<&'w str>],
-) -> bool
-    ensures { Compares (F.view files.old) (F.view files.new) result
-        (AreApart ((option_text name.entry, map option_text others.now) ∷ [])) }
+) -> Option<(&'w str, Option<&'w str>)>
+    ensures { F.view files.new ≡ F.view files.old }
 {
     for other in others {
         if are_one(files, name, *other) {
-            return true;
+            return Some((name.unwrap_or(""), *other));
         }
     }
-    false
+    None
 }
 
-/// Whether two names that must differ stand for one file: the output's and an input's; that of
-/// `save`, and the output's or that of an input other than the position; or the earlier output's
-/// and the input's.
-pub(crate) fn names_twice<'w, F: FileSet<'w>>(files: &mut F, asked: &Writing<'w>) -> bool
-    ensures { Compares (F.view files.old) (F.view files.new) result
-        (AreApart (order_in asked.now).apart) }
+/// Two names that must differ and stand for one file: the output's and an input's; that of `save`,
+/// and the output's or that of an input other than the position; or the earlier output's and the
+/// input's.
+fn named_twice<'w, F: FileSet<'w>>(
+    files: &mut F,
+    asked: &Writing<'w>,
+) -> Option<(&'w str, Option<&'w str>)>
+    ensures { F.view files.new ≡ F.view files.old }
 {
     let Writing {
         first,
@@ -99,20 +91,20 @@ pub(crate) fn names_twice<'w, F: FileSet<'w>>(files: &mut F, asked: &Writing<'w>
     } = *asked;
     let from = Some(asked.paths.from);
     let to = Some(asked.paths.to);
-    if is_one_of(files, to, &[position, from, first, second, old]) {
-        return true;
+    let found = is_one_of(files, to, &[position, from, first, second, old]);
+    if found.is_some() {
+        return found;
     }
-    if is_one_of(files, asked.save, &[to, from, first, second, old]) {
-        return true;
+    let found = is_one_of(files, asked.save, &[to, from, first, second, old]);
+    if found.is_some() {
+        return found;
     }
     is_one_of(files, old, &[from])
 }
 
 /// Whether an output is a terminal that can't show what it is to hold.
 fn is_unshown<'w, F: FileSet<'w>>(files: &mut F, out: &F::Out, content: Content) -> bool
-    ensures does { Does [] (F.view files.old) (F.view files.new) }
-    ensures terminal { result ≡ true → (content ≡ AgeFile)
-        × CameSince (F.view files.old) (F.view files.new) (Terminal (F.Out.view out.now).taken.label) }
+    ensures { F.view files.new ≡ F.view files.old }
 {
     match content {
         Content::AgeFile => files.is_terminal(out),
@@ -122,16 +114,19 @@ fn is_unshown<'w, F: FileSet<'w>>(files: &mut F, out: &F::Out, content: Content)
 
 /// Why what was opened can't be the output: it is a terminal, which is no place for an age file, or
 /// progress and faults go there.
-fn refusal_of<'w, F: FileSet<'w>>(files: &mut F, out: &F::Out, content: Content) -> Option<Usage>
-    ensures does { Does [] (F.view files.old) (F.view files.new) }
-    ensures taken { IfSome result (λ u. IsUnusable (CameSince (F.view files.old) (F.view files.new))
-        (age_file_in content (F.Out.view out.now).taken.label) (UsageEnding u)) }
+fn refusal_of<'w, F: FileSet<'w>>(
+    files: &mut F,
+    out: &F::Out,
+    asked: &Writing<'w>,
+) -> Option<UsageError<'w>>
+    ensures { F.view files.new ≡ F.view files.old }
 {
-    if is_unshown(files, out, content) {
-        return Some(Usage::OutIsTerminal);
+    if is_unshown(files, out, asked.content) {
+        return Some(UsageError::from(Usage::OutIsTerminal));
     }
     if files.is_for_faults(out) {
-        return Some(Usage::SameFile);
+        let both = ErrorContext::Twice(asked.paths.to, Some("standard error"));
+        return Some(UsageError::new(Usage::SameFile, both));
     }
     None
 }
@@ -142,13 +137,12 @@ pub(crate) fn check_names<'w, F: FileSet<'w>>(
     alloc: Global,
     files: &mut F,
     asked: &Writing<'w>,
-) -> Result<(), Ending>
-    ensures { OpensFiles [] [] (NamesTwice (order_in asked.now).apart) (λ Came. EndsBy Came ⊥
-        (λ e. (e ≡ UsageEnding SameFile) × NamesOne Came (order_in asked.now)))
-        (F.view files.old) (F.view files.new) (λ _. Unit {0}) result }
+) -> Result<(), Ending<'w>>
+    ensures { F.view files.new ≡ F.view files.old }
 {
-    if names_twice(files, asked) {
-        return Err(Ending::Usage(Usage::SameFile));
+    if let Some((one, other)) = named_twice(files, asked) {
+        let both = ErrorContext::Twice(one, other);
+        return Err(Ending::Usage(UsageError::new(Usage::SameFile, both)));
     }
     let Writing {
         first,
@@ -163,25 +157,35 @@ pub(crate) fn check_names<'w, F: FileSet<'w>>(
     )?)
 }
 
+/// Returns the meter, if progress is to be shown.
+pub(crate) fn meter_for<'m, M: Meter>(paths: &Paths<'_>, meter: &'m mut M) -> Option<&'m mut M> {
+    match paths.progress {
+        ProgressOption::Silent => None,
+        ProgressOption::Shown => Some(meter),
+    }
+}
+
 /// Opens a file for reading.
 pub(crate) fn open_in<'w, F: FileSet<'w>>(
     alloc: Global,
     files: &mut F,
     name: &'w str,
     missing: Missing,
-) -> Result<F::In, Ending>
-    ensures { OpensFiles (Open name.now ∷ []) (Open name.now ∷ []) ⊥ (IsUnopened None)
-        (F.view files.old) (F.view files.new) (λ s. ((F.In.view s).supply.given ≡ [])
-        × F.In.began s (Named name.now) × CameSince (F.view files.old) (F.view files.new)
+    purpose: Purpose,
+) -> Result<F::In, Ending<'w>>
+    ensures { OpensFiles (F.view files.old) (F.view files.new) (λ s. ((F.In.view s).supply.given ≡ [])
+        × ((F.In.view s).label ≡ name.now) × CameSince (F.view files.old) (F.view files.new)
         (Found missing name.now (F.In.view s).supply.left (F.size s))) result }
 {
-    Ok(files.open(alloc, name, missing)?)
+    Ok(files.open(alloc, name, missing, purpose)?)
 }
 
 /// Refuses an existing output, if it must be new.
-pub(crate) fn check_new<'w, F: FileSet<'w>>(files: &mut F, paths: &Paths<'w>) -> Result<(), Ending>
-    ensures { OpensFiles [] [] ⊥ (IsUnopened None) (F.view files.old) (F.view files.new)
-        (λ _. Unit {0}) result }
+pub(crate) fn check_new<'w, F: FileSet<'w>>(
+    files: &mut F,
+    paths: &Paths<'w>,
+) -> Result<(), Ending<'w>>
+    ensures { F.view files.new ≡ F.view files.old }
 {
     match paths.clobber {
         ClobberOption::Allowed => Ok(()),
@@ -195,21 +199,18 @@ pub(crate) fn create_out<'w, F: FileSet<'w>>(
     alloc: Global,
     files: &mut F,
     asked: &Writing<'w>,
-) -> Result<F::Out, Ending>
-    ensures { OpensFiles (Create asked.now.paths.clobber asked.now.paths.to.now ∷ [])
-        (making asked.now.paths.clobber asked.now.paths.to.now asked.now.paths.durability) ⊥
-        (IsUnopened (age_file_in asked.now.content asked.now.paths.to.now))
-        (F.view files.old) (F.view files.new) (λ o. ((F.Out.view o).taken.bytes ≡ [])
+) -> Result<F::Out, Ending<'w>>
+    ensures { OpensFiles (F.view files.old) (F.view files.new) (λ o. ((F.Out.view o).taken.bytes ≡ [])
         × ((F.Out.view o).failed ≡ 0) × ((F.Out.view o).taken.label ≡ asked.now.paths.to.now)
         × (asked.now.paths.clobber ≡ Refused
         → CameSince (F.view files.old) (F.view files.new) (Absent asked.now.paths.to.now))) result }
 {
     let paths = &asked.paths;
     let out = files.create(alloc, paths.to, paths.clobber, paths.durability)?;
-    match refusal_of(files, &out, asked.content) {
-        Some(usage) => {
+    match refusal_of(files, &out, asked) {
+        Some(error) => {
             files.discard(out, paths.durability);
-            Err(Ending::Usage(usage))
+            Err(Ending::Usage(error))
         }
         None => Ok(out),
     }
@@ -221,13 +222,20 @@ fn prepare_save<'w, F: FileSet<'w>>(
     alloc: Global,
     files: &mut F,
     asked: &Writing<'w>,
-) -> Result<(), Ending>
-    ensures { OpensFiles (preparing (option_text asked.now.save) (option_text asked.now.position))
-        (preparing (option_text asked.now.save) (option_text asked.now.position)) ⊥ (IsUnopened None)
-        (F.view files.old) (F.view files.new) (λ _. Unit {0}) result }
+) -> Result<(), Ending<'w>>
+    ensures { F.view files.new ≡ F.view files.old }
 {
     match asked.save {
-        Some(save) => Ok(files.prepare(alloc, save, asked.position, asked.paths.durability)?),
+        Some(save) => {
+            let Paths {
+                to,
+                clobber,
+                durability,
+                ..
+            } = asked.paths;
+            let others = [asked.old, Some(to)];
+            Ok(files.prepare(alloc, save, asked.position, &others, clobber, durability)?)
+        }
         None => Ok(()),
     }
 }
@@ -237,42 +245,26 @@ pub(crate) fn open_both<'w, F: FileSet<'w>>(
     alloc: Global,
     files: &mut F,
     asked: &Writing<'w>,
-) -> Result<(F::In, F::Out), Ending>
-    ensures { OpensFiles (Open asked.now.paths.from.now
-        ∷ (preparing (option_text asked.now.save) (option_text asked.now.position)
-        ++ Create asked.now.paths.clobber asked.now.paths.to.now ∷ []))
-        (Open asked.now.paths.from.now
-        ∷ (preparing (option_text asked.now.save) (option_text asked.now.position)
-        ++ making asked.now.paths.clobber asked.now.paths.to.now asked.now.paths.durability)) ⊥
-        (IsUnopened (age_file_in asked.now.content asked.now.paths.to.now))
-        (F.view files.old) (F.view files.new)
-        (λ both. IsNewBy F.In.view F.Out.view F.In.began F.size
+) -> Result<(F::In, F::Out), Ending<'w>>
+    ensures { OpensFiles (F.view files.old) (F.view files.new)
+        (λ both. IsNewBy F.In.view F.Out.view F.size
         (CameSince (F.view files.old) (F.view files.new)) asked.now.paths both.0 both.1) result }
 {
-    let source = open_in(alloc, files, asked.paths.from, Missing::Fails)?;
+    let source = open_in(
+        alloc,
+        files,
+        asked.paths.from,
+        Missing::Fails,
+        Purpose::Input,
+    )?;
     prepare_save(alloc, files, asked)?;
     let out = create_out(alloc, files, asked)?;
     Ok((source, out))
 }
 
-/// Tells a meter that the reading of an input begins, with its length if the set of files knows it.
-pub(crate) fn begin_meter<'w, F: FileSet<'w>, M: Meter>(files: &F, source: &F::In, meter: &mut M)
-    ensures { IfSome (F.In.view source.now).supply.left (λ bytes. F.size source.now ≡ Some (length bytes))
-        × Adds (M.shown meter.old) (M.shown meter.new) (Begins (F.size source.now)) }
-{
-    meter.begin(files.length(source));
-}
-
-/// Tells a meter that the run is over.
-pub(crate) fn end_meter<M: Meter>(meter: &mut M)
-    ensures { Adds (M.shown meter.old) (M.shown meter.new) Ends }
-{
-    meter.end();
-}
-
 /// Ends the output of an engine that stopped: with what was written, or unchanged if nothing was.
 pub(crate) fn leave<'w, F: FileSet<'w>>(files: &mut F, out: F::Out, durability: Durability)
-    ensures { LeavesOut durability (F.Out.view out) (IsLeft durability (F.Out.view out))
+    ensures { LeavesOut (F.Out.view out) (IsLeft durability (F.Out.view out))
         (F.view files.old) (F.view files.new) }
 {
     let is_empty = files.is_empty(&out);
@@ -292,7 +284,7 @@ pub(crate) fn settle_end<'w, F: FileSet<'w>>(
     asked: &Writing<'w>,
     is_stopped: bool,
 ) -> u64
-    ensures does { Does [] (F.view files.old) (F.view files.new) }
+    ensures does { Does (F.view files.old) (F.view files.new) }
     ensures same { F.Out.view out.new ≡ F.Out.view out.old }
     ensures certain { is_some (option_text asked.now.save) ≡ true
         → CameSince (F.view files.old) (F.view files.new)
@@ -314,15 +306,15 @@ fn end_out<'w, F: FileSet<'w>>(
     files: &mut F,
     out: F::Out,
     durability: Durability,
-    engine: Result<(), FileFault>,
-) -> Result<(), FileFault>
-    ensures { EndsOut durability (F.Out.view out) engine (F.view files.old) (F.view files.new) result }
+    engine: Result<(), FileError<'w>>,
+) -> Result<(), FileError<'w>>
+    ensures { EndsOut durability (F.Out.view out) engine.entry (F.view files.old) (F.view files.new) result }
 {
     match engine {
         Ok(()) => files.close(out, durability),
-        Err(fault) => {
+        Err(error) => {
             leave(files, out, durability);
-            Err(fault)
+            Err(error)
         }
     }
 }
@@ -334,15 +326,15 @@ pub(crate) fn end_output<'w, F: FileSet<'w>>(
     out: F::Out,
     asked: &Writing<'w>,
     place: Reached,
-    engine: Result<(), FileFault>,
+    engine: Result<(), FileError<'w>>,
 ) -> Result<(), Unfinished<'w>>
     ensures { Finally (Concludes (option_text asked.now.save) asked.now.paths.durability
-        (F.Out.view out) engine place (F.view files.old)) (F.view files.new) result }
+        (F.Out.view out) engine.entry place (F.view files.old)) (F.view files.new) result }
 {
     match end_out(files, out, asked.paths.durability, engine) {
         Ok(()) => Ok(()),
-        Err(fault) => Err(Unfinished::Stopped(Stop {
-            fault,
+        Err(error) => Err(Unfinished::Stopped(Stop {
+            fault: error,
             place,
             save: asked.save,
             durability: asked.paths.durability,

@@ -1,21 +1,20 @@
 //! The command that continues a decryption.
 
-ghost use Rattle.std.specs.Prelude.{◌≡◌, [], ◌∷◌};
-ghost use Rattle.age_io.specs.{Named};
-ghost use Rattle.age_fileset.specs.{Open, CameSince, HasGivenAll};
+ghost use Rattle.std.specs.Prelude.{◌≡◌};
+ghost use Rattle.age_fileset.specs.{CameSince, HasGivenAll};
 ghost use Rattle.age_cli_args.specs.declared.request.Request.TheVariants.{Resume};
 ghost use Rattle.age_position.specs.{position_text};
 ghost use Rattle.age_outputs.specs.Acts.{Acts, Finally};
-ghost use Rattle.age_outputs.specs.{PortsOf, ShowsProgress, missing_at};
-ghost use Rattle.age_outputs.specs.inner.{IsNewOld, IsUnplaced, OpensFiles};
+ghost use Rattle.age_outputs.specs.{PortsOf, missing_at};
+ghost use Rattle.age_outputs.specs.inner.{IsNewOld, OpensFiles};
 
 use crate::decrypt_command::{OldText, Outputs, Ready, decrypt_ready, identify};
 use crate::interruption::Unfinished;
 use crate::output::{Content, Writing, open_both, open_in};
-use age_cli_args::Resuming;
+use age_cli_args::{Paths, ProgressOption, Resuming};
 use age_command::{Ending, read_file};
 use age_fault::FileFault;
-use age_fileset::{FileSet, Missing};
+use age_fileset::{FileSet, Missing, Purpose};
 use age_io::Meter;
 use age_position::Position;
 use std::alloc::Global;
@@ -28,16 +27,15 @@ fn read_position<'w, F: FileSet<'w>>(
     alloc: Global,
     files: &mut F,
     name: &'w str,
-) -> Result<Position, Ending>
-    ensures { OpensFiles (Open name.now ∷ []) (Open name.now ∷ []) ⊥ (IsUnplaced name.now)
-        (F.view files.old) (F.view files.new)
+) -> Result<Position, Ending<'w>>
+    ensures { OpensFiles (F.view files.old) (F.view files.new)
         (λ p. HasGivenAll (CameSince (F.view files.old) (F.view files.new)) name.now
         (position_text p)) result }
 {
-    let held = read_file(alloc, files, name, POSITION_FILE_MAX)?;
+    let held = read_file(alloc, files, name, Purpose::Input, POSITION_FILE_MAX)?;
     match held {
         Some(text) => Ok(Position::read(text.as_slice())?),
-        None => Err(Ending::Fault(FileFault::BadPosition)),
+        None => Err(Ending::from(FileFault::BadPosition)),
     }
 }
 
@@ -53,22 +51,29 @@ fn missing_at(position: &Position) -> Missing
     }
 }
 
+/// Returns what the earlier output is for: it is copied, which is shown if progress is.
+fn copy_purpose(paths: &Paths<'_>) -> Purpose {
+    match paths.progress {
+        ProgressOption::Silent => Purpose::Input,
+        ProgressOption::Shown => Purpose::ShownCopy,
+    }
+}
+
 /// The position, and then the earlier output, opened.
 fn open_earlier<'w, F: FileSet<'w>>(
     alloc: Global,
     files: &mut F,
     asked: &Resuming<'w>,
-) -> Result<OldText<'w, F::In>, Ending>
-    ensures { OpensFiles (Open asked.now.position.now ∷ Open asked.now.old.now ∷ [])
-        (Open asked.now.position.now ∷ Open asked.now.old.now ∷ []) ⊥
-        (IsUnplaced asked.now.position.now) (F.view files.old) (F.view files.new)
+) -> Result<OldText<'w, F::In>, Ending<'w>>
+    ensures { OpensFiles (F.view files.old) (F.view files.new)
         (λ e. HasGivenAll (CameSince (F.view files.old) (F.view files.new)) asked.now.position.now
         (position_text e.position) × (e.name.now ≡ asked.now.old.now)
-        × F.In.began e.source (Named e.name.now)
+        × ((F.In.view e.source).label ≡ e.name.now)
         × IsNewOld F.In.view F.size (CameSince (F.view files.old) (F.view files.new)) e) result }
 {
     let position = read_position(alloc, files, asked.position)?;
-    let source = open_in(alloc, files, asked.old, missing_at(&position))?;
+    let purpose = copy_purpose(&asked.decrypting.paths);
+    let source = open_in(alloc, files, asked.old, missing_at(&position), purpose)?;
     Ok(OldText {
         position,
         name: asked.old,
@@ -85,9 +90,7 @@ pub fn resume_file<'w, F: FileSet<'w>, P: Meter>(
     progress: &mut P,
 ) -> Result<(), Unfinished<'w>>
     ensures { Finally (λ after. Acts (PortsOf F.In.view F.Out.view) (Resume asked.now)
-        (F.view files.old) after (progress.new ≡ progress.old)
-        (ShowsProgress (CameSince (F.view files.old) after) (P.shown progress.old)
-        (P.shown progress.new))) (F.view files.new) result }
+        (F.view files.old) after) (F.view files.new) result }
 {
     let wanted = &asked.decrypting;
     let writing = Writing {

@@ -1,14 +1,10 @@
-//! A file of the machine that is to be replaced later: what is where its name leads, and a new file
-//! beside it, with room for the bytes that it is to hold.
+//! The file of a position, which is replaced as a whole: by a temporary file beside it, with room for
+//! a position, that takes its place by a rename.
 //!
-//! Contracts see which file was made beside it, and by which calls. What was found where the name
-//! led is only tested.
+//! No contract says what is done. Tests show what a run leaves at each end, and after a power cut.
 #![tactic(auto)]
 
-mod beside;
-mod paths;
-mod prepare;
+mod position_file;
+mod temp_file;
 
-pub use beside::Kept;
-pub use paths::{if_found, make_file, open_at_once, remove_new, remove_own};
-pub use prepare::{Prepared, Site, is_of_use};
+pub use position_file::{Location, PositionFile};

@@ -1,7 +1,6 @@
 //! Encrypts a file under a passphrase.
 
 ghost use Rattle.std.specs.Prelude.{◌≡◌, IfOk, OnOk, IfErr, true};
-ghost use Rattle.age_io.specs.{Origin};
 ghost use Rattle.age_sealing.specs.Encrypts.{BeginsFile, Encrypts, EncryptFails, EncryptsFront};
 ghost use Rattle.age_sealing.specs.Encrypts.{IsFrontOf, SecretView};
 ghost use Rattle.age_sealing.specs.inner.{WritesFront};
@@ -101,7 +100,7 @@ pub fn encrypt_after<S: Source, O: Sink>(
         → IfErr result (EncryptsFront secret (ports (S.view reader.old) (O.view writer.old))
         (ports (S.view reader.new) (O.view writer.new))) }
     ensures flushed { OnOk result ((O.view writer.new).flushed ≡ true) }
-    ensures began { (from : Origin) → S.began reader.old from → S.began reader.new from }
+    ensures named { (S.view reader.new).label ≡ (S.view reader.old).label }
 {
     let Front {
         bytes,
@@ -144,7 +143,7 @@ pub fn encrypt<S: Source, O: Sink>(
         (ports (S.view reader.old) (O.view writer.old))
         (ports (S.view reader.new) (O.view writer.new))) }
     ensures flushed { OnOk result ((O.view writer.new).flushed ≡ true) }
-    ensures began { (from : Origin) → S.began reader.old from → S.began reader.new from }
+    ensures named { (S.view reader.new).label ≡ (S.view reader.old).label }
 {
     let front = Front::of(alloc, secret)?;
     encrypt_after(front, reader, writer)

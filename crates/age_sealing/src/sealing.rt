@@ -72,7 +72,7 @@ pub(crate) fn seal_all<S: Source, O: Sink>(
         (ports_of S.view O.view reader.old writer.old)
         (ports_of S.view O.view reader.new writer.new) writer.old.tally.written
         writer.new.tally.written result }
-    ensures same_reader { SameReader S.began reader.old reader.new }
+    ensures same_reader { SameReader S.view reader.old reader.new }
     ensures same_writer { SameWriter writer.old writer.new }
 {
     let mut sealer = PayloadSealer::new(key);

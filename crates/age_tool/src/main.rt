@@ -1,19 +1,19 @@
 //! Reads and writes age files: passes its arguments, the machine's files and its standard streams
-//! to `age_cli::run`, says what the machine answered if that is why it failed, and exits with the
-//! status that it returns. It answers `help N` and `help NAME`, about a fault, itself.
+//! to `age_cli::run_words`, says what people should know of how that ended, and exits with its
+//! status. It answers `help N` and `help NAME`, about a fault, itself.
 #![tactic(auto)]
 
-use age_cli::run;
-use age_cli_args::read_request;
+use age_cli::{Ending, read_words, run_words, status};
+use age_cli_args::Request;
 use age_disk::{HostFiles, HostOut, Watched};
-use age_hints::{Heard, Refusals, explain, row_asked};
-use age_io::{Reading, Writing};
-use age_messages::{
-    Escaped, LineStyle, ProgressLine, RunFailures, announce_reading, explain_words,
+use age_hints::{
+    RunContext, explain, explain_refusal, explain_word_like_help, find_row, find_word_like_help,
 };
-use clap::error::ErrorKind;
+use age_io::{Reading, Writing};
+use age_messages::{LineStyle, ProgressLine, announce_reading, explain_words};
+use clap::Error;
 use std::alloc::Global;
-use std::io::{self, IsTerminal};
+use std::io::{self, Eprint, IsTerminal};
 use std::process::ExitCode;
 
 /// The words of the command line. Fails if memory runs out, or if some word isn't UTF-8.
@@ -30,11 +30,16 @@ fn words_of<'a>(alloc: Global, args: &'a [String]) -> io::Result<Vec<&'a str>> {
     Ok(words)
 }
 
+/// Reports that memory ran out.
+fn out_of_memory(rt: &HostRuntime) -> ExitCode {
+    let _ = eprintln!(rt; "age_tool: 28 Memory");
+    ExitCode::from(1)
+}
+
 /// Reports that the command line can't be read.
 fn unread(rt: &HostRuntime, error: &io::Error) -> ExitCode {
     if error.kind() == io::ErrorKind::OutOfMemory {
-        let _ = eprintln!(rt; "age_tool: 28 Memory");
-        return ExitCode::from(1);
+        return out_of_memory(rt);
     }
     let _ = eprintln!(rt; "age_tool: bad command line");
     explain_words(rt);
@@ -61,71 +66,51 @@ fn print_row(rt: &HostRuntime, row: &str) -> ExitCode {
     }
 }
 
-/// A word that begins with `-h`, such as the name `-holiday.jpg`. The parser would show the help, with
-/// status 0, and a script would take the file for done.
-fn taken_for_help<'w>(words: &[&'w str]) -> Option<&'w str> {
-    for word in words {
-        if *word == "--" {
-            return None;
-        }
-        if word.len() > 2 && word.starts_with("-h") {
-            return Some(*word);
-        }
+/// What the words ask for, if they ask for it; of other words nothing is done with files.
+fn asked_by<'w>(read: &Result<Option<Request<'w>>, Error>) -> Request<'w> {
+    match read {
+        Ok(Some(asked)) => *asked,
+        _ => Request::Inspect(None),
     }
-    None
 }
 
-/// Refuses such a word.
-fn refuse_word(rt: &HostRuntime, word: &str) -> ExitCode {
-    let word = Escaped(word.as_bytes());
-    let _ = eprintln!(rt;
-        "age_tool: unexpected argument '{word}'\n\n  tip: \
-         write --help for help, and './{word}' for a file of that name"
-    );
-    ExitCode::from(2)
-}
-
-/// Runs the program on the words after its name, over the machine's files and its own standard
-/// streams, and returns its status.
-fn run_over<'r, 'w>(
-    rt: &'r HostRuntime,
-    words: &'w [&'w str],
-    failures: &'r RunFailures<'w>,
-    faults: &mut Heard<HostOut>,
-) -> u8 {
-    let mut files = HostFiles::new(rt, failures);
-    let mut input = Reading::new(Watched::new(rt.reader(), failures));
-    let mut output = Writing::new(Watched::new(io::writer(rt), failures));
-    let mut progress = ProgressLine::new(Writing::new(rt.stderr()), progress_style(rt), rt);
-    run(
-        rt.alloc(),
-        words,
-        &mut files,
-        &mut input,
-        &mut output,
-        faults,
-        &mut progress,
-        &Refusals,
-    )
-}
-
-/// The same, and says what the machine answered if that is why it failed. What the words ask for is
-/// read here too, for these lines.
-fn run_words<'a>(rt: &'a HostRuntime, words: &'a [&'a str]) -> ExitCode {
-    let asked = match read_request(rt.alloc(), words) {
-        Err(error) if error.kind() == ErrorKind::OutOfMemory => {
-            return unread(rt, &io::Error::from(io::ErrorKind::OutOfMemory));
-        }
-        read => read.ok().flatten(),
-    };
-    let failures = RunFailures::new(asked);
-    let mut faults = Heard::new(HostOut::faults(rt));
+/// Does what the words after the program's name ask for, over the machine's files and the standard
+/// streams, and says what people should know of how it ended.
+fn obey<'w>(rt: &HostRuntime, words: &'w [&'w str]) -> ExitCode {
     if words.is_empty() {
         announce_reading(rt);
     }
-    let status = run_over(rt, words, &failures, &mut faults);
-    explain(rt, &faults, &failures);
-    ExitCode::from(status)
+    let read = read_words(rt.alloc(), words);
+    let asked = asked_by(&read);
+    let mut files = HostFiles::new(rt);
+    let mut input = Reading::new(Watched::new(rt.reader()));
+    let mut output = Writing::new(Watched::new(io::writer(rt)));
+    let mut faults = HostOut::faults(rt);
+    let mut progress = ProgressLine::new(Writing::new(rt.stderr()), progress_style(rt), rt);
+    let ended = run_words(
+        rt.alloc(),
+        words,
+        read,
+        &mut files,
+        &mut input,
+        &mut output,
+        &mut faults,
+        &mut progress,
+    );
+    if let Err(Ending::Words(error)) = &ended {
+        return match explain_refusal(rt, words, error) {
+            Ok(()) => ExitCode::from(2),
+            Err(_) => out_of_memory(rt),
+        };
+    }
+    let run = RunContext {
+        asked,
+        notes: files.notes(),
+        input: input.inner().context(),
+        output: output.inner().context(),
+    };
+    explain(rt, &ended, &run);
+    ExitCode::from(status(&ended))
 }
 
 fn main(rt: HostRuntime) -> ExitCode {
@@ -135,12 +120,15 @@ fn main(rt: HostRuntime) -> ExitCode {
     };
     match words_of(rt.alloc(), args.as_slice()) {
         Ok(words) => match (
-            row_asked(words.as_slice()),
-            taken_for_help(words.as_slice()),
+            find_row(words.as_slice()),
+            find_word_like_help(words.as_slice()),
         ) {
             (Some(row), _) => print_row(&rt, row),
-            (None, Some(word)) => refuse_word(&rt, word),
-            (None, None) => run_words(&rt, words.as_slice()),
+            (None, Some(word)) => {
+                explain_word_like_help(&rt, word);
+                ExitCode::from(2)
+            }
+            (None, None) => obey(&rt, words.as_slice()),
         },
         Err(error) => unread(&rt, &error),
     }

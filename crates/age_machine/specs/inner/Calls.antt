@@ -1,44 +1,37 @@
 -- How calls are kept as ghost state. Private: no public contract cites this module.
 use Rattle.std.specs.Prelude.{◌≡◌, ℕ, List, [], ◌∷◌, true, false, get_or, refl}
 use Rattle.std.specs.Coded.{Coded, coded_ℕ, coded_list, coded×, code_by}
-use Rattle.age_calls.specs.Calls.{FileCall, Made, Opened, Wrote, Cut, Broke, Measured, Synced}
-use Rattle.age_calls.specs.Calls.{Unwaited, Closed, Locked, Unlockable, Missing, Linked, Renamed}
-use Rattle.age_calls.specs.Calls.{Removed, Reclaimed, SyncedNames, UnwaitedNames}
+use Rattle.age_calls.specs.Calls.{FileCall, Made, Opened, Wrote, Cut, Broke, Synced, Unwaited, Closed, Locked}
+use Rattle.age_calls.specs.Calls.{Unlockable, Removed, SyncedNames, UnwaitedNames}
 use Rattle.age_calls.specs.declared.opening.Kind.TheVariants.{Regular, Device}
 
--- which call it is, its texts, and its numbers
+-- which call it is, its text, and its numbers
 abbrev CallParts : Type 0
-CallParts = ℕ × ((List ℕ × List ℕ) × (ℕ × ℕ))
+CallParts = ℕ × (List ℕ × (ℕ × ℕ))
 
 abbrev parts_of : FileCall → CallParts
-parts_of (Made path n) = (0, ((path, []), (n, 0)))
-parts_of (Opened path n (Regular false)) = (1, ((path, []), (n, 0)))
-parts_of (Opened path n (Regular true)) = (2, ((path, []), (n, 0)))
-parts_of (Opened path n Device) = (3, ((path, []), (n, 0)))
-parts_of (Wrote n at bytes) = (4, ((bytes, []), (n, at)))
-parts_of (Cut n len) = (5, (([], []), (n, len)))
-parts_of (Broke n) = (6, (([], []), (n, 0)))
-parts_of (Measured n len) = (7, (([], []), (n, len)))
-parts_of (Synced n) = (8, (([], []), (n, 0)))
-parts_of (Unwaited n) = (9, (([], []), (n, 0)))
-parts_of (Locked n) = (10, (([], []), (n, 0)))
-parts_of (Unlockable n) = (11, (([], []), (n, 0)))
-parts_of (Missing path) = (12, ((path, []), (0, 0)))
-parts_of (Linked from to) = (13, ((from, to), (0, 0)))
-parts_of (Renamed from to) = (14, ((from, to), (0, 0)))
-parts_of (Removed path) = (15, ((path, []), (0, 0)))
-parts_of (SyncedNames path) = (16, ((path, []), (0, 0)))
-parts_of (UnwaitedNames path) = (17, ((path, []), (0, 0)))
-parts_of (Closed n) = (18, (([], []), (n, 0)))
-parts_of (Reclaimed path) = (19, ((path, []), (0, 0)))
+parts_of (Made path n) = (0, (path, (n, 0)))
+parts_of (Opened path n (Regular false)) = (1, (path, (n, 0)))
+parts_of (Opened path n (Regular true)) = (2, (path, (n, 0)))
+parts_of (Opened path n Device) = (3, (path, (n, 0)))
+parts_of (Wrote n at bytes) = (4, (bytes, (n, at)))
+parts_of (Cut n len) = (5, ([], (n, len)))
+parts_of (Broke n) = (6, ([], (n, 0)))
+parts_of (Synced n) = (7, ([], (n, 0)))
+parts_of (Unwaited n) = (8, ([], (n, 0)))
+parts_of (Locked n) = (9, ([], (n, 0)))
+parts_of (Unlockable n) = (10, ([], (n, 0)))
+parts_of (Removed path) = (11, (path, (0, 0)))
+parts_of (SyncedNames path) = (12, (path, (0, 0)))
+parts_of (UnwaitedNames path) = (13, (path, (0, 0)))
+parts_of (Closed n) = (14, ([], (n, 0)))
 
 abbrev from_parts : CallParts → FileCall
-from_parts (which, ((one, other), (n, k))) =
+from_parts (which, (text, (n, k))) =
     get_or {A = FileCall} (
-    Made one n ∷ Opened one n (Regular false) ∷ Opened one n (Regular true) ∷ Opened one n Device
-    ∷ Wrote n k one ∷ Cut n k ∷ Broke n ∷ Measured n k ∷ Synced n ∷ Unwaited n ∷ Locked n
-    ∷ Unlockable n ∷ Missing one ∷ Linked one other ∷ Renamed one other ∷ Removed one
-    ∷ SyncedNames one ∷ UnwaitedNames one ∷ Closed n ∷ Reclaimed one ∷ []) which (Broke n)
+    Made text n ∷ Opened text n (Regular false) ∷ Opened text n (Regular true) ∷ Opened text n Device
+    ∷ Wrote n k text ∷ Cut n k ∷ Broke n ∷ Synced n ∷ Unwaited n ∷ Locked n ∷ Unlockable n ∷ Removed text
+    ∷ SyncedNames text ∷ UnwaitedNames text ∷ Closed n ∷ []) which (Broke n)
 
 pub from_parts-parts_of : (call : FileCall) → from_parts (parts_of call) ≡ call
 from_parts-parts_of (Opened path n (Regular false)) = refl
@@ -47,6 +40,5 @@ from_parts-parts_of (Opened path n Device) = refl
 from_parts-parts_of call = refl
 
 abbrev pub coded_call : Coded FileCall
-coded_call = code_by CallParts
-    (coded× coded_ℕ (coded× (coded× (coded_list coded_ℕ) (coded_list coded_ℕ)) (coded× coded_ℕ coded_ℕ)))
+coded_call = code_by CallParts (coded× coded_ℕ (coded× (coded_list coded_ℕ) (coded× coded_ℕ coded_ℕ)))
     parts_of from_parts from_parts-parts_of

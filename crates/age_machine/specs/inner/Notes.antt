@@ -1,8 +1,7 @@
 -- Which calls are noted. Private: no public contract cites this module.
 use Rattle.std.specs.Prelude.{List, [], ◌∷◌}
-use Rattle.age_calls.specs.Calls.{FileCall, Made, Opened, Wrote, Cut, Broke, Measured, Synced}
-use Rattle.age_calls.specs.Calls.{Unwaited, Closed, Locked, Unlockable, Missing, Linked, Renamed}
-use Rattle.age_calls.specs.Calls.{Removed, Reclaimed, SyncedNames, UnwaitedNames}
+use Rattle.age_calls.specs.Calls.{FileCall, Made, Opened, Wrote, Cut, Broke, Synced, Unwaited, Closed, Locked}
+use Rattle.age_calls.specs.Calls.{Unlockable, Removed, SyncedNames, UnwaitedNames}
 use Rattle.age_names.specs.{number_of}
 use Rattle.age_machine.specs.declared.notes.Note.{Note}
 use Rattle.age_machine.specs.declared.notes.Note.TheVariants as note
@@ -16,17 +15,12 @@ file_call_of (word.Opened path node kind) = Opened path.now (number_of node) kin
 file_call_of (word.Wrote node at bytes) = Wrote (number_of node) at bytes.now
 file_call_of (word.Cut node len) = Cut (number_of node) len
 file_call_of (word.Broke node) = Broke (number_of node)
-file_call_of (word.Measured node len) = Measured (number_of node) len
 file_call_of (word.Synced node) = Synced (number_of node)
 file_call_of (word.Unwaited node cant) = Unwaited (number_of node)
 file_call_of (word.Closed node) = Closed (number_of node)
 file_call_of (word.Locked node) = Locked (number_of node)
 file_call_of (word.Unlockable node) = Unlockable (number_of node)
-file_call_of (word.Missing path) = Missing path.now
-file_call_of (word.Linked from to) = Linked from.now to.now
-file_call_of (word.Renamed from to) = Renamed from.now to.now
 file_call_of (word.Removed path) = Removed path.now
-file_call_of (word.Reclaimed room) = Reclaimed room.now.path.now
 file_call_of (word.SyncedNames path) = SyncedNames path.now
 file_call_of (word.UnwaitedNames path) = UnwaitedNames path.now
 

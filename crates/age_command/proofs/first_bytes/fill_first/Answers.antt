@@ -1,4 +1,4 @@
-use Rattle.std.proofs.Common.{take, arith, ap, length}
+use Rattle.std.proofs.Common.{take, arith, ap, length, ◌∙◌}
 use Rattle.std.proofs.lemmas.List.{length-append, length-take}
 use Rattle.age_io.proofs.{Consumes-trans}
 use Rattle.age_command.proofs.first_bytes.fill_first.Goals as goal
@@ -11,7 +11,7 @@ pieces-preserved g c =
     let items = c.in_ok-extend_from_slice.ensures.items in
     record {
       read = rw items (Consumes-trans _ _ _ c.pieces.held.items (take n buffer) kept.read c.in_ok-n.ensures.piece.read);
-      began = λ from so. c.in_ok-n.ensures.began from (kept.began from so);
+      named = c.in_ok-n.ensures.named ∙ kept.named;
       within = omega (
         arith,
         kept.within,

@@ -3,16 +3,19 @@ use Rattle.age_command.specs.{HoldsBytes, IsSharedIn}
 use Rattle.age_command.proofs.{cut_in_two, front_length}
 use Rattle.age_command.proofs.identity.shared_of.Goals as goal
 
-pub returns-clause-some : goal.returns-clause-some
-returns-clause-some c =
+pub returns : goal.returns
+returns c =
     let xs = c.args.bytes.now in
     let a = c.in_ok-shared.ensures.cases in
     let b = c.in_ok-as_array.ensures.cases in
     let front = c.in_ok-shared.shared.now in
     let rest = c.in_ok-shared.recipient.now in
-    subst (λ s. IsSharedIn (HoldsBytes (Some xs)) s) (sym c.new.ensures) (record {
-      bytes =
-          ap Some (cut_in_two 32 xs front rest a.0 a.1 ∙ ap (λ (t : List ℕ). front ++ t) (sym b.same));
-      secret_length = front_length 32 xs front a.0 (omega (arith, a.2));
-      recipient_length = ap length b.same ∙ b.long;
-    })
+    record {
+      some =
+          subst (λ s. IsSharedIn (HoldsBytes (Some xs)) s) (sym c.new.ensures) (record {
+            bytes =
+                ap Some (cut_in_two 32 xs front rest a.0 a.1 ∙ ap (λ (t : List ℕ). front ++ t) (sym b.same));
+            secret_length = front_length 32 xs front a.0 (omega (arith, a.2));
+            recipient_length = ap length b.same ∙ b.long;
+          });
+    }

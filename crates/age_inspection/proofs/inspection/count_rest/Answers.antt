@@ -10,7 +10,7 @@ pulls-preserved g c =
     let fresh = c.bytes-in-pulls.result.now in
     let same = c.use_all-in-pulls.ensures.pulls in
     record {
-      same = (kept.same.0, kept.same.1, λ from so. c.in_ok-refill.ensures.began from (kept.same.2 from so));
+      same = (kept.same.0, kept.same.1, c.in_ok-refill.ensures.named ∙ kept.same.2);
       passed = kept.passed ++ fresh;
       count_is = omega (arith, kept.count_is, length-append kept.passed fresh);
       small = omega (arith, kept.small, c.bytes-in-pulls.ensures.most, same, r.answered.3);

@@ -5,7 +5,7 @@ use Rattle.age_inspection.proofs.inspection.count_rest.Given as goal
 -- the bytes that were counted
 abbrev pub invariant-pulls : goal.invariant-pulls
 invariant-pulls g l = record {
-  same : SameReader g.S.Source.began l.fn.reader l.reader;
+  same : SameReader g.S.Source.view l.fn.reader l.reader;
   passed : List ℕ;
   count_is : l.count ≡ length passed;
   small : l.count ≤ pull_room * (l.reader.intake.now.pulls + 1);

@@ -1,7 +1,7 @@
-use Rattle.std.proofs.lemmas.Grind.{common_steps}
-use Rattle.std.proofs.Common.{arith, rules}
+use Rattle.std.proofs.Common.{◌∙◌, ◌-◌, ℕ, ap, rules}
 use Rattle.age_intake.specs.{InHeader, HeadFails}
 use Rattle.age_intake.proofs.ReadLemmas.{err_is, stops_unread, read_last}
+use Rattle.age_inspection.specs.Reports.{InspectsFront}
 use Rattle.age_inspection.proofs.ReportLemmas.{whole_of}
 use Rattle.age_inspection.proofs.inspection.inspect_sized.Goals as goal
 
@@ -17,7 +17,27 @@ returns-in_err-head-clause-fails g c =
     (search rules) c.in_err-head.ensures.fails)
 
 pub returns-clause-ok : goal.returns-clause-ok
-returns-clause-ok g c = grind (arith, common_steps, read_last)
+returns-clause-ok g c =
+    let first = (g.S.Source.view c.args.source.now).supply in
+    let head = c.in_ok-head.head in
+    let found = c.in_ok-head.ensures.found in
+    read_last g.S.Source.view (λ v. InspectsFront c.args.len first v.supply (record {
+      header = head.len;
+      stanzas = c.in_ok-stanzas.stanzas;
+      rest = c.from-left.result;
+      plain = c.plain_of.result;
+    })) _ c.read_head.new.reader.source.now (search rules) (record {
+      h = head.header;
+      front = found.front;
+      more = c.read_head.new.reader.intake.now.bytes;
+      text = found.text;
+      read = found.pulled.consumed;
+      few = found.few;
+      header_is = found.len_is;
+      stanzas_are = c.in_ok-stanzas.ensures;
+      rest_is = c.from-left.ensures ∙ (c.saturating_sub.ensures ∙ ap (λ (n : ℕ). c.args.len - n) found.len_is);
+      plain_is = c.plain_of.ensures;
+    })
 
 pub returns-clause-whole : goal.returns-clause-whole
 returns-clause-whole g c bytes is size =

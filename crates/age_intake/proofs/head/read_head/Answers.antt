@@ -66,7 +66,7 @@ pieces-preserved g c =
     let r = rw c.if-branch.true at c.in_ok-refill.ensures.refills.answered in
     let goes = rw c.in_default.is at (c.in_ok-header.ensures kept.held kept.front) in
     record {
-      same = (kept.same.0, kept.same.1, λ from so. c.in_ok-refill.ensures.began from (kept.same.2 from so));
+      same = (kept.same.0, kept.same.1, c.in_ok-refill.ensures.named ∙ kept.same.2);
       held = kept.held ++ c.refill.new.self.bytes;
       front = goes.0;
       pulled = rw goes.2 (c.refill.ensures.refills.pulled (start_at old.supply) kept.held kept.pulled);
@@ -77,4 +77,4 @@ pieces-preserved g c =
 pub returns-in_err-header-clause-same : goal.returns-in_err-header-clause-same
 returns-in_err-header-clause-same g c =
     let kept = c.pieces.invariant.same in
-    (kept.0, kept.1, λ from so. c.in_ok-refill.ensures.began from (kept.2 from so))
+    (kept.0, kept.1, c.in_ok-refill.ensures.named ∙ kept.2)

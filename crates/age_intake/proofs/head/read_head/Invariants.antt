@@ -5,7 +5,7 @@ use Rattle.age_intake.proofs.head.read_head.Given as goal
 
 abbrev pub invariant-pieces : goal.invariant-pieces
 invariant-pieces g l = record {
-  same : SameReader g.S.Source.began l.fn.reader l.reader;
+  same : SameReader g.S.Source.view l.fn.reader l.reader;
   held : List ℕ;
   front : IsFront l.front held;
   pulled : Pulled (start_at (g.S.Source.view l.fn.reader.source.now).supply)

@@ -12,7 +12,7 @@ use Rattle.age_opening.proofs.copy.copy_chunk.Goals as goal
 pub parts-init : goal.parts-init
 parts-init g c =
     record {
-      same_reader = (refl, refl, λ from so. so);
+      same_reader = (refl, refl, refl);
       same_writer = refl;
       copied = [];
       size = omega arith;
@@ -83,7 +83,7 @@ parts-preserved g c =
     let whole : put.out ≡ take n bytes = sym (put.parts ∙ ap (λ (t : List ℕ). put.out ++ t) put.answered.0 ∙ append-nil put.out) in
     let same = c.in_ok-need_bytes.ensures.same in
     record {
-      same_reader = (same.0 ∙ kept.same_reader.0, same.1 ∙ kept.same_reader.1, λ from so. same.2 from (kept.same_reader.2 from so));
+      same_reader = (same.0 ∙ kept.same_reader.0, same.1 ∙ kept.same_reader.1, same.2 ∙ kept.same_reader.2);
       same_writer = kept.same_writer;
       copied = kept.copied ++ take n bytes;
       size = omega (

@@ -10,7 +10,7 @@ use Rattle.age_opening.proofs.copy.copy_chunk.Given as goal
 -- what was copied so far
 abbrev pub invariant-parts : goal.invariant-parts
 invariant-parts g l = record {
-  same_reader : SameReader g.S.Source.began l.fn.reader l.reader;
+  same_reader : SameReader g.S.Source.view l.fn.reader l.reader;
   same_writer : SameWriter l.fn.writer l.writer;
   copied : List ℕ;
   size : length copied + l.left ≡ chunk_length;

@@ -36,7 +36,7 @@ loop-copied-preserved g c =
     ∙ ap (λ (k : ℕ). chain_if Kept (first_chunks chunk_length k (kept.out ++ step.out))) next in
     let same = c.in_ok-copy_chunk.ensures.same_reader in
     record {
-      same_reader = (same.0 ∙ kept.same_reader.0, same.1 ∙ kept.same_reader.1, λ from so. same.2 from (kept.same_reader.2 from so));
+      same_reader = (same.0 ∙ kept.same_reader.0, same.1 ∙ kept.same_reader.1, same.2 ∙ kept.same_reader.2);
       same_writer = c.in_ok-copy_chunk.ensures.same_writer ∙ kept.same_writer;
       out = kept.out ++ step.out;
       size = omega (arith, kept.size, goes.0, length-append kept.out step.out);

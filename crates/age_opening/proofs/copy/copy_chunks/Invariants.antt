@@ -10,7 +10,7 @@ use Rattle.age_opening.proofs.copy.copy_chunks.Given as goal
 -- the chunks that were copied so far
 abbrev pub invariant-loop-copied : goal.invariant-loop-copied
 invariant-loop-copied g l = record {
-  same_reader : SameReader g.S.Source.began l.fn.reader l.reader;
+  same_reader : SameReader g.S.Source.view l.fn.reader l.reader;
   same_writer : SameWriter l.fn.writer l.writer;
   out : List ℕ;
   size : length out ≡ l._copied * chunk_length;

@@ -12,7 +12,7 @@ pub turns-init : goal.turns-init
 turns-init g c =
     let old = stage_of g.S.Source.view g.O.Sink.view c.args.reader.now c.args.writer.now in
     record {
-      same_reader = (refl, refl, λ from so. so);
+      same_reader = (refl, refl, refl);
       same_writer = refl;
       goes = begins opens chunk_length c.args.key.now c.args.index c.at-opener.result old
           (omega (arith, ap (λ o. length o.held) c.at-opener.ensures.view, c.requires.room.0)) c.requires.room.1
@@ -40,7 +40,7 @@ turns-preserved g c =
     c.use_all.ensures.bytes c.in_ok-feed_piece.ensures.fed c.in_ok-feed_piece.ensures.goes in
     let same = c.turns.invariant.same_reader in
     record {
-      same_reader = (same.0, same.1, λ from so. c.in_ok-refill.ensures.began from (same.2 from so));
+      same_reader = (same.0, same.1, c.in_ok-refill.ensures.named ∙ same.2);
       same_writer = c.in_ok-feed_piece.ensures.same ∙ c.turns.invariant.same_writer;
       goes = pulled_more opens chunk_length _ _ _ c.use_all.ensures.bytes goes (rw c.if-not-branch.false at c.in_ok-refill.ensures.refills);
     }

@@ -12,7 +12,7 @@ invariant-turns g l =
     let old = stage_of g.S.Source.view g.O.Sink.view l.fn.reader l.fn.writer in
     let now = stage_of g.S.Source.view g.O.Sink.view l.reader l.writer in
     record {
-      same_reader : SameReader g.S.Source.began l.fn.reader l.reader;
+      same_reader : SameReader g.S.Source.view l.fn.reader l.reader;
       same_writer : SameWriter l.fn.writer l.writer;
       goes : GoesOn opens chunk_length l.key l.index l.opener old now;
     }

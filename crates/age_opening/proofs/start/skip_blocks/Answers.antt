@@ -18,7 +18,7 @@ pieces-preserved g c =
     let piece = c.bytes.result.now in
     let same = c.in_ok-need_bytes.ensures.same in
     record {
-      same = (same.0 ∙ kept.same.0, same.1 ∙ kept.same.1, λ from so. same.2 from (kept.same.2 from so));
+      same = (same.0 ∙ kept.same.0, same.1 ∙ kept.same.1, same.2 ∙ kept.same.2);
       passed = kept.passed ++ take n piece;
       size = omega (arith, kept.size, c.min-n.ensures, length-append kept.passed (take n piece), length-take n piece);
       passes = passes_on {v = c.use_front.new.self} piece n kept.passes c.in_ok-need_bytes.ensures.some c.use_front.ensures.pulls

@@ -5,7 +5,7 @@ use Rattle.age_opening.proofs.start.skip_blocks.Given as goal
 
 abbrev pub invariant-pieces : goal.invariant-pieces
 invariant-pieces g l = record {
-  same : SameReader g.S.Source.began l.fn.reader l.reader;
+  same : SameReader g.S.Source.view l.fn.reader l.reader;
   passed : List ℕ;
   size : length passed + l.left ≡ l.blocks * block_length;
   passes : Passes (view_of_reader g.S.Source.view l.fn.reader) (view_of_reader g.S.Source.view l.reader) passed;

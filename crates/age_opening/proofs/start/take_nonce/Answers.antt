@@ -23,7 +23,7 @@ parts-preserved g c =
     let new = reader_view (g.S.Source.view c.need_bytes.new.reader.source.now) c.use_front.new.self in
     let same = c.in_ok-need_bytes.ensures.same in
     record {
-      same = (same.0 ∙ kept.same.0, same.1 ∙ kept.same.1, λ from so. same.2 from (kept.same.2 from so));
+      same = (same.0 ∙ kept.same.0, same.1 ∙ kept.same.1, same.2 ∙ kept.same.2);
       most = omega (arith, kept.most, c.copy_some-n.ensures.count);
       few = omega (arith, some.few, ap length c.use_front.ensures.bytes, length-drop n c.need_bytes.new.reader.intake.now.bytes);
       room = c.copy_some-n.array_long;

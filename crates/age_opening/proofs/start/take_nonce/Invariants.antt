@@ -4,7 +4,7 @@ use Rattle.age_opening.proofs.start.take_nonce.Given as goal
 
 abbrev pub invariant-parts : goal.invariant-parts
 invariant-parts g l = record {
-  same : SameReader g.S.Source.began l.fn.reader l.reader;
+  same : SameReader g.S.Source.view l.fn.reader l.reader;
   most : l.have ≤ 16;
   few : length l.reader.intake.now.bytes ≤ pull_room;
   room : length l.nonce ≡ 16;

@@ -11,4 +11,4 @@ pub returns-in-Some-clause-decrypts : goal.returns-in-Some-clause-decrypts
 returns-in-Some-clause-decrypts g c = rw c.in-Some.is c.resume_marked.ensures.resumes
 
 pub returns-in-Some-clause-old : goal.returns-in-Some-clause-old
-returns-in-Some-clause-old g c = rw c.in-Some.is (refl, c.resume_marked.ensures.old_began)
+returns-in-Some-clause-old g c = rw c.in-Some.is (refl, c.resume_marked.ensures.old_named)

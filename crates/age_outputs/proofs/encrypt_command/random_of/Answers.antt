@@ -3,8 +3,8 @@ use Rattle.std.proofs.lemmas.List.{length-drop, drop-drop, take_all, append_asso
 use Rattle.age_command.proofs.{cut_in_two, front_length}
 use Rattle.age_outputs.proofs.encrypt_command.random_of.Goals as goal
 
-pub returns-clause-parts : goal.returns-clause-parts
-returns-clause-parts c =
+pub returns : goal.returns
+returns c =
     let xs = c.args.bytes.now in
     let ys = c.in_ok-front.front.now in
     let front = c.in_ok-front.ensures.cases in

@@ -1,4 +1,4 @@
-use Rattle.std.proofs.Common.{inl, inr, refl, true, false, rules, arith}
+use Rattle.std.proofs.Common.{inl, inr, refl, true, false, rules}
 use Rattle.age_fileset.proofs.{does_none, looked_does, looked_came}
 use Rattle.age_outputs.proofs.interruption.due_position.Goals as goal
 

@@ -5,7 +5,7 @@ use Rattle.age_outputs.proofs.output.end_out.Goals as goal
 pub returns-in-Ok : goal.returns-in-Ok
 returns-in-Ok g c =
     let closed = c.close.ensures in
-    rw c.in-Ok.is (closed_as _ _ _ c.close.result _ _ closed.noted.outcomes closed.noted.events closed.faults closed.closed)
+    rw c.in-Ok.is (closed_as _ _ _ c.close.result _ _ closed.noted closed.faults closed.closed)
 
 pub returns-in-Err : goal.returns-in-Err
 returns-in-Err g c = rw c.in-Err.is (refl, c.leave.ensures)

@@ -7,5 +7,5 @@ returns-in-Ok g c = record { done = concludes_all _ _ _ _ _ _ c.args.engine c.in
 pub returns-in-Err : goal.returns-in-Err
 returns-in-Err g c = record {
   done = tt;
-  unfinished = λ new ending so. concludes_stop _ _ _ _ _ _ new c.args.engine c.in-Err.fault ending c.in-Err.ensures so.unended so.noted so.put;
+  unfinished = λ new ending so. concludes_stop _ _ _ _ _ _ new c.args.engine c.in-Err.error ending c.in-Err.ensures so.unended so.put;
 }

@@ -1,5 +1,5 @@
 use Rattle.std.proofs.Common.{◌≡◌, ◌∙◌, [], inl, refl, sym, true≢false}
-use Rattle.age_outputs.proofs.{left_empty, left_puts, left_whole, some_and, grows_same}
+use Rattle.age_outputs.proofs.{left_empty, left_puts, left_whole, some_and, grows_kept}
 use Rattle.age_outputs.proofs.output.leave.Goals as goal
 
 pub returns-then-is_empty : goal.returns-then-is_empty
@@ -8,9 +8,8 @@ returns-then-is_empty g c =
     let none = c.is_empty-is_empty.ensures.0 c.if-is_empty.true in
     record {
       outs = [];
-      puts_only = grows_same _ _ noted.outcomes;
+      puts_only = grows_kept _ _ noted;
       out = inl refl;
-      noted = noted.events;
       ended = some_and _ (λ out d. left_empty (g.F.Out.Sink.view c.args.out) out none d) c.discard.ensures.discarded;
     }
 
@@ -18,11 +17,10 @@ pub returns-else-is_empty : goal.returns-else-is_empty
 returns-else-is_empty g c =
     let sink = g.F.Out.Sink.view c.args.out in
     let some : sink.taken.bytes ≡ [] → ⊥ = λ none. true≢false (sym (c.is_empty-is_empty.ensures.1 none) ∙ c.if-is_empty.false) in
-    let puts = left_puts sink c.close.result _ _ c.close.ensures.noted.outcomes c.close.ensures.faults some in
+    let puts = left_puts sink c.close.result _ _ c.close.ensures.noted some in
     record {
       outs = puts.0;
       puts_only = puts.1;
       out = puts.2;
-      noted = c.close.ensures.noted.events;
       ended = some_and _ (λ out d. left_whole sink out some d) c.close.ensures.closed;
     }

@@ -60,7 +60,7 @@ pulls-preserved g c =
     let start = start_at (g.S.Source.view c.args.reader.now.source.now).supply in
     let all = rw (← c.bytes.ensures.bytes) at (r.pulled start kept.text kept.pulled) in
     record {
-      same_reader = (kept.same_reader.0, kept.same_reader.1, λ from so. c.in_ok-refill.ensures.began from (kept.same_reader.2 from so));
+      same_reader = (kept.same_reader.0, kept.same_reader.1, c.in_ok-refill.ensures.named ∙ kept.same_reader.2);
       same_writer = c.in_ok-seal_piece.ensures.same_writer ∙ kept.same_writer;
       text = kept.text ++ piece;
       pulled = subst (λ (k : ℕ). Pulled start (g.S.Source.view c.refill.new.source).supply k (kept.text ++ piece)) (sym c.use_all.ensures.pulls) all;

@@ -9,7 +9,7 @@ use Rattle.age_sealing.proofs.sealing.seal_all.Given as goal
 -- the text that came so far
 abbrev pub invariant-pulls : goal.invariant-pulls
 invariant-pulls g l = record {
-  same_reader : SameReader g.S.Source.began l.fn.reader l.reader;
+  same_reader : SameReader g.S.Source.view l.fn.reader l.reader;
   same_writer : SameWriter l.fn.writer l.writer;
   text : List ℕ;
   pulled : Pulled (start_at (g.S.Source.view l.fn.reader.source.now).supply)

@@ -2,8 +2,7 @@ use Rattle.std.proofs.Common.{refl}
 use Rattle.age_disk.proofs.files.HostFilesFileSet.TheImpl.Goals as goal
 
 pub open-tells : goal.open-tells
-open-tells g x c = let e = c.ensures in
-    record { noted = rw (e.noted, e.came, e.unended, e.unsaved) refl; begun = e.begun; named = e.named; faults = e.faults }
+open-tells g x c = let e = c.ensures in record { noted = rw (e.came, e.unended) refl; begun = e.begun; named = e.named; faults = e.faults }
 
 pub replace-tells : goal.replace-tells
-replace-tells g x c = let e = c.ensures in record { noted = rw (e.noted, e.came, e.unended) refl; saved = e.saved; faults = e.faults }
+replace-tells g x c = let e = c.ensures in record { noted = rw (e.came, e.unended) refl; faults = e.faults }

@@ -4,7 +4,7 @@ use Rattle.age_fileset.proofs.{kept_one}
 use Rattle.age_fileset.proofs.mem_files.MemFilesFileSet.is_absent.Goals as goal
 
 pub invariant_of-self : goal.invariant_of-self
-invariant_of-self c = kept_one _ c.self.inside.log.outcomes _ (Present c.args.name.now) (search rules) (λ files q. refl) (search rules) c.self.invariant
+invariant_of-self c = kept_one _ c.self.inside.log _ (Present c.args.name.now) (search rules) (λ files q. refl) (search rules) c.self.invariant
 
 pub invariant_of-self-2 : goal.invariant_of-self-2
-invariant_of-self-2 c = kept_one _ c.self.inside.log.outcomes _ (Absent c.args.name.now) (search rules) (λ files q. refl) (search rules) c.self.invariant
+invariant_of-self-2 c = kept_one _ c.self.inside.log _ (Absent c.args.name.now) (search rules) (λ files q. refl) (search rules) c.self.invariant

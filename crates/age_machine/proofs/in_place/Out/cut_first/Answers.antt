@@ -4,7 +4,7 @@ use Rattle.age_machine.proofs.{out_after}
 use Rattle.age_machine.proofs.in_place.Out.cut_first.Goals as goal
 
 pub invariant_of-self : goal.invariant_of-self
-invariant_of-self g c =
+invariant_of-self c =
     let out = c.self.invariant in
     let some : 0 < c.self.inside.written =
     omega (arith, c.requires, ap (λ v. length (text_of v.calls)) c.self.view_is, out.written) in
@@ -12,7 +12,7 @@ invariant_of-self g c =
     (out.begun (sym c.in-Ok.ensures.counted ∙ sound))) (λ is. omega (arith, out.lost is, c.in-Ok.ensures.counted))
 
 pub invariant_of-self-in-Err : goal.invariant_of-self-in-Err
-invariant_of-self-in-Err g c =
+invariant_of-self-in-Err c =
     let out = c.self.invariant in
     let some : 0 < c.self.inside.written =
     omega (arith, c.requires, ap (λ v. length (text_of v.calls)) c.self.view_is, out.written) in

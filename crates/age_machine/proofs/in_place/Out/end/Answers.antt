@@ -5,8 +5,8 @@ use Rattle.age_machine.proofs.{safe_named, placed_closed, leads_begun, on_ok_bot
 use Rattle.age_machine.proofs.in_place.Out.end.Goals as goal
 
 pub returns-in-Ok-clause-safe : goal.returns-in-Ok-clause-safe
-returns-in-Ok-clause-safe g c =
-    λ synced sound. let closed = g.M.Machine.calls c.close_named-closed.new.machine in
+returns-in-Ok-clause-safe c =
+    λ synced sound. let closed = c.close_named-closed.new.machine.calls in
     let same = c.claim-claimed.ensures.same in let opening = c.self.inside.opening in
     let unfailed = ap (λ (v : OutView). v.failed) c.self.view_is ∙ (c.in_default.ensures.counted ∙ sound) in
     let long = ap (λ (v : OutView). length (text_of v.calls)) c.self.view_is ∙ sym c.shape-shape.ensures in
@@ -19,8 +19,8 @@ returns-in-Ok-clause-safe g c =
     (named synced (waited_for _ _ opening closed disk held.opened answers)) disk answers waited) named)
 
 pub returns-in-Ok-clause-there : goal.returns-in-Ok-clause-there
-returns-in-Ok-clause-there g c =
-    λ sound. let closed = g.M.Machine.calls c.close_named-closed.new.machine in
+returns-in-Ok-clause-there c =
+    λ sound. let closed = c.close_named-closed.new.machine.calls in
     let same = c.claim-claimed.ensures.same in
     let unfailed = ap (λ (v : OutView). v.failed) c.self.view_is ∙ (c.in_default.ensures.counted ∙ sound) in
     let long = ap (λ (v : OutView). length (text_of v.calls)) c.self.view_is ∙ sym c.shape-shape.ensures in
@@ -31,7 +31,7 @@ returns-in-Ok-clause-there g c =
     c.close_named-closed.ensures.closed)
 
 pub returns-in-Ok-clause-within : goal.returns-in-Ok-clause-within
-returns-in-Ok-clause-within g c =
+returns-in-Ok-clause-within c =
     let long = ap (λ (v : OutView). length (text_of v.calls)) c.self.view_is ∙ sym c.shape-shape.ensures in
     let claimed = rw (← c.self.view_is) at c.in_default.ensures.claimed in
     let stays = rw c.as_str.ensures.value at c.close_named-closed.ensures.held in
@@ -39,7 +39,7 @@ returns-in-Ok-clause-within g c =
     (touches_held _ _ _ refl (stays _ (c.finish-finished.ensures.held _ _ (omega (arith, long)) (out_held _ _ c.self.inside.opening _ _ _ _ _ _ c.self.invariant claimed))))
 
 pub returns-clause-within : goal.returns-clause-within
-returns-clause-within g c =
+returns-clause-within c =
     let long = ap (λ (v : OutView). length (text_of v.calls)) c.self.view_is ∙ sym c.shape-shape.ensures in
     let claimed = rw (← c.self.view_is) at c.in_default.ensures.claimed in
     let stays = rw c.as_str.ensures.value at c.close_named-closed.ensures.held in
@@ -47,5 +47,5 @@ returns-clause-within g c =
     (touches_held _ _ _ refl (stays _ (c.finish-finished.ensures.held _ _ (omega (arith, long)) (out_held _ _ c.self.inside.opening _ _ _ _ _ _ c.self.invariant claimed))))
 
 pub returns-in-Err-clause-within : goal.returns-in-Err-clause-within
-returns-in-Err-clause-within g c =
+returns-in-Err-clause-within c =
     rw (← c.claim-claimed.ensures.same.0, ← c.self.view_is) (touches_now _ _ _ _ _ _ _ _ _ c.self.invariant _ refl)

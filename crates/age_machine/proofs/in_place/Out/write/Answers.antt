@@ -4,7 +4,7 @@ use Rattle.age_machine.proofs.{out_wrote, out_broke}
 use Rattle.age_machine.proofs.in_place.Out.write.Goals as goal
 
 pub invariant_of-self-2 : goal.invariant_of-self-2
-invariant_of-self-2 g c =
+invariant_of-self-2 c =
     let n : ℕ = c.in_ok-n.n in let from = c.args.from.now in
     let claimed = rw (← c.self-2.view_is) at c.in_ok-claim.ensures.claimed in
     let long : length (take n from) ≡ n = length-take-le n from c.in_ok-n.ensures.bound in
@@ -13,6 +13,6 @@ invariant_of-self-2 g c =
     (ap (λ (k : ℕ). c.self-2.inside.written + k) (sym long)) c.in_ok-n.ensures.counted
 
 pub invariant_of-self : goal.invariant_of-self
-invariant_of-self g c =
+invariant_of-self c =
     let claimed = rw (← c.self-2.view_is) at c.in_ok-claim.ensures.claimed in
     out_broke _ _ c.self-2.inside.opening _ _ _ _ _ _ c.self-2.invariant _ _ _ claimed c.in_err-n.ensures.err c.in_err-n.ensures.counted

@@ -1,2 +1,0 @@
-pub mod SavedLemmas
-unfoldable pub use SavedLemmas.*

@@ -1,2 +1,0 @@
-pub mod DrillLemmas
-pub use DrillLemmas.*

@@ -1,3 +1,0 @@
-pub mod Drills
-pub mod inner
-pub use Drills.{DrillEnds}

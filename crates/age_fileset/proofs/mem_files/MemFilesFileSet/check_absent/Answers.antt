@@ -1,7 +1,0 @@
-use Rattle.std.proofs.Common.{rules, refl}
-use Rattle.age_fileset.specs.{Unwritten}
-use Rattle.age_fileset.proofs.{kept_one}
-use Rattle.age_fileset.proofs.mem_files.MemFilesFileSet.check_absent.Goals as goal
-
-pub invariant_of-self : goal.invariant_of-self
-invariant_of-self c = kept_one _ c.self.inside.log.outcomes _ (Unwritten c.args.name.now) (search rules) (λ files q. refl) tt c.self.invariant

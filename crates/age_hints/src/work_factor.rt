@@ -1,0 +1,72 @@
+//! The work factor that a header names, by the first bytes of its file.
+
+use age_messages::Size;
+use age_options::FirstBytes;
+use std::fmt::{self, Formatter};
+
+/// How many characters the salt of that stanza has, and how many its body.
+const SALT_LEN: usize = 22;
+
+const BODY_LEN: usize = 43;
+
+/// A work factor.
+#[derive(Clone, Copy)]
+pub(crate) enum WorkFactor {
+    /// One that some limit allows.
+    Allowed(u8),
+    /// One above all limits.
+    TooHigh,
+}
+
+impl fmt::Display for WorkFactor {
+    fn fmt<W: fmt::Write>(&self, f: &mut Formatter<W>) -> fmt::Result {
+        match *self {
+            WorkFactor::Allowed(log) => {
+                let size = Size(1024 << (log as u64).min(22));
+                write!(f, "work factor {log}: a passphrase takes {size} of memory")
+            }
+            WorkFactor::TooHigh => f.write_str("work factor above 22: no age_tool opens it"),
+        }
+    }
+}
+
+/// The work factor of a passphrase's stanza that comes first in a file that begins so, as it must.
+pub(crate) fn work_in(head: &FirstBytes) -> Option<WorkFactor> {
+    let (_, rest) = scrypt(head)?;
+    work_of(rest)
+}
+
+/// The same, for a header that a passphrase can open: its only stanza is that one.
+pub(crate) fn work_alone(head: &FirstBytes) -> Option<WorkFactor> {
+    let (salt, rest) = scrypt(head)?;
+    let (_, body) = rest.split_once('\n')?;
+    let (body, end) = body.split_once('\n')?;
+    if salt.len() == SALT_LEN && body.len() == BODY_LEN && end.starts_with("---") {
+        work_of(rest)
+    } else {
+        None
+    }
+}
+
+/// The salt of a passphrase's stanza that comes first, and what follows it.
+fn scrypt(head: &FirstBytes) -> Option<(&str, &str)> {
+    let kept = str::from_utf8(head.as_slice()).ok()?;
+    let stanza = kept.strip_prefix("age-encryption.org/v1\n-> scrypt ")?;
+    stanza.split_once(' ')
+}
+
+/// The work factor that a text begins with, to the end of its line. (One without that end has more
+/// digits than are kept.)
+fn work_of(text: &str) -> Option<WorkFactor> {
+    let digits = match text.split_once('\n') {
+        Some((digits, _)) => digits,
+        None => text,
+    };
+    if digits.is_empty() || !digits.bytes().all(|it| it.is_ascii_digit()) {
+        return None;
+    }
+    match digits.parse::<u8>() {
+        Ok(log) if log <= 22 => Some(WorkFactor::Allowed(log)),
+        _ => Some(WorkFactor::TooHigh),
+    }
+}

@@ -1,0 +1,289 @@
+//! Files of the machine that are open for writing. No proof sees what the system shows of them.
+
+ghost use Rattle.std.specs.Prelude.{◌≡◌, ◌<◌, length, true, false, IsOk, IfOk, IfErr};
+ghost use Rattle.std.specs.Io.{WritesAtMost};
+ghost use Rattle.age_machine.specs.inner.Locks.{SaysNoLocks, HasNoLocks};
+
+use crate::calls;
+use crate::retry::{TRIES, is_to_retry, too_many_tries};
+use crate::waiting::sync;
+use age_calls::Kind;
+use age_names::{Node, folder_of, is_at, led_to};
+use std::fs::{self, File, Metadata, TryLockError};
+use std::io;
+use std::os::fd::AsRawFd;
+use std::os::unix::fs::MetadataExt;
+use std::rt::HostRuntime;
+
+/// The mode of a new output, before the umask.
+pub(crate) const OUTPUT_MODE: u32 = 0o666;
+
+/// The highest descriptor of a standard stream.
+const STREAM_MAX: i32 = 2;
+
+/// Moves a file to a descriptor above 2. If the program was started with a standard stream closed,
+/// the next file opened would take its place, and output meant for the stream would go there.
+pub fn above_streams(file: File) -> io::Result<File> {
+    if file.as_raw_fd() > STREAM_MAX {
+        Ok(file)
+    } else {
+        file.try_clone()
+    }
+}
+
+/// Moves a file that was made at a path to a descriptor above the standard streams. The file is
+/// removed if that fails, unless another file is there by then.
+pub fn kept_above(rt: &HostRuntime, made: File, path: &str) -> io::Result<File> {
+    if made.as_raw_fd() > STREAM_MAX {
+        return Ok(made);
+    }
+    let moved = made.try_clone();
+    if moved.is_err() && is_at(rt, &made, path) {
+        let _ = calls::remove(rt, path);
+    }
+    moved
+}
+
+/// Waits until the names in the folder of a path have reached the disk; `false` if the machine has
+/// no way to wait. Fails if the folder can't be read.
+pub fn sync_folder(rt: &HostRuntime, path: &str) -> io::Result<bool> {
+    sync(&File::open(rt, folder_of(path))?)
+}
+
+/// Opens a file for writing without emptying it; `None` if none exists. It is opened as if it might
+/// have to be made (`O_CREAT`), since only then does the system refuse somebody else's file or pipe
+/// in a sticky folder, if it protects these. A file that is removed just before is made.
+fn open_to_write(rt: &HostRuntime, name: &str) -> io::Result<Option<File>> {
+    match led_to(rt, name)? {
+        Some(_) => Ok(Some(calls::open_or_make(rt, name, OUTPUT_MODE)?)),
+        None => Ok(None),
+    }
+}
+
+/// Whether a file was made at another time than one that was found before, as far as the system
+/// shows that. Nodes don't tell, since the next file may get the node of a removed one.
+fn was_made_later(before: &Metadata, now: &Metadata) -> bool {
+    matches!((before.created(), now.created()), (Ok(before), Ok(now)) if before != now)
+}
+
+/// Whether opening a file has made it, since the one that was found before, which held something,
+/// is gone. Then it is empty, no other run has it, and its path leads to it.
+fn is_made_anew(rt: &HostRuntime, before: io::Result<Metadata>, file: &File, path: &str) -> bool {
+    let (Ok(before), Ok(now)) = (before, file.metadata()) else {
+        return false;
+    };
+    let is_another = Node::of(&before) != Node::of(&now) || was_made_later(&before, &now);
+    let was_emptied = before.is_file() && before.len() > 0 && now.len() == 0;
+    is_another && was_emptied && file.try_lock().is_ok() && is_at(rt, file, path)
+}
+
+/// Whether a folder can't be read, as far as the error says.
+fn is_out_of_reach(error: &io::Error) -> bool {
+    matches!(
+        error.kind(),
+        io::ErrorKind::PermissionDenied | io::ErrorKind::NotFound
+    )
+}
+
+/// Like `sync_folder`, but also `false` if the folder can't be read.
+pub(crate) fn sync_readable_folder(rt: &HostRuntime, path: &str) -> io::Result<bool> {
+    match File::open(rt, folder_of(path)) {
+        Ok(folder) => sync(&folder),
+        Err(error) if is_out_of_reach(&error) => Ok(false),
+        Err(error) => Err(error),
+    }
+}
+
+/// What a file is now.
+#[derive(Clone, Copy)]
+pub struct Sight {
+    /// Whether it has a name.
+    pub is_named: bool,
+    pub len: u64,
+}
+
+/// What a file is to look like, unless another program has harmed it.
+#[derive(Clone, Copy)]
+pub struct Shape {
+    pub len: u64,
+    /// Whether it may have more bytes than that.
+    pub may_be_longer: bool,
+    /// Whether its length says how much was written to it.
+    pub has_length: bool,
+    pub is_named: bool,
+}
+
+/// Returns what a file is now.
+pub(crate) fn sight_of(file: &File) -> io::Result<Sight> {
+    let now = file.metadata()?;
+    Ok(Sight {
+        is_named: now.nlink() > 0,
+        len: now.len(),
+    })
+}
+
+/// Fails if another program has removed a file or changed its length. A file system that takes
+/// bytes before there is room for them, as NFS does, says why a file is too short only at a wait.
+pub(crate) fn check(file: &File, shape: &Shape) -> io::Result<()> {
+    let now = sight_of(file)?;
+    let is_right = now.len == shape.len || (shape.may_be_longer && now.len > shape.len);
+    if shape.is_named && !now.is_named {
+        Err(io::Error::other("it was removed meanwhile"))
+    } else if shape.has_length && !is_right {
+        sync(file)?;
+        Err(io::Error::other("another program changed its length"))
+    } else {
+        Ok(())
+    }
+}
+
+/// The number of the error `ENOLCK`, which says that no locks are available, and has no kind.
+const NO_LOCKS: i32 = 37;
+
+/// Whether an error says that a file system has no locks. One whose locks fail, as when its server
+/// can't be reached, says something else, since another run may have the file there.
+fn has_no_locks(error: &io::Error) -> bool
+    ensures { result ≡ true → SaysNoLocks error.now }
+{
+    match error.kind() {
+        io::ErrorKind::InvalidInput | io::ErrorKind::Unsupported => true,
+        _ => error.raw_os_error() == Some(NO_LOCKS),
+    }
+}
+
+/// Whether the system gave a lock, by its answer; `false` if it has no locks for the file. Fails if
+/// another run has the lock.
+fn is_locked(answer: Result<(), TryLockError>) -> io::Result<bool>
+    ensures given { IfOk result (λ it. it ≡ true → IsOk answer) }
+    ensures cant { IfOk result (λ it. it ≡ false → IfErr answer HasNoLocks) }
+{
+    match answer {
+        Ok(()) => Ok(true),
+        Err(TryLockError::WouldBlock) => Err(io::Error::new(
+            io::ErrorKind::ResourceBusy,
+            "another run writes to it",
+        )),
+        Err(TryLockError::Error(error)) if has_no_locks(&error) => Ok(false),
+        Err(TryLockError::Error(error)) => Err(error),
+    }
+}
+
+/// Takes a regular file for this run alone, while it is open; `false` if the file system has no
+/// locks, so that every run may have it. Fails if another run has it.
+pub fn lock(file: &File) -> io::Result<bool> {
+    if !file.metadata()?.is_file() {
+        return Ok(false);
+    }
+    is_locked(file.try_lock())
+}
+
+/// Closes a second descriptor of a file.
+pub fn close_copy(rt: &HostRuntime, file: &File) -> io::Result<()> {
+    calls::close(rt, file.try_clone()?)
+}
+
+/// A file of the machine that is open for writing.
+#[derive(Drop)]
+pub struct HostFile {
+    file: File,
+    node: Node,
+    // Whether it had a name when it was opened.
+    is_named: bool,
+}
+
+impl HostFile {
+    /// Takes an open file, and says what kind it is.
+    pub(crate) fn of(file: File) -> io::Result<(HostFile, Kind)> {
+        let found = file.metadata()?;
+        let node = Node::of(&found);
+        let is_named = found.nlink() > 0;
+        let kind = if found.is_file() {
+            Kind::Regular(is_named)
+        } else {
+            Kind::Device
+        };
+        let file = HostFile {
+            file,
+            node,
+            is_named,
+        };
+        Ok((file, kind))
+    }
+
+    /// Opens a file for writing without emptying it; `None` if it doesn't exist, or no longer does.
+    pub(crate) fn open(
+        rt: &HostRuntime,
+        name: &str,
+        path: &str,
+    ) -> io::Result<Option<(HostFile, Kind)>> {
+        let before = fs::metadata(rt, name);
+        match open_to_write(rt, name)? {
+            Some(file) => {
+                let file = above_streams(file)?;
+                if is_made_anew(rt, before, &file, path) && calls::remove(rt, path).is_ok() {
+                    return Ok(None);
+                }
+                Ok(Some(HostFile::of(file)?))
+            }
+            None => Ok(None),
+        }
+    }
+
+    /// Which file it is, whatever its names. Calls about it go by this node.
+    pub fn node(&self) -> Node
+        ensures { result ≡ self.now.node }
+    {
+        self.node
+    }
+
+    /// The file itself.
+    pub fn file(&self) -> &File {
+        &self.file
+    }
+
+    /// Whether it had a name when it was opened.
+    pub fn is_named(&self) -> bool {
+        self.is_named
+    }
+
+    /// Returns the file itself, to be kept.
+    pub fn into_file(self) -> File {
+        let HostFile { file, .. } = self;
+        file
+    }
+}
+
+/// The file that was made at a path, if one was. It is removed if it can't be used.
+pub(crate) fn made_file(
+    rt: &HostRuntime,
+    made: io::Result<File>,
+    path: &str,
+) -> io::Result<HostFile> {
+    match HostFile::of(kept_above(rt, made?, path)?) {
+        Ok((file, _)) => Ok(file),
+        Err(error) => {
+            let _ = calls::remove(rt, path);
+            Err(error)
+        }
+    }
+}
+
+/// The error for a write that took nothing.
+fn no_byte() -> io::Error {
+    io::Error::new(io::ErrorKind::WriteZero, "failed to write whole buffer")
+}
+
+/// Writes some bytes to a file, from an offset on, and tries again if the machine says to.
+pub fn write_at(rt: &HostRuntime, file: &File, at: u64, bytes: &[u8]) -> io::Result<usize>
+    ensures bound { WritesAtMost result bytes.now }
+    ensures some { IfOk result (λ n. 0 < length bytes.now → 0 < n) }
+{
+    for _ in 0..TRIES {
+        match calls::write_at(file, bytes, at) {
+            Ok(0) if !bytes.is_empty() => return Err(no_byte()),
+            Err(error) if is_to_retry(rt, &error) => {}
+            written => return written,
+        }
+    }
+    Err(too_many_tries())
+}

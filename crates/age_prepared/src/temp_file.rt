@@ -1,0 +1,157 @@
+//! A temporary file, which is to take the place of the file beside it.
+
+use age_machine::{above_streams, calls, close_copy, kept_above, lock, sync, write_at};
+use age_names::{found_at, is_at};
+use age_options::Durability;
+use std::alloc::Global;
+use std::fs::{self, File, Metadata};
+use std::io;
+use std::os::unix::fs::{FileExt, MetadataExt};
+use std::rt::HostRuntime;
+
+/// The mode of a position. Only its owner may use it, since it holds digests of the plaintext, against
+/// which guesses can be tried.
+const MODE: u32 = 0o600;
+
+/// What the file holds until it is written: at least as many bytes as the longest position has, so
+/// that a full disk can't refuse these.
+const BLANKS: [u8; 256] = [b' '; 256];
+
+/// A temporary file. It is removed in the end, unless it was renamed.
+pub(crate) struct TempFile {
+    rt: HostRuntime,
+    path: String,
+    file: File,
+}
+
+impl Drop for TempFile {
+    fn drop(self) {
+        let TempFile { rt, path, file } = self;
+        if is_at(&rt, &file, path.as_str()) {
+            let _ = calls::remove(&rt, path.as_str());
+        }
+    }
+}
+
+impl TempFile {
+    /// Makes the file at a path where nothing is, or takes over the one that a killed run left there.
+    /// It holds blanks then, and only its owner may use it. Fails if anything else is there, or another
+    /// run has it.
+    pub(crate) fn make(
+        alloc: Global,
+        rt: &HostRuntime,
+        path: &str,
+        durability: Durability,
+    ) -> io::Result<TempFile> {
+        let own = String::from_str(alloc, path)?;
+        match calls::make(rt, path, MODE) {
+            Ok(file) => {
+                let made = TempFile {
+                    rt: *rt,
+                    path: own,
+                    file: kept_above(rt, file, path)?,
+                };
+                lock(&made.file)?;
+                made.fill(&BLANKS, durability)?;
+                Ok(made)
+            }
+            Err(error) if error.kind() == io::ErrorKind::AlreadyExists => Ok(TempFile {
+                rt: *rt,
+                path: own,
+                file: take_left(rt, path)?,
+            }),
+            Err(error) => Err(error),
+        }
+    }
+
+    /// Makes these bytes what the file holds, and waits until they have reached the disk, if they are
+    /// to be there. The system answers as if the file was closed.
+    pub(crate) fn fill(&self, bytes: &[u8], durability: Durability) -> io::Result<()> {
+        write_all(&self.rt, &self.file, bytes)?;
+        calls::cut(&self.file, bytes.len() as u64)?;
+        if durability == Durability::Synced {
+            sync(&self.file)?;
+        }
+        close_copy(&self.rt, &self.file)
+    }
+
+    /// Renames the file to a path, in place of what is there.
+    pub(crate) fn replace(&self, path: &str) -> io::Result<()> {
+        calls::rename(&self.rt, self.path.as_str(), path)
+    }
+
+    /// Renames the file to a path where nothing is. A second name for it (a hard link) never takes a
+    /// file's place. If the file system has no hard links, this looks first.
+    pub(crate) fn publish(&self, path: &str) -> io::Result<()> {
+        if calls::link(&self.rt, self.path.as_str(), path).is_ok() {
+            return calls::remove(&self.rt, self.path.as_str());
+        }
+        match found_at(&self.rt, path)? {
+            None => self.replace(path),
+            Some(_) => Err(came_meanwhile()),
+        }
+    }
+
+    /// Whether the file is still at its path.
+    pub(crate) fn is_there(&self) -> bool {
+        is_at(&self.rt, &self.file, self.path.as_str())
+    }
+
+    /// The file itself.
+    pub(crate) fn file(&self) -> &File {
+        &self.file
+    }
+}
+
+/// The error for a file that appeared where another was, or none. Another run may have saved it.
+pub(crate) fn came_meanwhile() -> io::Error {
+    io::Error::other("another program made it meanwhile")
+}
+
+/// The error for what isn't known to be a file that a killed run left.
+fn in_the_way() -> io::Error {
+    io::Error::other("the .new file beside it exists; remove or rename it")
+}
+
+/// Writes all of these bytes over what a file holds.
+fn write_all(rt: &HostRuntime, file: &File, bytes: &[u8]) -> io::Result<()> {
+    let mut at = 0;
+    'parts: while at < bytes.len() {
+        let n = write_at(rt, file, at as u64, &bytes[at..])?;
+        at += n;
+    }
+    Ok(())
+}
+
+/// Opens the file that a killed run left at a path, and takes it for this run alone. A run locks it
+/// before it is full, so one that is full and that nobody has locked is no other run's.
+fn take_left(rt: &HostRuntime, path: &str) -> io::Result<File> {
+    match found_at(rt, path)? {
+        Some(found) if may_be_left(rt, &found) => {}
+        _ => return Err(in_the_way()),
+    }
+    let file = above_streams(calls::open_there(rt, path, true)?)?;
+    if lock(&file)?
+        && may_be_left(rt, &file.metadata()?)
+        && holds_blanks(&file)?
+        && is_at(rt, &file, path)
+    {
+        Ok(file)
+    } else {
+        Err(in_the_way())
+    }
+}
+
+/// Whether a killed run may have left a file, by what the system shows: a regular file of this user,
+/// as long as the blanks, with one name.
+fn may_be_left(rt: &HostRuntime, found: &Metadata) -> bool {
+    let is_own = matches!(fs::metadata(rt, "/proc/self"), Ok(own) if own.uid() == found.uid());
+    is_own && found.is_file() && found.nlink() == 1 && found.len() == BLANKS.len() as u64
+}
+
+/// Whether a file begins with the blanks.
+fn holds_blanks(file: &File) -> io::Result<bool> {
+    let mut held = [0; 256];
+    let n = file.read_at(&mut held, 0)?;
+    Ok(n == held.len() && held == BLANKS)
+}
