@@ -17,7 +17,7 @@ import threading
 import time
 
 from tests.case import SECONDS, needs, twice, without_advice
-from tests.files import LOCKED, NOBODY, PLAIN, WRITE, Feeding, FilesCase
+from tests.files import LOCKED, NOBODY, NO_FILE, OWN, PLAIN, WRITE, Feeding, FilesCase
 from tests.files import as_nobody, chunk_fault, reason, refused, unsaved, unsynced, unwritten, waits_for
 from tools import shim
 
@@ -457,7 +457,7 @@ class DiskTest(FilesCase):
             self.remove("new", "saved")
             failing = {"FSYNC": error, "ONLY": only}
             self.expect(1, unsynced("new", error), "decrypt --pass pass age new", f"a sync that fails, {only}", failing)
-            said = unsaved("saved", error) if only == "f" else chunk_fault(2) + unsaved("saved", error)
+            said = unsaved("saved", os.strerror(error) + OWN * (error == errno.EROFS)) if only == "f" else chunk_fault(2) + unsaved("saved", error)
             self.expect(1, said, "decrypt --pass pass --save saved cut new", f"a position's sync that fails, {only}", failing)
             self.see(f"a position's sync that fails, {only}: nothing beside it", not self.is_there("saved.new"))
 
@@ -621,16 +621,14 @@ class DiskTest(FilesCase):
             self.write("some", text)
             self.expect(0, b"", "encrypt --pass pass --log 4 some short")
             self.write("out", b"O" * 300000)
-            words = f"decrypt --pass pass --save saved {name} out"
+            words = f"decrypt --pass pass {name} out"
             self.expect(1, said("out", errno.EIO), words, f"a cut that fails, {name}", {"FTRUNCATE": errno.EIO})
             held = self.read("out")
             begins = len(os.path.commonprefix([held, text]))
             is_mixed = 0 < begins <= most and held == text[:begins] + b"O" * (300000 - begins)
             self.see(f"a cut that fails, {name}: what was written", is_mixed, begins)
-        self.see("a cut that fails: a position", self.is_position("saved", 1))
-        self.write("old", PLAIN[:65536] + b"O" * 234464)
-        self.expect(0, b"", "resume --position saved --old old --pass pass age out", "resumed after a cut that failed")
-        self.see("resumed after a cut that failed: the text", self.read("out") == PLAIN)
+        self.expect(1, unsaved("saved", errno.EIO), "decrypt --pass pass --save saved age new", "a cut of a position fails", {"FTRUNCATE": errno.EIO})
+        self.see("a cut of a position fails: nothing was begun", not any(map(self.is_there, ("new", "saved", "saved.new"))))
 
     @needs("mkfs.ext4", "cc", root=True)
     def test_aborted(self):

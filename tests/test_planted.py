@@ -39,7 +39,7 @@ PLANTED = {
         ("checks/promises", "age_kdf lib::hmac |", "age_kdf lib::hmac3 |", "checks/promises: HMAC is RFC 2104's: no age_kdf lib::hmac3"),
         ("checks/promises", "age_kdf/pads-swapped", "age_kdf/pads-kept", "no age_kdf/pads-kept"),
         ("tests/test_engines.py", "def test_resumed", "def test_resumes", "a resumption goes on only with its file and text: no test test_engines.test_resumed"),
-        ("tests/runs.d/drill.run", "case bad_lines", "case worse_lines", "each with a status and a count: no test test_runs.test_drill_bad_lines"),
+        ("tests/runs.d/drill.run", "case deliveries_in_the_clear", "case deliveries_not_sealed", "for all deliveries and restarts: no test test_runs.test_drill_deliveries_in_the_clear"),
         ("checks/promises", "Derivation.hkdf32 | age_kdf/info-without-the-counter | test_engines.test_written", "Derivation.hkdf32 | age_kdf/info-without-the-counter | -", "HKDF is RFC 5869's: no test -"),
         ("crates/age_scrypt/edits/all.edit", "core uncounted-step", "edit uncounted-step", "age_scrypt/uncounted-step is listed, and not of the core"),
         ("checks/promises", " romix-without-look-ups", "", "age_scrypt/romix-without-look-ups is of the core, and not listed"),
@@ -47,7 +47,7 @@ PLANTED = {
     ),
     "trusted": (
         ("crates/age_kdf/specs/Derivation.antt", None, "\nabbrev pub idle : ℕ → ℕ\nidle n = n\n", "age_kdf/specs/Derivation: idle is reached by no public contract"),
-        ("crates/age_calls/specs/Outs.antt", "-- (in any order: no call gives a lock back)\n", "", "age_calls/specs/Outs: line 79: no comment says why the order"),
+        ("crates/age_calls/specs/Outs.antt", "-- (in any order: no call gives a lock back)\n", "", "age_calls/specs/Outs: line 77: no comment says why the order"),
     ),
     "noted": (
         ("crates/age_disk/src/files.rt", None, "\nfn spoil() {\n    let _ = std::fs::remove_file(rt, name);\n}\n", "age_disk/src/files.rt: fs::remove_file: it may not change files"),

@@ -581,7 +581,7 @@ class WordsTest(FilesTest):
         elif saved and self.is_rare(0.2):
             saved = self.pick(source, out)
         if command != "drill" and len({source, out, saved} - {None}) < 2 + bool(saved):
-            early.append((2, b"age_tool: same file named twice\n"))
+            early.insert(0, (2, b"age_tool: same file named twice\n"))
         self.more_options(command, options, late)
         script = self.pick("script", "script", "script1001", "absent")
         if command == "drill" and script != "script":

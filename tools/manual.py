@@ -88,10 +88,10 @@ def plain(text):
 
 def rows_of_faults():
     """The file of the program that has a row for each fault."""
-    rows = []
+    rows, last = [], 0
     for row in (it for it in tables(SOURCE.read_text()) if "No." in it):
-        assert int(row["No."]) == len(rows) + 1
         said = [f"{row['No.']} {row['Name']}", sentence(row["What it means"]), f"OUT: {row['What is left in OUT']}.", f"What to do: {row['What to do']}."]
         text = "\n".join(map(plain, said)).replace("\\", "\\\\").replace('"', '\\"')
+        last = max(last, int(row["No."]))
         rows.append(f'        {row["No."]} => ("{row["Name"]}", "{text}"),\n')
-    return f"{ROWS_HEAD % len(rows)}{''.join(rows)}        _ => return None,\n    }};\n    Some(row)\n}}\n"
+    return f"{ROWS_HEAD % last}{''.join(rows)}        _ => return None,\n    }};\n    Some(row)\n}}\n"

@@ -208,7 +208,10 @@ impl<'r, 'w> HostFiles<'r, 'w> {
         ensures { IfErr result (OpenFails Write) }
     {
         let spared = match spared {
-            Some(spared) => FileId::at(self.rt, spared),
+            Some(spared) => match FileId::seen_at(self.rt, spared) {
+                Ok(id) => id,
+                Err(error) => return Err(unsaved(name, error)),
+            },
             None => None,
         };
         let location = match self.locate(alloc, name, spared, clobber) {
