@@ -12,7 +12,7 @@ FOLDER = TOP / "docs" / "completions"
 UTF_8 = {**os.environ, "LC_ALL": "C.UTF-8"}
 COMMANDS = "encrypt decrypt resume inspect drill"
 OPTIONS = "--pass --file-key --shared --max-log --save"
-IN_BASH = '. ./age_tool.bash; COMP_WORDS=("$@"); COMP_CWORD=$(($# - 1)); _age_tool; printf "%s\\n" "${COMPREPLY[@]}"'
+IN_BASH = '. "./$1.bash"; COMP_WORDS=("$@"); COMP_CWORD=$(($# - 1)); "_$1"; printf "%s\\n" "${COMPREPLY[@]}"'
 
 
 class CompletionsTest(Case):
@@ -64,6 +64,19 @@ class CompletionsTest(Case):
             words = ["".join(it) for it in re.findall(form, (FOLDER / name).read_text(), re.M)]
             unlike = [it for it in words if it.replace("'\\''", "'") not in said]
             self.see(name, len(words) > 15 and not unlike, len(words), unlike)
+
+    def test_agefile(self):
+        """Those of agefile, in bash; of the other shells that they have each option of its help."""
+        self.offers("commands", COMMANDS + " test restore salvage -d -e", self.in_bash("agefile", ""))
+        self.offers("options", OPTIONS + " --identity --overwrite", self.in_bash("agefile", "decrypt", "--"))
+        self.offers("of encrypt", "--recipient --recipients-file --identity", self.in_bash("agefile", "encrypt", "--"))
+        self.offers("a number", "18", self.in_bash("agefile", "encrypt", "--log", "1"))
+        self.offers("files", "agefile.fish", self.in_bash("agefile", "restore", "--identity", "k", "age"))
+        options = set(re.findall(r"--([a-z-]+)", (TOP / "docs" / "completions" / "agefile.bash").read_text()))
+        for name, form in (("agefile.fish", r"-l ([a-z-]+)"), ("_agefile", r"'\*?--([a-z-]+)=?\[")):
+            found = set(re.findall(form, (FOLDER / name).read_text())) | {"help", "version"}
+            missing = options - found - {"encrypt", "decrypt", "passphrase", "output"}
+            self.see(name, not missing, missing)
 
     @needs("fish")
     def test_fish(self):

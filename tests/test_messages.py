@@ -1,11 +1,14 @@
 """What people read after a fault: of each number, in which circumstance, the file and the sentence, and that docs/FAULTS.md says to do the
 same; what they read after words that are refused; and that runs which go well say nothing of it. (More of what the system answered is in
 the transcripts, test_disk and test_saving.)"""
+import itertools
 import os
 import re
 import resource
+import subprocess
 
-from tests.case import Case
+from tests.agefile_program import release
+from tests.case import SECONDS, Case, without_advice
 from tests.test_runs import Transcripts, unescaped
 from tools.manual import tables
 from tools.workspace import TOP
@@ -137,6 +140,7 @@ def within_memory():
 
 class MessagesTest(Case):
     """A passphrase, a text and its age file, and the position of a stop in its third chunk."""
+    refused = REFUSED
 
     def setUp(self):
         super().setUp()
@@ -190,7 +194,7 @@ class MessagesTest(Case):
         os.mkfifo(self.path("fifo"))
         files = [it for it in self.room.iterdir() if it.is_file()]
         before = [it.read_bytes() for it in files]
-        for words, line, said in REFUSED:
+        for words, line, said in self.refused:
             ended = self.tool(*words.split())
             said = f"age_tool: {line}\nage_tool: {said}\n".encode()
             self.see(words, (ended.returncode, ended.stderr + ended.advice) == (2, said), ended.stderr, ended.advice)
@@ -228,3 +232,23 @@ class MessagesTest(Case):
         ):
             ended = self.tool(*words.split())
             self.see(words, (ended.returncode, ended.stderr, ended.advice) == (0, b"", b""), ended.stderr, ended.advice)
+
+
+class ThroughAgefileTest(MessagesTest):
+    """The same by agefile, whose age_tool says all that: with --overwrite, where age_tool replaces an OUT. Without a key it asks for a passphrase."""
+    refused = [it for it in REFUSED if it[1] != ONE_KEY or it[2] != NONE_GIVEN]
+
+    def setUp(self):
+        super().setUp()
+        self.agefile = release(self.room / "release")
+
+    def tool(self, *words, **more):
+        if not hasattr(self, "agefile"):
+            return super().tool(*words, **more)
+        if words[0] in ("encrypt", "decrypt", "resume") and "--no-clobber" not in itertools.takewhile("--".__ne__, words):
+            words = (words[0], "--overwrite", *words[1:])
+        more = {"stdin": subprocess.DEVNULL, "stdout": subprocess.PIPE, "stderr": subprocess.PIPE, "timeout": SECONDS} | more
+        ended = subprocess.run([self.agefile, *words], cwd=self.room, **more)
+        self.see(f"no descriptor is named: {words}", b"/dev/fd" not in ended.stderr, ended.stderr)
+        ended.stderr, ended.advice = without_advice(ended.stderr)
+        return ended

@@ -1,7 +1,6 @@
 """Tries the Python module: the kinds of faults and what is said of them, headers that come slowly, the command line, keys and shared
 secrets, what an argument may be, its types and names, where it finds the library, and files that are read at any place."""
 import contextlib
-import errno
 import gzip
 import io
 import itertools
@@ -18,9 +17,8 @@ import threading
 import zipfile
 from unittest import mock
 
-from tests.bindings import BLOCK, CHUNK, KEY, PYTHON, BindingsCase, agefile, by_python, flipped, limited, raised, setUpModule, slow
+from tests.bindings import BLOCK, CHUNK, KEY, PYTHON, BindingsCase, agefile, by_python, flipped, limited, raised, setUpModule
 from tests.case import needs
-from tools import shim
 from tools.workspace import LIBRARY, TOP
 
 AGE = TOP / "bindings" / "tests" / "age"
@@ -341,126 +339,9 @@ class PythonTest(BindingsCase):
         self.see("a long header", isinstance(fault, agefile.AgeError) and fault.number != 254, fault)
         self.see(f"{looked[0]} bytes of a header of {len(long)} are looked at", looked[0] < 2 * len(long))
 
-    def test_commands(self):
-        """python3 -m agefile."""
-        text = random.Random(5).randbytes(150_000)
-        self.path("plain").write_bytes(text)
-        for what, words, given, want, out in (
-            ("encrypt", ("encrypt", "--pass", "pw", "--log", "1", "plain", "made.age"), None, 0, b""),
-            ("test", ("test", "--pass", "pw", "made.age"), None, 0, b""),
-            ("decrypt", ("decrypt", "--pass", "pw", "made.age", "-"), None, 0, text),
-            ("decrypt to a file", ("decrypt", "--pass", "pw", "made.age", "back"), None, 0, b""),
-            ("another passphrase", ("test", "--pass", "other", "made.age"), None, 1, b""),
-            ("one file", ("decrypt", "--pass", "pw", "made.age", "made.age"), None, 1, b""),
-            ("no file", ("test", "--pass", "pw", "none"), None, 1, b""),
-            ("no command", (), None, 2, b""),
-        ):
-            run = self.command(*words, given=given)
-            self.see(f"-m agefile: {what}", (run.returncode, run.stdout) == (want, out), run.returncode, run.stderr.decode()[-300:])
-        self.see("-m agefile decrypt", self.path("back").read_bytes() == text)
-        self.inspections(self.read("made.age"))
-        self.write("empty", b"\n")
-        for words, status in (
-            (("encrypt", "--pass", "pw", "--log", "23"), 2), (("encrypt", "--pass", "pw", "--log", "0"), 2), (("encrypt", "--pass", "empty"), 1),
-            (("decrypt", "--pass", "pw", "--max-log", "23"), 2), (("decrypt", "--pass", "empty"), 1), (("decrypt", "--identity", "empty"), 1),
-        ):
-            run = self.command(*words, "made.age", "back")
-            is_said = run.stderr.splitlines()[-1].startswith((b"agefile: ", b"python3 -m agefile "))
-            self.see(f"-m agefile {words}", run.returncode == status and is_said and self.read("back") == text, run.stderr)
-        for name, held in (("sealed", self.read("made.age")), ("armored", b"-----BEGIN AGE ENCRYPTED FILE-----\n")):
-            self.write(name, held)
-            run = self.command("decrypt", "--identity", name, "made.age", "back")
-            said = f"agefile: {name} is an encrypted key file: decrypt it first\n"
-            self.see(f"a key file is {name}", (run.returncode, run.stderr.decode()) == (1, said), run.stderr)
-        for words, said in (
-            (("test", "--pass", "other", "made.age"), f"made.age: {agefile.WrongKey(13)}"), (("test", "--pass", "pw", "none"), "none: No such file or directory"),
-            (("test", "--pass", "none", "made.age"), "none: No such file or directory"),
-            (("test", "--identity", "plain", "made.age"), "plain: not a key of age-keygen, which begins with AGE-SECRET-KEY-1"),
-            (("test", "--pass", "pw", "a\x1b[2J\nb"), r"'a\x1b[2J\nb': No such file or directory"),
-            (("test", "--pass", "  ", "made.age"), "'  ': No such file or directory"),
-        ):
-            run = self.command(*words)
-            self.see(f"-m agefile {words} names the file", (run.returncode, run.stderr.decode()) == (1, f"agefile: {said}\n"), run.stderr)
-        run = self.command("test", "--pass", "pw", "made.age", "a\x1b[2J\rb")
-        self.see("a name that is one too many", run.returncode == 2 and rb"a\x1b[2J\rb" in run.stderr and b"\x1b" not in run.stderr, run.stderr)
-        run = self.command("decrypt", "--workers", "2", "--pass", "pw", "made.age", "none/out")
-        self.see("a folder that doesn't exist", (run.returncode, run.stderr) == (1, b"agefile: none/out: No such file or directory\n"), run.stderr)
-        run = self.command("decrypt", "--pass", "pw", "made.age", "/dev/full")
-        self.see("a full disk is said of OUT", (run.returncode, b"/dev/full" in run.stderr) == (1, True), run.stderr)
-        data = self.path("made.age").read_bytes()
-        self.see("-m agefile encrypt: age_tool doesn't read it", self.judged(data) == ((0, None), text))
-        run = self.command("decrypt", "--pass", "pw", "-", "-", given=data[:-1])
-        said = f"agefile: standard input: {agefile.NotWhole(17, 2)}\nagefile: OUT has the first {2 * CHUNK} bytes of the text\n".encode()
-        self.see("-m agefile", (run.returncode, run.stdout, run.stderr) == (1, text[:2 * CHUNK], said), run.stderr)
-        self.write("first.age", flipped(data, -len(text) - 3 * 16))
-        run = self.command("decrypt", "--pass", "pw", "first.age", "back")
-        self.see("a damaged first chunk leaves OUT", run.returncode == 1 and b"17" in run.stderr and self.read("back") == text, run.stderr)
-        for words in (("encrypt", "--log", "1", "plain"), ("decrypt", "made.age"), ("salvage", "made.age")):
-            run = self.command(words[0], "--pass", "pw", "--no-clobber", *words[1:], "back")
-            self.see(f"{words[0]} --no-clobber", run.returncode == 1 and b"File exists" in run.stderr and self.read("back") == text, run.stderr)
-        run = self.command("decrypt", "--pass", "pw", "--no-clobber", "made.age", "new")
-        self.see("decrypt --no-clobber to a new file", run.returncode == 0 and self.read("new") == text, run.stderr)
-        for words in (("decrypt", "made.age", "-"), ("decrypt", "-", "-"), ("test", "-"), ("encrypt", "plain", "none.age")):
-            for given in (b"", data, b"pw\npw\n"):
-                run = self.command(*words, input=given, start_new_session=True)
-                line = run.stderr.decode()
-                is_said = line.startswith("agefile: no passphrase") and "--pass" in line and line.count("\n") == 1
-                self.see(f"-m agefile {words} without a terminal", run.returncode == 1 and run.stdout == b"" and is_said, line)
-        self.see("-m agefile encrypt without a passphrase made a file", not self.path("none.age").exists())
-
-    def inspections(self, file):
-        """python3 -m agefile inspect: what age_tool prints, of a file of 150,000 bytes of plaintext at work factor 1."""
-        head = b"version age-encryption.org/v1\nheader 149\nstanza scrypt 2 32\n"
-        for what, held, status, out in (
-            ("a file", file, 0, head + b"rest 150064\nplain 150000\n"), ("a part", file[:159], 0, head + b"rest 10\nplain none\n"),
-            ("a header", file[:149], 0, head + b"rest 0\nplain none\n"), ("a part of a header", file[:148], 1, b""), ("no age file", b"text\n", 1, b""),
-        ):
-            self.write("seen", held)
-            for name, given in (("seen", None), ("-", held)):
-                run = self.command("inspect", name, given=given)
-                self.see(f"-m agefile inspect {name}: {what}", (run.returncode, run.stdout) == (status, out), run)
-
     def command(self, *words, given=None, env=os.environ, **more):
         more = {"env": {**env, "PYTHONPATH": str(PYTHON)}, **(more or {"input": given})}
         return subprocess.run([sys.executable, "-B", "-m", "agefile", *words], cwd=self.room, capture_output=True, **more)
-
-    @needs("cc")
-    def test_syncs(self):
-        """OUT has reached the disk, and so has its name if it is new. A file system that can't wait is let be; any other failure is reported."""
-        for words, error, *want in (
-            ("encrypt --log 1 pw new", 0, 0, "new", self.room.name), ("encrypt --log 1 pw new", 0, 0, "new"), ("encrypt --log 1 pw -", 0, 0),
-            ("decrypt new back", errno.EINVAL, 0, "back", self.room.name), ("decrypt new back", errno.EIO, 1, "back"), ("salvage new a", 0, 0, "a", self.room.name),
-        ):
-            self.write("synced", b"")
-            run = self.command(*words.split(), "--pass", "pw", env=shim.loaded(SYNCED=self.path("synced"), **({"FSYNC": error} if error else {})))
-            self.see(f"{words}: {want}", [run.returncode, *map(os.path.basename, self.read("synced").decode().split())] == want, run.stderr)
-
-        with open(self.path("copy"), "wb") as out:
-            self.write("synced", b"")
-            words = [sys.executable, "-B", "-m", "agefile", "salvage", "--pass", "pw", "new", "-"]
-            env = {**shim.loaded(SYNCED=self.path("synced")), "PYTHONPATH": str(PYTHON)}
-            run = subprocess.run(words, cwd=self.room, env=env, stdout=out)
-        self.see("salvage to standard output", run.returncode == 0 and self.read("synced").endswith(b"/copy\n"), self.read("synced"))
-
-    def slow_command(self, data, *words, size=90_000):
-        """The same, with a standard input that doesn't block, and to which the data comes in pieces, some after the program began."""
-        with slow(data, size, pause=0.15) as source:
-            return self.command(*words, stdin=source)
-
-    def test_slow_input(self):
-        """Standard input that doesn't block is read to its end."""
-        text = random.Random(9).randbytes(300_000)
-        data = self.sealed(text)
-        run = self.slow_command(text, "encrypt", "--pass", "pw", "--log", "1", "-", "made.age")
-        self.see("encrypt", run.returncode == 0 and self.judged(self.read("made.age")) == ((0, None), text), run.stderr)
-        run = self.slow_command(data, "decrypt", "--pass", "pw", "-", "-")
-        self.see("decrypt", (run.returncode, run.stdout) == (0, text), run.stderr)
-        for what, sent, want in (("whole", data, 0), ("cut", data[:-1], 1), ("cut early", data[:100_000], 1), ("cut in its header", data[:50], 1)):
-            run = self.slow_command(sent, "test", "--pass", "pw", "-")
-            self.see(f"test of a file that is {what}", run.returncode == want, run.stderr)
-        self.path("keys").write_text((AGE / "key.txt").read_text())
-        run = self.slow_command((AGE / "one.age").read_bytes(), "shared", "keys", "-", size=100)
-        self.see("shared", run.returncode == 0 and len(run.stdout) == 64, run.stderr)
 
     def saved(self, data, **keys):
         """What is salvaged of a file, and what it says of it."""
@@ -602,21 +483,21 @@ class PythonTest(BindingsCase):
             (("--pass", "pw", "whole.age", "out"), 0, b"", text), (("--pass", "pw", "damaged.age", "out"), 1, lost, want),
             (("--pass", "other", "damaged.age", "kept"), 1, None, b"kept"), (("--pass", "pw", "pw", "kept"), 1, None, b"kept"),
         ):
-            run = self.command("salvage", *words)
+            run = self.command("salvage", "--overwrite", *words)
             self.see(f"salvage {' '.join(words)}", run.returncode == status and said in (None, run.stderr) and self.path(words[-1]).read_bytes() == out,
                      run.returncode, run.stderr)
         self.write("followed.age", self.sealed(text[:65_536]) + b"x")
-        run = self.command("salvage", "--pass", "pw", "followed.age", "out")
+        run = self.command("salvage", "--overwrite", "--pass", "pw", "followed.age", "out")
         self.see("salvage of a file that something follows", run.returncode == 0 and run.stderr == b"agefile: something was appended to the file, and is left out\n"
                  and self.path("out").read_bytes() == text[:65_536], run.stderr)
         run = self.command("salvage", "--pass", "pw", "damaged.age", "-")
         self.see("salvage to standard output", (run.returncode, run.stdout) == (1, want), run.stderr)
-        run = self.command("salvage", "--pass", "pw", "-", "out", given=bytes(data[:begin + 100]))
-        self.see("salvage from standard input, nothing opens", run.returncode == 1 and b"no chunk opens" in run.stderr, run.stderr)
+        run = self.command("salvage", "--overwrite", "--pass", "pw", "-", "out", given=bytes(data[:begin + 100]))
+        self.see("salvage from standard input, nothing opens", run.returncode == 1 and b"no chunk of standard input opens" in run.stderr, run.stderr)
         run = self.command("salvage", "--pass", "pw", "damaged.age", "/dev/null")
         self.see("salvage to what isn't a regular file", (run.returncode, run.stderr) == (1, lost), run.stderr)
         key = shutil.copy(AGE / "key.txt", self.path("key.txt"))
-        run = self.command("salvage", "--identity", key, AGE / "one.age", "out")
+        run = self.command("salvage", "--overwrite", "--identity", key, AGE / "one.age", "out")
         self.see("salvage by a key", run.returncode == 0 and self.path("out").read_bytes() == b"hello, recipient\n", run.stderr)
 
     def test_unlike_files(self):

@@ -8,7 +8,6 @@ import os
 import pickle
 import random
 import re
-import shutil
 import subprocess
 import sys
 import unittest.mock
@@ -17,7 +16,6 @@ from tests import test_python
 from tests.bindings import PYTHON, BindingsCase, agefile, flipped, setUpModule
 from tests.case import needs
 from tests.test_python import AGE, fault_of
-from tools import terminal
 
 HAS_CRYPTOGRAPHY = importlib.util.find_spec("cryptography") is not None
 needs_cryptography = unittest.skipUnless(HAS_CRYPTOGRAPHY, "needs cryptography")
@@ -95,15 +93,6 @@ class KeysTest(BindingsCase):
                 except agefile.WrongKey as it:
                     fault = it.number
                 self.see(f"{name} by a key", want in (got, fault), got, fault)
-            self.path("keys").write_text("# of two\n\n" + "\n".join(keys) + "\n")
-            run = self.command("decrypt", "--identity", "keys", str(AGE / name), "-")
-            self.see("--identity", (run.returncode, run.stdout) == ((1, b"") if isinstance(want, int) else (0, want)), run.stderr)
-            run = self.command("shared", "keys", str(AGE / name))
-            self.path("shared").write_bytes(run.stdout)
-            self.see("shared", (run.returncode, len(run.stdout)) == ((1, 0) if isinstance(want, int) else (0, 64)), run.stderr)
-            if run.returncode == 0:
-                run = self.tool("decrypt", "--shared", "shared", "--no-sync", str(AGE / name), "by-shared")
-                self.see("age_tool --shared", run.returncode == 0 and self.path("by-shared").read_bytes() == want, run.stderr)
         with agefile.open(AGE / "passphrase.age", passphrase="correct horse") as file:
             self.see("a file of age for a passphrase", file.read() == b"hello, passphrase\n")
         with open(AGE / "key.txt", encoding="ascii") as file:
@@ -183,31 +172,6 @@ class KeysTest(BindingsCase):
             self.see(f"text in {encoding}", got == "täxt\n".encode(encoding), got)
             with agefile.open(self.path("text.age"), "rt", passphrase="pw", encoding=encoding) as file:
                 self.see(f"text in {encoding}, read", file.read() == "täxt\n")
-
-    def typed(self, *words, answers):
-        """The status of `python3 -m agefile` at a terminal of its own, and what is seen there, if one of these answers is typed to each
-        question."""
-        env = {"PYTHONPATH": str(PYTHON), "PYTHONDONTWRITEBYTECODE": "1"}
-        child, tty = terminal.start(["env", "-C", str(self.room), sys.executable, "-m", "agefile", *words], env)
-        seen = b""
-        for answer in answers:
-            seen += terminal.output(tty, b": ", 10)
-            os.write(tty, answer.encode() + b"\n")
-        seen += terminal.output(tty, None, 10)
-        os.close(tty)
-        return os.waitstatus_to_exitcode(os.waitpid(child, 0)[1]), seen
-
-    def test_typed_passphrase(self):
-        """encrypt asks twice, and refuses answers that differ; decrypt asks once. Nothing that is typed is shown."""
-        self.write("plain", b"text")
-        status, seen = self.typed("encrypt", "--log", "1", "plain", "typed.age", answers=("secret one", "secret two"))
-        self.see("another word the second time", status == 1 and b"the passphrases differ" in seen and not self.is_there("typed.age"), seen)
-        status, seen = self.typed("encrypt", "--log", "1", "plain", "typed.age", answers=("secret one", "secret one"))
-        self.see("the same word twice", status == 0 and b"secret" not in seen, seen)
-        self.write("word", b"secret one")
-        self.see("what was typed", self.judged(self.read("typed.age"), "word") == ((0, None), b"text"))
-        status, seen = self.typed("decrypt", "typed.age", "back", answers=("secret one",))
-        self.see("decrypt", status == 0 and b"secret" not in seen and self.read("back") == b"text", seen)
 
     @needs("age", "age-keygen")
     def test_files_of_age(self):
@@ -311,81 +275,3 @@ class KeysTest(BindingsCase):
         run = subprocess.run([sys.executable, "-B", "-c", program, public], cwd=self.room, env=env, capture_output=True, text=True)
         said = run.stderr.splitlines()[-1]
         self.see("without cryptography", said == "ImportError: a file for a recipient needs the package cryptography" and path.read_bytes() == b"kept", said)
-
-    @needs_cryptography
-    def test_recipient_files(self):
-        """Only LF ends a line of a file of recipients, as in age, so that none is hidden in a comment; CR LF does, too. No recipient is passed over."""
-        mine = re.search(r"age1\w+", (AGE / "key.txt").read_text())[0]
-        other = re.search(r"age1\w+", (AGE / "other.txt").read_text())[0]
-        self.write("plain", b"a text")
-        for end in ("\r", "\v", "\f", "\x1c", "\x1d", "\x1e", "\x85", "\u2028", "\u2029"):
-            held = f"# of an old computer {end}{other}\n{mine}\r\n"
-            self.see(f"{end!r}: the keys in a text", agefile.identities_in(held) == [mine])
-            self.write("recipients", held.encode())
-            run = self.command("encrypt", "--recipients-file", "recipients", "plain", "made.age")
-            self.see(f"{end!r}: a recipient in a comment", run.returncode == 0 and self.read("made.age").count(b"-> X25519 ") == 1, run.stderr)
-            self.remove("made.age")
-        self.write("recipients", f"# caf\xe9\n{mine}\n".encode("latin-1"))
-        run = self.command("encrypt", "--recipients-file", "recipients", "plain", "made.age")
-        self.see("a comment that isn't UTF-8", run.returncode == 0 and self.is_there("made.age"), run.stderr)
-        self.remove("made.age")
-        run = self.command("encrypt", "--recipient", "", "--recipient", mine, "plain", "made.age")
-        self.see("an empty recipient", run.returncode == 1 and b"--recipient is empty" in run.stderr and not self.is_there("made.age"), run.stderr)
-        self.write("bad", b"# one\nage1bad\n")
-        run = self.command("encrypt", "--recipients-file", "recipients", "--recipients-file", "bad", "plain", "made.age")
-        self.see("the file of a bad one", run.returncode == 1 and run.stderr.startswith(b"agefile: bad: recipient 1: "), run.stderr)
-
-    @needs("age", "age-keygen")
-    @needs_cryptography
-    def test_recipient_commands(self):
-        """python3 -m agefile encrypt for recipients."""
-        keys = made_keys(200)
-        text = random.Random(1).randbytes(100_000)
-        self.write("plain", text)
-        for name, part in (("one", keys[:1]), ("many", keys[2:])):
-            self.write(name, "".join(f"# a key\n{it}\n\n" for _, it in part).encode())
-        self.write("none", b"# none\n")
-        for words, opens, fails in (
-            (("--recipient", keys[0][1]), (0,), 1), (("--recipient", keys[0][1], "--recipient", keys[1][1]), (0, 1), 2),
-            (("--recipients-file", "one"), (0,), 1), (("--recipients-file", "many"), (2, 100, 199), 0),
-            (("--recipients-file", "one", "--recipients-file", "many", "--recipient", keys[1][1]), (0, 1, 2, 199), None),
-        ):
-            run = self.command("encrypt", *words, "plain", "made.age")
-            data = self.read("made.age")
-            self.see(f"encrypt {words[0]}", run.returncode == 0, run.stderr)
-            for it in opens:
-                self.see(f"{words[::2]}: age, key {it}", self.read_by_age(data, keys[it][0]) == text)
-                self.see(f"{words[::2]}: key {it}", agefile.decrypt(data, identity=keys[it][0]) == text)
-            self.see(f"{words[::2]}: another key", fails is None or isinstance(fault_of(agefile.decrypt, data, identity=keys[fails][0]), agefile.WrongKey))
-            self.remove("made.age")
-        for words, status in (
-            (("--recipient", keys[0][0]), 1), (("--recipient", ""), 1), (("--recipients-file", "none"), 1), (("--recipients-file", "gone"), 1),
-            (("--recipients-file", "one", "--recipients-file", "none"), 1), (("--recipient", keys[0][1], "--pass", "pw"), 2),
-        ):
-            run = self.command("encrypt", *words, "plain", "made.age")
-            is_said = run.stderr.splitlines()[-1].startswith((b"agefile: ", b"python3 -m agefile"))
-            self.see(f"encrypt {words}", run.returncode == status and is_said and keys[0][0].encode() not in run.stderr, run.stderr)
-        self.see("a refused command makes a file", not self.is_there("made.age"))
-        run = self.command("encrypt", "--recipients-file", "one", "plain", "one")
-        self.see("OUT is the recipients' file", run.returncode == 1 and b"one file" in run.stderr and keys[0][1].encode() in self.read("one"), run.stderr)
-
-    def test_files_that_are_read(self):
-        """No file that is named to be read is written to, not by another name of it either."""
-        self.write("plain", b"plain text")
-        self.command("encrypt", "--pass", "pw", "--log", "1", "plain", "made.age")
-        shutil.copy(AGE / "key.txt", self.path("key.txt"))
-        shutil.copy(AGE / "one.age", self.path("one.age"))
-        for name in ("pw", "key.txt", "made.age", "one.age"):
-            os.link(self.path(name), self.path(f"{name}-linked"))
-            self.path(f"{name}-symbolic").symlink_to(name)
-        kept = {name: self.path(name).read_bytes() for name in ("pw", "key.txt", "made.age", "one.age", "plain")}
-        for words in (("encrypt", "--pass", "pw", "plain"), ("decrypt", "--pass", "pw", "made.age"), ("decrypt", "--identity", "key.txt", "one.age"),
-                      ("salvage", "--identity", "key.txt", "one.age"), ("salvage", "--pass", "pw", "made.age")):
-            for out in [name + more for name in words[2:] for more in ("", "-linked", "-symbolic")]:
-                if self.is_there(out):
-                    run = self.command(*words, out)
-                    self.see(f"{' '.join(words)} {out}", run.returncode == 1 and b"one file" in run.stderr, run.returncode, run.stderr)
-        self.see("what was read is as it was", kept == {name: self.path(name).read_bytes() for name in kept})
-        with open(self.path("plain"), "rb") as file:
-            run = self.command("encrypt", "--pass", "pw", "-", "plain", stdin=file)
-        self.see("standard input is OUT", run.returncode == 1 and self.path("plain").read_bytes() == b"plain text", run.stderr)

@@ -10,9 +10,10 @@ import subprocess
 import sys
 import time
 
+from tests.agefile_program import release
 from tests.case import SECONDS, Case, needs
 from tools import terminal
-from tools.workspace import TOP
+from tools.workspace import LIBRARY, TOP
 
 AGE = TOP / "bindings" / "tests" / "age"
 # What a block may need that a machine can lack.
@@ -31,13 +32,14 @@ class PageCase(Case):
 
     def setUp(self):
         super().setUp()
-        self.path("bin").mkdir()
-        self.path("bin/age_tool").symlink_to(self.program)
+        release(self.room)
         self.path("work").mkdir()
         self.env = {
             **os.environ, "PATH": f"{self.path('bin')}:{os.environ['PATH']}",
             "PYTHONPATH": str(TOP / "bindings" / "python"), "PYTHONDONTWRITEBYTECODE": "1",
         }
+        if (LIBRARY / "libage_c.so").exists():
+            self.env["AGE_C_LIBRARY"] = str(LIBRARY / "libage_c.so")
 
     def begin(self, script):
         """Begins to run commands in the folder `work`, in a group of processes of their own."""
@@ -60,7 +62,7 @@ class RecipesTest(PageCase):
         missing = [it for it in TOOLS if re.search(rf"(?m)(^|[ (|]){it}( |$)", script) and not shutil.which(it)]
         if missing:
             return f"needs {' and '.join(missing)}"
-        if "python3 -m agefile" in script:
+        if re.search("agefile .*(--identity|--recipient|salvage)|agefile salvage", script):
             run = subprocess.run([sys.executable, "-c", "import agefile"], env=self.env, capture_output=True, text=True)
             if "--recipient" in script and not importlib.util.find_spec("cryptography"):
                 return "needs cryptography"
@@ -99,13 +101,15 @@ class RecipesTest(PageCase):
         today = self.run_script('age_tool decrypt --pass passphrase.txt "$(ls photos-????-??-??.tar.age | tail -n 1)" /dev/null')
         self.see("the backup of the day opens", today.returncode == 0, today.stdout)
 
-    def test_no_clobber(self):
-        """Each command of the page that makes a new file refuses one that is there; none writes to a file that it doesn't make."""
+    def test_overwriting(self):
+        """Each command of the page that makes a new file refuses one that is there: agefile does, unless it is given --overwrite, and age_tool is
+        given --no-clobber. None writes to a file that it doesn't make."""
         for title, script in [*blocks("bash"), *blocks("sh")]:
-            for words in re.findall(r"(?:age_tool|agefile) (?:encrypt|decrypt|resume|salvage) [^|&;]*", script.replace("\\\n", " ")):
+            for words in re.findall(r"(?:age_tool|agefile) (?:encrypt|decrypt|resume|restore|salvage) [^|&;]*", script.replace("\\\n", " ")):
                 *_, out = re.sub(r" \|.*| < .*|\).*$", "", words.splitlines()[0]).split()
                 is_new = out not in ("/dev/null", "/dev/stdout", "-") and not out.endswith('.part"')
-                self.see(f"{title}: {words}", not is_new or "--no-clobber" in words, out)
+                is_kept = "--no-clobber" in words or words.startswith("agefile ") and "--overwrite" not in words
+                self.see(f"{title}: {words}", not is_new or is_kept, out)
 
     def make_archive(self, name):
         """An age file for the passphrase `to type`, whose text is returned."""
@@ -117,12 +121,11 @@ class RecipesTest(PageCase):
     def test_typed_passphrase(self):
         """Typed at an interactive bash, as the page says: the passphrase is neither shown nor kept in the history."""
         text = self.make_archive("f.age")
-        [typed] = [it for _, script in blocks("sh") for it in script.splitlines() if "read -rsp" in it]
+        [typed] = [it for _, script in blocks("sh") for it in script.splitlines() if it.startswith("agefile decrypt")]
         child, tty = terminal.start(["env", "-C", str(self.path("work")), "bash", "--norc", "-i"], {"PATH": self.env["PATH"], "HISTFILE": "", "PS1": "$ "})
         os.write(tty, typed.encode() + b"\n")
         seen = b""
-        # The line itself has the words of the prompt.
-        while not seen.endswith(b"Passphrase: ") and (piece := terminal.output(tty, b"Passphrase: ")):
+        while not seen.endswith(b"passphrase: ") and (piece := terminal.output(tty, b"passphrase: ")):
             seen += piece
         os.write(tty, b"to type\n")
         seen += terminal.output(tty, b"$ ")

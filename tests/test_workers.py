@@ -4,9 +4,7 @@ import io
 import json
 import os
 import signal
-import stat
 import subprocess
-import sys
 import threading
 import time
 
@@ -107,101 +105,6 @@ class WorkersTest(BindingsCase):
         signal.signal(signal.SIGUSR1, kept)
         left = [it for it in threading.enumerate() if it is not threading.current_thread() and it.is_alive()]
         self.see("threads that go on", left == [], left)
-
-    def run_module(self, *words, **more):
-        env = {**os.environ, "PYTHONPATH": str(PYTHON), "PYTHONDONTWRITEBYTECODE": "1"}
-        return subprocess.run([sys.executable, "-m", "agefile", *words], cwd=self.room, env=env, capture_output=True, **more)
-
-    def command(self, *words, **more):
-        return self.run_module("decrypt", "--pass", "pw", "--workers", "3", *words, **more)
-
-    def resumed(self, old, file="in.age", position="position", word="pw"):
-        """The status of `resume`, what it says, and what OUT holds then; an OUT that was there first."""
-        self.write("out", b"as it was")
-        run = self.run_module("resume", "--pass", word, "--position", position, "--old", old, file, "out")
-        self.see("no traceback", b"Traceback" not in run.stderr, run.stderr)
-        return run.returncode, run.stderr, self.read("out")
-
-    def test_resume(self):
-        """From positions that age_tool saved: after no chunk, one and several; and what is refused, as age_tool does."""
-        text = plain_of(LENGTH)
-        data = self.sealed(text)
-        begin = len(data) - LENGTH - 10 * 16
-        self.write("in.age", data)
-        for chunks in (0, 1, 8):
-            self.write("cut.age", data[:begin + chunks * BLOCK + 70])
-            self.remove("old", "position")
-            self.tool(*"decrypt --pass pw --no-sync --save position cut.age old".split())
-            if not self.is_there("old"):
-                self.write("old", b"")
-            found = self.resumed("old")
-            self.see(f"after {chunks} chunks", found == (0, b"", text), found[:2])
-        position, old = self.read("position"), self.read("old")
-        self.write("longer", old + b"what else was there")
-        self.see("an old text that is longer", self.resumed("longer") == (0, b"", text))
-        self.write("short", old[:-1])
-        self.write("harmed", flipped(old, 3))
-        self.write("other.age", self.sealed(plain_of(LENGTH - 1)))
-        self.write("bad.age", flipped(data, begin + 8 * BLOCK + 3))
-        self.write("cut.age", data[:begin + 6 * BLOCK + 3_000])
-        for what, words, number, left in (
-            ("an old text that is too short", ("short",), b"25 ShortText", old[:7 * 65_536]),
-            ("an old text that was changed", ("harmed",), b"31 OldTextDiffers", flipped(old, 3)),
-            ("another passphrase", ("old", "in.age", "position", "other"), b"13 WrongKey", None),
-            ("damage after the position", ("old", "bad.age"), b"17 ChunkDamaged chunk 8", old),
-            ("a cut file", ("old", "cut.age"), b"17 ChunkDamaged", None),
-        ):
-            status, said, out = self.resumed(*words)
-            self.see(what, status == 1 and number in said and out == (b"as it was" if left is None else left), status, said, len(out))
-        for what, changed, number in (
-            ("another index", position.replace(b" 8 ", b" 7 "), b"30 PositionForged"), ("no position", b"text\n", b"23 BadPosition"),
-            ("a position without its end", position[:-1], b"23 BadPosition"), ("a leading zero", position.replace(b" 8 ", b" 08 "), b"23 BadPosition"),
-            ("a tag that was altered", position[:-3] + b"AA\n", b"30 PositionForged"),
-        ):
-            self.write("changed", changed)
-            status, said, out = self.resumed("old", position="changed")
-            self.see(what, status == 1 and number in said and out == b"as it was", status, said)
-        other = agefile.encrypt(text, passphrase="pw", work=1)
-        self.write("other.age", other)
-        status, said, out = self.resumed("old", "other.age")
-        self.see("another file", status == 1 and b"24 OtherFile" in said and out == b"as it was", said)
-        run = self.run_module(*"resume --pass pw --position position --old out in.age out".split())
-        self.see("OUT as the old text", run.returncode == 1 and b"are one file" in run.stderr, run.stderr)
-
-    def test_program(self):
-        text = plain_of(LENGTH)
-        data = self.sealed(text)
-        self.write("in.age", data)
-        run = self.command("in.age", "out")
-        self.see("a new OUT", run.returncode == 0 and self.read("out") == text, run.stderr)
-        self.write("out", b"as it was", 0o640)
-        run = self.command("in.age", "out")
-        mode = stat.S_IMODE(self.path("out").stat().st_mode)
-        self.see("an OUT that was there", run.returncode == 0 and self.read("out") == text and mode == 0o640, run.stderr, mode)
-        self.write("out", b"as it was")
-        run = self.command("--no-clobber", "in.age", "out")
-        self.see("--no-clobber", run.returncode == 1 and self.read("out") == b"as it was", run.stderr)
-        run = self.command("--no-clobber", "in.age", "new")
-        self.see("--no-clobber, a new OUT", run.returncode == 0 and self.read("new") == text, run.stderr)
-        self.write("bad.age", flipped(data, len(data) - 70_000))
-        run = self.command("bad.age", "out")
-        self.see("a damaged file", run.returncode == 1 and b"17 ChunkDamaged chunk 7" in run.stderr and self.read("out") == b"as it was", run.stderr)
-        os.symlink("out", self.path("link"))
-        run = self.command("in.age", "link")
-        self.see("a link", run.returncode == 0 and self.read("out") == text and self.path("link").is_symlink(), run.stderr)
-        for words in (("in.age", "-"), ("in.age", "/dev/null"), ("in.age", "in.age"), ("in.age", "pw")):
-            run = self.command(*words)
-            self.see(f"to {words[1]}", run.returncode == 1 and run.stderr.startswith(b"agefile: ") and b"Traceback" not in run.stderr, run.stderr)
-        self.see("what is read stays", self.read("in.age") == data and self.read("pw") == b"pw\n")
-        run = self.command("-", "out", input=data)
-        self.see("from a pipe", run.returncode == 1 and b"Traceback" not in run.stderr and self.read("out") == text, run.stderr)
-        full = "import resource, signal; signal.signal(signal.SIGXFSZ, signal.SIG_IGN); resource.setrlimit(resource.RLIMIT_FSIZE, (200_000, 200_000))"
-        env = {**os.environ, "PYTHONPATH": str(PYTHON), "PYTHONDONTWRITEBYTECODE": "1"}
-        program = f"{full}; import runpy; runpy.run_module('agefile', run_name='__main__')"
-        words = "decrypt --pass pw --workers 3 in.age full".split()
-        run = subprocess.run([sys.executable, "-c", program, *words], cwd=self.room, env=env, capture_output=True)
-        self.see("a disk that is full", run.returncode == 1 and run.stderr == b"agefile: full: File too large\n" and not self.is_there("full"), run.stderr)
-        self.see("nothing else is left", not [it.name for it in self.room.iterdir() if it.name.endswith(".part")])
 
 
 class DaskTest(BindingsCase):

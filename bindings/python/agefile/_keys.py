@@ -66,6 +66,21 @@ def secret_of(identity: str) -> bytes:
     return secret
 
 
+def bech32_encoded(prefix: str, held: bytes) -> str:
+    """The Bech32 text of a prefix in lower case and bytes."""
+    number, left = int.from_bytes(held, "big") << -len(held) * 8 % 5, -(-len(held) * 8 // 5)
+    values = [number >> 5 * it & 31 for it in reversed(range(left))]
+    head = [*(ord(it) >> 5 for it in prefix), 0, *(ord(it) & 31 for it in prefix)]
+    check = _checksum([*head, *values, *bytes(6)]) ^ 1
+    values += [check >> 5 * it & 31 for it in reversed(range(6))]
+    return f"{prefix}1{''.join(LETTERS[it] for it in values)}"
+
+
+def recipient_of(identity: str) -> str:
+    """The recipient of a key that begins with AGE-SECRET-KEY-1."""
+    return bech32_encoded("age", x25519_of(secret_of(identity))(NINE))
+
+
 def identities_in(text: str) -> list[str]:
     """The keys in the text of a file of age-keygen: one to a line, among empty lines and comments. (To age, too, only LF ends a line: what
     splitlines takes for another end could hide a recipient in a comment.)"""

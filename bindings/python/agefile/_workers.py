@@ -1,8 +1,6 @@
 """One file that several threads decrypt, each with its own reader."""
 from __future__ import annotations
 
-import io
-import os
 import threading
 from typing import Any, Callable
 
@@ -16,40 +14,6 @@ PIECE = 16 * CHUNK
 
 def worker_count(given: Any) -> int:
     return whole_number("workers", given, WORKERS_MAX)
-
-
-class Places(io.RawIOBase):
-    """A regular file by its descriptor, with a position of its own: several may read it at once."""
-
-    def __init__(self, descriptor: int) -> None:
-        super().__init__()
-        self._descriptor, self._at = descriptor, 0
-
-    def readable(self) -> bool:
-        return True
-
-    def seekable(self) -> bool:
-        return True
-
-    def readinto(self, room: Any, /) -> int:
-        count = os.preadv(self._descriptor, [room], self._at)
-        self._at += count
-        return count
-
-    def tell(self) -> int:
-        return self._at
-
-    def seek(self, offset: int, whence: int = io.SEEK_SET, /) -> int:
-        begin = (0, self._at, os.fstat(self._descriptor).st_size)[whence]
-        self._at = begin + offset
-        return self._at
-
-
-def put_at(descriptor: int, at: int, text: memoryview) -> None:
-    """Writes all of these bytes at a place."""
-    while text:
-        count = os.pwrite(descriptor, text, at)
-        at, text = at + count, text[count:]
 
 
 def copy_text(first: AgeFile, source: Callable[[], Any], out: Callable[[int, memoryview], None] | memoryview, workers: int) -> None:

@@ -1,0 +1,119 @@
+"""What the tests of the program agefile have in common: a release of it, with the program that is tested, and runs at a terminal."""
+import fcntl
+import os
+import pathlib
+import re
+import select
+import shutil
+import subprocess
+import tempfile
+import termios
+import time
+
+from tests.bindings import PYTHON
+from tests.case import SECONDS, Case
+from tools import workspace
+
+MODULE = PYTHON / "agefile"
+
+
+# age_tool with a small work factor, which agefile never gives: as age's own tests have one.
+LIGHTER = """#!/bin/sh
+here=${0%/*}
+[ "$1" != encrypt ] || { shift; exec "$here/proved" encrypt --log 2 "$@"; }
+exec "$here/proved" "$@"
+"""
+
+
+def release(folder, is_lighter=False):
+    """A release in a folder: bin and share, as an archive has them. The path of its agefile."""
+    top = pathlib.Path(folder)
+    (top / "bin").mkdir(parents=True)
+    shutil.copytree(MODULE, top / "share" / "age_tool" / "agefile", ignore=shutil.ignore_patterns("__pycache__"))
+    shutil.copy(workspace.program(), top / "bin" / ("proved" if is_lighter else "age_tool"))
+    if is_lighter:
+        (top / "bin" / "age_tool").write_text(LIGHTER)
+    for it in (top / "bin").iterdir():
+        it.chmod(0o755)
+    (top / "share" / "age_tool" / "agefile" / "__main__.py").chmod(0o755)
+    (top / "bin" / "agefile").symlink_to("../share/age_tool/agefile/__main__.py")
+    return top / "bin" / "agefile"
+
+
+class Ended:
+    """How a run at a terminal ended: its status, what it wrote to its streams, and what its terminal showed."""
+
+    def __init__(self, run, out, error, shown):
+        self.returncode, self.stdout, self.stderr, self.shown = run.returncode, out, error, shown
+
+
+def at_terminal(words, answers, **more):
+    """Runs a program that has a terminal, which isn't its standard streams. Each question, which ends with a colon, gets the next answer, an
+    end of input after the last."""
+    main, terminal = os.openpty()
+    answers, shown, asked = [*answers], b"", b""
+    with tempfile.TemporaryFile() as out, tempfile.TemporaryFile() as error:
+        more = {"stdin": subprocess.DEVNULL, "stdout": out, "stderr": error} | more
+        run = subprocess.Popen(words, start_new_session=True, preexec_fn=lambda: fcntl.ioctl(terminal, termios.TIOCSCTTY, 0), pass_fds=[terminal],
+                               **more)
+        os.close(terminal)
+        until = time.monotonic() + SECONDS
+        while (run.poll() is None or select.select([main], [], [], 0)[0]) and time.monotonic() < until:
+            if not select.select([main], [], [], 0.05)[0]:
+                continue
+            try:
+                piece = os.read(main, 4096)
+            except OSError:
+                break
+            shown, asked = shown + piece, asked + piece
+            if asked.rstrip().endswith(b":"):
+                asked = b""
+                os.write(main, answers.pop(0) if answers else b"\4")
+        if run.poll() is None and time.monotonic() > until:
+            run.kill()
+        run.wait(SECONDS)
+        os.close(main)
+        for it in (out, error):
+            it.seek(0)
+        return Ended(run, out.read(), error.read(), shown)
+
+
+class AgefileCase(Case):
+    """A folder with a passphrase `pass`, a text `plain`, and its age file `age`."""
+    is_lighter = False
+
+    @classmethod
+    def setUpClass(cls):
+        made = tempfile.TemporaryDirectory(prefix="age-test-")
+        cls.addClassCleanup(made.cleanup)
+        os.chmod(made.name, 0o755)
+        cls.agefile = release(f"{made.name}/release", cls.is_lighter)
+        cls.env = {**os.environ, "AGE_C_LIBRARY": str(workspace.library() / "libage_c.so")}
+
+    def setUp(self):
+        super().setUp()
+        self.write("pass", b"correct horse\n")
+        self.plain = os.urandom(200_000)
+        self.write("plain", self.plain)
+        self.tool(*"encrypt --pass pass --log 4 plain age".split(), check=True)
+        self.age = self.read("age")
+
+    def run_agefile(self, *words, **more):
+        """Runs agefile."""
+        more = {"stdin": subprocess.DEVNULL, "capture_output": True, "timeout": SECONDS, "env": self.env} | more
+        if "input" in more:
+            del more["stdin"]
+        return subprocess.run([self.agefile, *words], cwd=self.room, **more)
+
+    def at_terminal(self, *words, answers=(), **more):
+        return at_terminal([self.agefile, *words], answers, cwd=self.room, **{"env": self.env} | more)
+
+    def ends(self, name, run, status, said=b"", out=b""):
+        """Counts whether a run ended like this; `said` is a text, or a form of it."""
+        fits = said == run.stderr if isinstance(said, bytes) else said.fullmatch(run.stderr)
+        self.see(name, (run.returncode, run.stdout) == (status, out) and fits, run.returncode, run.stderr, (run.stdout or b"")[-200:])
+
+
+def form(text):
+    """A form of what is said."""
+    return re.compile(text.encode(), re.DOTALL)
