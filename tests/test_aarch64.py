@@ -88,11 +88,12 @@ class ArmTest(Case):
             loads = [int(it.split()[-1], 16) for it in head.splitlines() if it.strip().startswith("LOAD")]
             self.see(f"{name}: pages of 64 KiB", loads and min(loads) >= 65_536, loads)
             self.see(f"{name}: the loader", ("INTERP" in head) == (name == "shared"))
-        library = TOP / "bindings/out/aarch64/libage_c.so.0"
-        loads = subprocess.run(["readelf", "-lW", library], capture_output=True, text=True).stdout
-        self.see("the library: pages of 64 KiB", all(int(it.split()[-1], 16) >= 65_536 for it in loads.splitlines() if it.strip().startswith("LOAD")), loads)
-        symbols = subprocess.run(["readelf", "--dyn-syms", "-W", library], capture_output=True, text=True).stdout
-        self.see("the library: glibc 2.17", {*re.findall(r"GLIBC_[0-9.]+", symbols)} == {"GLIBC_2.17"}, symbols)
+        for name, versions in (("libagefile.so.2", {"GLIBC_2.17", "GLIBC_2.25"}), ("libage_c.so.0", {"GLIBC_2.17"})):
+            library = TOP / "bindings/out/aarch64" / name
+            loads = subprocess.run(["readelf", "-lW", library], capture_output=True, text=True).stdout
+            self.see(f"{name}: pages of 64 KiB", all(int(it.split()[-1], 16) >= 65_536 for it in loads.splitlines() if it.strip().startswith("LOAD")), loads)
+            symbols = subprocess.run(["readelf", "--dyn-syms", "-W", library], capture_output=True, text=True).stdout
+            self.see(f"{name}: {versions}", {*re.findall(r"GLIBC_[0-9.]+", symbols)} == versions, symbols)
 
     def test_both_ways(self):
         """What one processor writes the other reads, and a decryption that stopped on one goes on on the other."""
@@ -127,7 +128,7 @@ class ArmTest(Case):
         """The Go module is built for ARM, with the library inside, and decrypts there."""
         module = self.path("go")
         shutil.copytree(TOP / "bindings/go", module)
-        for name in ("include/age_c.h", "bindings/out/aarch64/libage_c.a"):
+        for name in ("bindings/c/age_c.h", "bindings/out/aarch64/libage_c.a"):
             shutil.copy(TOP / name, module)
         env = {**os.environ, "GOOS": "linux", "GOARCH": "arm64", "CGO_ENABLED": "1", "CC": CC, "GOPROXY": "off", "GOFLAGS": "-mod=mod", "GOTOOLCHAIN": "local"}
         built = subprocess.run(["go", "build", "-o", self.path("by-go"), "./decrypt"], cwd=module, env=env, capture_output=True, text=True)

@@ -1,4 +1,4 @@
-"""Tries the C library from C and Python: files of age_tool at the lengths that matter, files that are cut at every byte, damaged, swapped
+"""Tries the C library from C and Python, by agefile.h and, until the modules call that, by age_c.h: files of age_tool at the lengths that matter, files that are cut at every byte, damaged, swapped
 and lengthened, wrong keys, misuse, refused memory, and 50,000 files that are damaged at random. The C programs also run under
 the address sanitizer and valgrind. What is expected is what age_tool prints of the same file, or what was put in. The header's faults
 are compared with docs/FAULTS.md. AGE_DAMAGED is how many files are damaged, and AGE_SEED the seed, which else comes from the clock and is
@@ -17,7 +17,7 @@ from tests.case import needs
 from tools.workspace import LIBRARY, TOP
 
 INCLUDE = f"-I{TOP / 'include'}"
-FLAGS = ["-std=c11", "-g", "-O1", "-Wall", "-Wextra", INCLUDE]
+FLAGS = ["-std=c11", "-g", "-O1", "-Wall", "-Wextra", INCLUDE, f"-I{TOP / 'bindings' / 'c'}"]
 SANITIZED = [*FLAGS, "-fsanitize=address,undefined", "-fno-sanitize-recover=all"]
 STRICT = ["-std=c11", "-Wall", "-Wextra", "-Werror", INCLUDE]
 VALGRIND = ["valgrind", "-q", "--error-exitcode=99", "--leak-check=full", "--max-stackframe=4000000"]
@@ -25,12 +25,23 @@ SOURCES = TOP / "bindings" / "c"
 # The programs in bindings/c/tests that say by their status whether all is right, with their words: for a run, and for one under valgrind.
 CHECKS = {
     "refusals": (["file"], ["file"]), "misuse": (["3000"], ["150"]), "work": ([], None), "places": ([], None), "seek": ([], ["5"]),
-    "stream": ([], ["1"]), "sequences": (["600", "1"], ["10", "2"]), "once": ([], []), "push": ([], ["20"]), "header": ([], []),
+    "stream": ([], ["1"]), "sequences": (["600", "1"], ["10", "2"]), "header": ([], []),
     "seal_key": ([TOP / "bindings" / "tests" / "age" / "one.age"], None),
+    "objects": ([], None), "given_up": ([], []), "lacking": ([], None), "undamaged": ([], []), "limit": ([], []),
 }
+# The C files over the proved calls, which the sanitizers see only if they compile them.
+INNER = [SOURCES / f"{it}.c" for it in ("agefile", "once", "look")]
+# Calls of a program that it has to see first.
+WRAPPED = {"lacking": ["-Wl,--wrap=malloc,--wrap=realloc,--wrap=getrandom"]}
 # In how many places a call may branch, or form an address, by a secret: whether a chunk's tag is right; whether the header's MAC is, and a
 # stanza's tag; scrypt's look-ups; whether a secret is zero. `leak` has one of its own, by which the test is tried.
 SECRETS = {"seal": (0, 0), "block": (1, 2), "key": (1, 1), "passphrase": (1, 4), "shared": (1, 3), "leak": (1, 1)}
+
+# Which faults are of which kind, in the order of the kinds' numbers.
+KINDS = {
+    "none": {0}, "wrong key": {12, 13}, "not whole": {*range(1, 11), *range(14, 23), 254}, "work": {11}, "memory": {28}, "misuse": {253, 255},
+    "system": {26, 252},
+}
 
 # What the Go and Rust modules say of faults, before the number and name.
 MEANINGS = {
@@ -187,12 +198,12 @@ class CTest(ProgramsCase):
     def setUpClass(cls):
         made = tempfile.TemporaryDirectory()
         cls.addClassCleanup(made.cleanup)
-        sources = {it: SOURCES / "tests" / f"{it}.c" for it in (*CHECKS, "damage")} | {"decrypt": SOURCES / "decrypt.c"}
+        sources = {it: SOURCES / "tests" / f"{it}.c" for it in (*CHECKS, "damage", "freed")} | {"decrypt": SOURCES / "decrypt.c"}
         cls.made = {}
-        for kind, flags in (("plain", FLAGS), ("sanitized", SANITIZED)):
+        for kind, flags, inner in (("plain", FLAGS, []), ("sanitized", SANITIZED, INNER)):
             for name, source in sources.items():
                 to = pathlib.Path(made.name) / f"{name}-{kind}"
-                words = ["cc", *flags, "-pthread", "-o", to, source, LIBRARY / "libage_c.a"]
+                words = ["cc", *flags, "-pthread", *WRAPPED.get(name, []), "-o", to, source, *inner, LIBRARY / "libagefile.a"]
                 # (the sanitizers aren't everywhere)
                 if subprocess.run(words, check=kind == "plain", capture_output=True).returncode == 0:
                     cls.made[kind, name] = to
@@ -229,6 +240,13 @@ class CTest(ProgramsCase):
         self.see_checks("sanitized")
         self.see_decrypt("decrypt, sanitized", [self.made_by("sanitized", "decrypt")])
 
+    def test_freed(self):
+        """The address sanitizer reports an object that is used after it was freed, whichever call does so."""
+        made = self.made_by("sanitized", "freed")
+        for how in ("no", "encode", "decode", "begin", "free"):
+            run = subprocess.run([made, how], capture_output=True, text=True)
+            self.see(f"freed, and then: {how}", ("heap-use-after-free" in run.stderr) == (run.returncode != 0) == (how != "no"), run.stderr[-2000:])
+
     @needs("valgrind")
     def test_valgrind(self):
         self.see_decrypt("decrypt under valgrind", [*VALGRIND, self.made["plain", "decrypt"]])
@@ -239,7 +257,7 @@ class CTest(ProgramsCase):
     def test_salvage(self):
         """bindings/c/salvage.c: two chunks of four are damaged, the end is cut, and another passphrase."""
         made = self.path("salvage")
-        subprocess.run(["cc", *STRICT, "-O1", "-o", made, SOURCES / "salvage.c", LIBRARY / "libage_c.a"], check=True)
+        subprocess.run(["cc", *STRICT, "-O1", "-o", made, SOURCES / "salvage.c", LIBRARY / "libagefile.a"], check=True)
         text = plain_of(200_000)
         data = bytearray(self.sealed(text))
         begin = len(data) - 200_000 - 4 * 16
@@ -268,7 +286,7 @@ class CTest(ProgramsCase):
         """No branch and no address depends on a secret but what each call is known for: its answer, and scrypt's look-ups. Seen in this
         library, as this compiler made it, and not proved. valgrind's memcheck reports what depends on bytes that are marked as undefined."""
         made = self.path("secrets")
-        words = ["cc", "-std=c11", "-O1", "-g", INCLUDE, "-o", made, SOURCES / "tests" / "secrets.c", LIBRARY / "libage_c.a"]
+        words = ["cc", "-O1", *FLAGS, "-o", made, SOURCES / "tests" / "secrets.c", LIBRARY / "libagefile.a"]
         run = subprocess.run(words, capture_output=True, text=True)
         if run.returncode != 0 and "memcheck.h" in run.stderr:
             self.leave_out("secrets", "needs valgrind's memcheck.h")
@@ -283,13 +301,13 @@ class CTest(ProgramsCase):
     def test_stack(self):
         self.write("file", self.sealed(plain_of(70_000)))
         made = self.path("stack")
-        subprocess.run(["cc", *FLAGS, "-o", made, SOURCES / "tests" / "stack.c", LIBRARY / "libage_c.a", "-lpthread"], check=True)
+        subprocess.run(["cc", *FLAGS, "-o", made, SOURCES / "tests" / "stack.c", LIBRARY / "libagefile.a", "-lpthread"], check=True)
         self.succeeds("stack", [made, "file"])
 
     @needs("c++")
     def test_header_in_cpp(self):
         for std in ("c++98", "c++11", "c++17"):
-            words = ["c++", f"-std={std}", "-Wall", "-Wextra", "-Werror", "-fsyntax-only", "-x", "c++", TOP / "include" / "age_c.h"]
+            words = ["c++", f"-std={std}", "-Wall", "-Wextra", "-Werror", "-fsyntax-only", "-x", "c++", TOP / "include" / "agefile.h"]
             self.succeeds(f"the header in {std}", words)
 
     def damage(self, *words):
@@ -319,86 +337,123 @@ class CTest(ProgramsCase):
         self.see_reports("C", LIBRARY / "decrypt")
 
     def test_names(self):
-        """The header file and the bindings have the faults of docs/FAULTS.md, and a compiler warns of an answer that isn't looked at."""
+        """The header has the faults of docs/FAULTS.md, each has a name, a sentence and a kind, and a compiler warns of an answer that isn't looked at."""
         listed = {int(it[0]): it[1] for it in re.findall(r"^\| (\d+) \| (\w+) \|", (TOP / "docs" / "FAULTS.md").read_text(), re.M)}
-        header = (TOP / "include" / "age_c.h").read_text()
-        # (a cut header or nonce, 8 and 16 of age_tool, is AGE_C_MORE here, and 23 and up but 28 are of its files)
+        header = (TOP / "include" / "agefile.h").read_text()
+        # (a cut header or nonce, 8 and 16 of age_tool, is 254 here, and 23 and up but 28 are of its files)
         returned = {number: name for number, name in listed.items() if (number < 23 or number == 28) and number not in (8, 16)}
+        returned |= {26: "NoRandom", 252: "NoProcessor", 253: "NoRoom", 254: "CutInHeader", 255: "Misused"}
         wanted = {re.sub(r"(?<=[a-z])(?=[A-Z])", "_", name).upper(): number for number, name in returned.items()}
-        defined = {name: int(number) for name, number in re.findall(r"^#define AGE_C_(\w+) (\d+)u$", header, re.M)}
-        self.see(f"faults of age_c.h: {wanted.items() - defined.items()}", len(listed) == 31 and wanted.items() <= defined.items())
-        begin = header.index("#define AGE_C_NOT_AGE")
-        block = re.match(r"(#define AGE_C_\w+ \d+u\n)+", header[begin:])[0]
-        self.see(f"age_c.h has {block.count(chr(10))} faults, not {len(wanted)}", block.count("\n") == len(wanted))
-        named = {number: name for number, name in listed.items() if number < 23 or number == 28} | {254: "HeaderOrNonceCut", 255: "Misused"}
-        self.see("the faults of the Python module", {number: agefile.AgeError(number).name for number in named} == named)
+        defined = {name: int(number) for name, number in re.findall(r"^    AGEFILE_(\w+) = (\d+),?$", header, re.M)}
+        self.see("the faults of agefile.h", len(listed) == 31 and wanted == defined, wanted.items() ^ defined.items())
+        named = {number: name for number, name in listed.items() if number < 23 or number == 28}
+        named |= {0: "Ok", 26: "NoRandom", 252: "NoProcessor", 253: "NoRoom", 254: "HeaderOrNonceCut", 255: "Misused"}
+        old = {number: name for number, name in named.items() if number not in (0, 26, 252, 253)}
+        self.see("the faults of the Python module", {number: agefile.AgeError(number).name for number in old} == old)
         words = ["cc", *STRICT, "-x", "c", "-", "-o", self.path("names")]
-        library = ["-x", "none", LIBRARY / "libage_c.a"]
-        program = '#include "age_c.h"\n#include <stdio.h>\nint main(void) { for (unsigned i = 1; i < 256; i++) puts(age_c_fault_name(i)); }\n'
-        run = subprocess.run([*words, *library], input=program, capture_output=True, text=True)
+        program = '#include "agefile.h"\n#include <stdio.h>\nint main(void) { for (int i = -1; i < 257; i++) ' \
+            'printf("%d %s %d %s\\n", i, agefile_fault_name(i), agefile_fault_kind(i), agefile_fault_text(i)); }\n'
+        run = subprocess.run([*words, "-x", "none", LIBRARY / "libagefile.a"], input=program, capture_output=True, text=True)
         self.see("the names of the faults", run.returncode == 0, run.stderr)
         if run.returncode == 0:
-            printed = subprocess.run([self.path("names")], capture_output=True, text=True).stdout.splitlines()
-            self.see("the names of the faults", printed == [named.get(number, "Unknown") for number in range(1, 256)], printed)
-        ignored = '#include "age_c.h"\nvoid f(age_c_reader *r, uint8_t *b, size_t *w) {{ {0}age_c_end(r, b, 0, b, 65536, w){1}; }}\n'
+            printed = [it.split(" ", 3) for it in subprocess.run([self.path("names")], capture_output=True, text=True).stdout.splitlines()]
+            self.see("the names of the faults", {int(it[0]): it[1] for it in printed if it[1] != "Unknown"} == named, printed)
+            kinds = {name: {int(it[0]) for it in printed if it[2] == str(kind) and it[1] != "Unknown"} for kind, name in enumerate(KINDS)}
+            self.see("the kinds of the faults", kinds == KINDS, kinds)
+            self.see("a sentence of each", all(it[3] for it in printed) and len({it[3] for it in printed if it[1] != "Unknown"}) > 20, printed)
+        ignored = '#include "agefile.h"\nvoid f(agefile_encoder *e, void *b, size_t *w) {{ {0}agefile_encode_end(e, b, 0, w){1}; }}\n'
         for what, how, status in (("ignored", ("", ""), 1), ("looked at", ("if (", ") {}"), 0)):
             run = subprocess.run([*words[:-1], "/dev/null", "-c"], input=ignored.format(*how), capture_output=True, text=True)
-            self.see(f"an answer that is {what}", run.returncode == status and (status == 0 or "age_c_end" in run.stderr), run.stderr)
+            self.see(f"an answer that is {what}", run.returncode == status and (status == 0 or "agefile_encode_end" in run.stderr), run.stderr)
 
     def test_sample(self):
-        """The reader in the head of age_c.h, made a program, whose argument is the passphrase."""
-        head = (TOP / "include" / "age_c.h").read_text()
-        lines = head.split("of its own):\n *\n", 1)[1].split("\n *\n", 1)[0].splitlines()
-        sample = "\n".join(line.removeprefix(" *") for line in lines)
-        begin = "int main(int argc, char **argv) { const uint8_t *pass = (const uint8_t *)argv[argc - 1]; size_t pass_len = strlen(argv[1]);"
-        program = '#include "age_c.h"\n#include <stdio.h>\n#include <string.h>\n' + f"{begin}\n{sample}\nreturn answer != 0; }}\n"
+        """The reader in the head of agefile.h, made a program, whose argument is the passphrase."""
+        head = (TOP / "include" / "agefile.h").read_text()
+        sample = "\n".join(line.removeprefix(" *") for line in head.split("\n *\n")[1].splitlines())
+        begin = "int main(int argc, char **argv) { const char *pass = argv[argc - 1]; size_t pass_len = strlen(pass), have, n; " \
+            "static char in[1 << 20], out[(1 << 20) + 65536];"
+        end = 'if (answer) fprintf(stderr, "%d %s\\n", answer, agefile_fault_name(answer));'
+        program = '#include "agefile.h"\n#include <stdio.h>\n#include <string.h>\n' + f"{begin}\n{sample}\n{end}\nreturn answer != 0; }}\n"
         self.path("sample.c").write_text(program)
-        comma = ["-Wcomma"] if shutil.which("clang") else []
-        words = ["clang" if comma else "cc", *STRICT, *comma, "-o", self.path("sample"), self.path("sample.c")]
-        run = subprocess.run([*words, LIBRARY / "libage_c.a"], capture_output=True, text=True)
-        self.see("the sample in age_c.h", run.returncode == 0, run.stderr)
+        words = ["cc", *STRICT, "-o", self.path("sample"), self.path("sample.c")]
+        run = subprocess.run([*words, LIBRARY / "libagefile.a"], capture_output=True, text=True)
+        self.see("the sample in agefile.h", run.returncode == 0, run.stderr)
         if run.returncode == 0:
             for length in (*LENGTHS, 1_200_000):
                 text = plain_of(length)
                 run = subprocess.run([self.path("sample"), "pw"], input=self.sealed(text), capture_output=True)
-                self.see(f"the sample in age_c.h: {length} bytes", (run.returncode, run.stdout) == (0, text), run.stderr)
+                self.see(f"the sample in agefile.h: {length} bytes", (run.returncode, run.stdout) == (0, text), run.stderr)
             run = subprocess.run([self.path("sample"), "pw"], input=self.sealed(text)[:-1], capture_output=True)
             is_cut = (run.returncode, run.stderr, run.stdout) == (1, b"17 ChunkDamaged\n", text[:18 * 65_536])
-            self.see("the sample in age_c.h, a cut file", is_cut, run.stderr)
+            self.see("the sample in agefile.h, a cut file", is_cut, run.stderr)
 
     def test_shared_library(self):
         """A C program that is linked with the shared library, which is found by the name that it was given."""
         made = self.path("decrypt-shared")
-        words = ["cc", INCLUDE, "-o", made, SOURCES / "decrypt.c", f"-L{LIBRARY}", "-lage_c", f"-Wl,-rpath,{LIBRARY}"]
+        words = ["cc", INCLUDE, "-o", made, SOURCES / "decrypt.c", f"-L{LIBRARY}", "-lagefile", f"-Wl,-rpath,{LIBRARY}"]
         run = subprocess.run(words, capture_output=True, text=True)
         self.see("linking with the shared library", run.returncode == 0, run.stderr)
-        taken = subprocess.run(["nm", "-D", "--undefined-only", "-j", LIBRARY / "libage_c.so"], capture_output=True, text=True).stdout.split()
-        allowed = {"malloc", "realloc", "free", "memcpy", "memmove", "memset"}
-        self.see(f"the shared library calls {taken}, and age_c.h says {allowed}", {it.partition("@")[0] for it in taken} == allowed)
-        shown = subprocess.run(["nm", "-D", "--defined-only", "-j", LIBRARY / "libage_c.so"], capture_output=True, text=True).stdout.split()
-        promised = re.findall(r"(?m)^(\w+) [0-9.]+$", (SOURCES / "age_c.symbols").read_text())
-        declared = re.findall(r"(?m)^(?:uint32_t|const char \*)\s?(age_c_\w+)\(", (TOP / "include" / "age_c.h").read_text())
-        self.see("the calls of the library, of its list and of age_c.h are the same", sorted(shown) == promised == sorted(declared), shown, declared)
-        header = (TOP / "include" / "age_c.h").read_text()
+        taken = subprocess.run(["nm", "-D", "--undefined-only", "-j", LIBRARY / "libagefile.so"], capture_output=True, text=True).stdout.split()
+        allowed = {"malloc", "realloc", "free", "memcpy", "memmove", "memset", "explicit_bzero", "getrandom", "__errno_location"}
+        self.see(f"the shared library calls {taken}, not {allowed}", {it.partition("@")[0] for it in taken} == allowed)
+        shown = subprocess.run(["nm", "-D", "--defined-only", "-j", LIBRARY / "libagefile.so"], capture_output=True, text=True).stdout.split()
+        shown = [it.partition("@")[0] for it in shown if it != "AGEFILE_2"]
+        promised = re.findall(r"(?m)^(\w+) [0-9.]+$", (SOURCES / "agefile.symbols").read_text())
+        header = (TOP / "include" / "agefile.h").read_text()
+        declared = re.findall(r"(?m)^(?:AGEFILE_MUST_CHECK )?[a-z_0-9 ]+[ *](agefile_\w+)\(", header)
+        self.see("the calls of the library, of its list and of agefile.h are the same", sorted(shown) == promised == sorted(declared), shown, declared)
         words = ["cc", f"-I{self.room}", "-std=c11", "-Werror", "-fsyntax-only", SOURCES / "tests" / "abi.c"]
         for what, old, new in (
-            ("as it is", "", ""), ("a number", "#define AGE_C_TRAILING 21u", "#define AGE_C_TRAILING 22u"), ("a type", "size_t front_len, size_t seen", "size_t front_len, int seen"),
-            ("a size", "} age_c_stanza;", "    uint8_t more;\n} age_c_stanza;"), ("a name", "age_c_may_open(", "age_c_can_open("),
-            # (the rest of its room is padding: each place and size stays)
-            ("a field", "size_t args_len;", "uint32_t args_len;"),
+            ("as it is", "", ""), ("a number", "AGEFILE_TRAILING = 21,", "AGEFILE_TRAILING = 23,"),
+            ("a type", "agefile_encode_room(const agefile_encoder *it, size_t len)", "agefile_encode_room(const agefile_encoder *it, int len)"),
+            ("a size", "} agefile_stanza;", "    uint8_t more;\n} agefile_stanza;"), ("a name", "agefile_payload_at(", "agefile_payload_is_at("),
+            ("a field", "    uint32_t kind;\n", "    uint16_t kind;\n"),
         ):
             self.assertIn(old, header)
-            self.write("age_c.h", header.replace(old, new, 1).encode())
+            self.write("agefile.h", header.replace(old, new, 1).encode())
             ran = subprocess.run(words, capture_output=True, text=True)
-            self.see(f"what a program of 1.2.0 knows of age_c.h, {what}", (ran.returncode == 0) == (not old), ran.stderr)
-        sections = subprocess.run(["objdump", "-h", LIBRARY / "libage_c.so"], capture_output=True, text=True).stdout.split()
+            self.see(f"what a program of 2.0.0 knows of agefile.h, {what}", (ran.returncode == 0) == (not old), ran.stderr)
+        sections = subprocess.run(["objdump", "-h", LIBRARY / "libagefile.so"], capture_output=True, text=True).stdout.split()
+        # (.data.rel.ro is for reading, once it is linked)
         self.see("memory that calls in two threads could share", ".text" in sections and not {".data", ".bss", ".tdata", ".tbss"} & {*sections}, sections)
+        symbols = subprocess.run(["objdump", "-T", LIBRARY / "libagefile.so"], capture_output=True, text=True).stdout
+        versions = [tuple(map(int, it.split("."))) for it in re.findall(r"\(GLIBC_([\d.]+)\)", symbols)]
+        said = re.search(r"libc=(\d+)\.(\d+)", (TOP / "release" / "packages").read_text())
+        self.see(f"the shared library needs of glibc {versions}", versions and max(versions) == tuple(map(int, said.groups())))
         symbols = subprocess.run(["objdump", "-T", LIBRARY / "libage_c.so"], capture_output=True, text=True).stdout
         versions = [tuple(map(int, it.split("."))) for it in re.findall(r"\(GLIBC_([\d.]+)\)", symbols)]
-        said = re.search(r"glibc (\d+)\.(\d+) or later", (TOP / "include" / "age_c.h").read_text())
-        self.see(f"the shared library needs of glibc {versions}", versions and max(versions) == tuple(map(int, said.groups())))
+        self.see(f"the modules' library needs of glibc {versions}, the wheel 2.17", versions and max(versions) <= (2, 17))
         if run.returncode == 0:
             needed = subprocess.run(["ldd", made], capture_output=True, text=True).stdout
-            self.see("the shared library isn't used", f"libage_c.so.0 => {LIBRARY}/libage_c.so.0" in needed, needed)
+            self.see("the shared library isn't used", f"libagefile.so.2 => {LIBRARY}/libagefile.so.2" in needed, needed)
             text = plain_of(70_000)
             self.see("by the shared library", self.by_c(self.sealed(text), program=(made,)) == ((0, (0, None)), text))
+
+    @needs("age", "age-keygen")
+    def test_x25519(self):
+        """bindings/c/x25519.c, over libsodium: what it writes to a recipient of age-keygen age reads, and the other way round."""
+        made = self.path("x25519")
+        run = subprocess.run(["cc", *STRICT, "-O1", "-o", made, SOURCES / "x25519.c", LIBRARY / "libagefile.a", "-lsodium"], capture_output=True, text=True)
+        if run.returncode != 0 and ("sodium.h" in run.stderr or "-lsodium" in run.stderr):
+            return self.leave_out("x25519.c", "needs libsodium")
+        self.see("x25519.c", run.returncode == 0, run.stderr)
+        lines = (SOURCES / "x25519.c").read_text().count("\n")
+        self.see(f"x25519.c has {lines} lines", lines <= 80)
+        keys = []
+        for name in ("own key", "other key"):
+            subprocess.run(["age-keygen", "-o", self.path(name)], check=True, capture_output=True)
+            keys.append(re.findall(r"age1\w+|AGE-SECRET-KEY-1\w+", self.read(name).decode()))
+        (recipient, identity), (_, stranger) = keys
+        for length in LENGTHS:
+            text = plain_of(length)
+            self.write("in", text)
+            file = subprocess.run([made, recipient], input=text, capture_output=True).stdout
+            back = subprocess.run(["age", "-d", "-i", self.path("own key")], input=file, capture_output=True)
+            self.see(f"age reads {length} bytes of it", back.stdout == text and back.returncode == 0, back.stderr)
+            self.see(f"it reads {length} bytes of its own", subprocess.run([made, identity], input=file, capture_output=True).stdout == text)
+            many = subprocess.run(["age", "-r", keys[1][0], "-r", recipient, "-o", "-"], input=text, capture_output=True).stdout
+            self.see(f"it reads {length} bytes of age", subprocess.run([made, identity], input=many, capture_output=True).stdout == text)
+            ended = subprocess.run([made, stranger], input=file, capture_output=True)
+            self.see("another identity", (ended.returncode, ended.stdout) == (1, b"") and b" 13 WrongKey" in ended.stderr, ended.stderr)
+        for word in (recipient[:-1] + ("q" if recipient[-1] != "q" else "p"), recipient.upper(), identity[:-1], "", "age1"):
+            self.see(f"no key: {word}", subprocess.run([made, word], input=b"", capture_output=True).returncode == 2)

@@ -1,8 +1,9 @@
-"""Runs C2SP's test vectors for age files through the program and the Python module, which calls the C library. They stand in
+"""Runs C2SP's test vectors for age files through the program, the Python module and the calls of agefile.h. They stand in
 tests/cctv.tar.gz, as in the folder age/testdata of https://github.com/C2SP/CCTV (0BSD), unless the variable CCTV names another folder.
 
 A vector has lines `NAME: VALUE`, an empty line, and an age file. What an identity of this profile can open is opened by it. What needs
 another one (a post-quantum key) is opened by its file key, if it is to be opened. Armor is outside of the profile, so it is refused."""
+import ctypes
 import hashlib
 import importlib.util
 import os
@@ -13,6 +14,7 @@ import zlib
 
 from tests import bindings
 from tests.case import Case, claim
+from tools.workspace import LIBRARY
 
 ARCHIVE = pathlib.Path(__file__).with_name("cctv.tar.gz")
 SUM = "29e1ddb94bef5c2932d3b7c4f42577567fed220ce833edeb38458dd320269263"
@@ -40,6 +42,47 @@ class Vector:
     def text_is(self, text):
         """Whether this is the text, or its beginning that comes out before a fault."""
         return "payload" not in self.said or hashlib.sha256(text).hexdigest() == self.said["payload"]
+
+
+class CKey(ctypes.Structure):
+    """agefile_key of agefile.h."""
+
+    _fields_ = [("kind", ctypes.c_uint32), ("work", ctypes.c_uint32), *((it, ctypes.c_char_p) for it in ("at", "with", "to")),
+                ("len", ctypes.c_size_t), ("with_len", ctypes.c_size_t)]
+
+
+class Decoding:
+    """The library's calls, which give the answer and the text of a file."""
+
+    def __init__(self, path):
+        self.c = ctypes.CDLL(path)
+        self.c.agefile_passphrase.restype = self.c.agefile_file_key.restype = CKey
+        self.c.agefile_passphrase.argtypes = [ctypes.c_char_p, ctypes.c_size_t]
+
+    def key_of(self, vector):
+        # (a key points to the bytes, which therefore stay)
+        self.word = vector.passphrase and vector.passphrase.encode()
+        return self.c.agefile_passphrase(self.word, len(self.word)) if self.word else self.c.agefile_file_key(vector.key)
+
+    def in_pieces(self, vector, size):
+        it, written, text = ctypes.c_void_p(), ctypes.c_size_t(), b""
+        room = ctypes.create_string_buffer(size + 65_536)
+        answer = self.c.agefile_decoder_new(ctypes.byref(it), self.key_of(vector))
+        pieces = [vector.file[at:at + size] for at in range(0, len(vector.file), size)]
+        for piece in [*pieces, None]:
+            if answer == 0:
+                words = [] if piece is None else [piece, ctypes.c_size_t(len(piece))]
+                call = self.c.agefile_decode_end if piece is None else self.c.agefile_decode
+                answer = call(it, *words, room, ctypes.c_size_t(len(room)), ctypes.byref(written))
+                text += room[:written.value]
+        self.c.agefile_decoder_free(it)
+        return answer, text
+
+    def at_once(self, vector):
+        written, room = ctypes.c_size_t(), ctypes.create_string_buffer(len(vector.file))
+        size = ctypes.c_size_t(len(vector.file))
+        answer = self.c.agefile_decrypt(self.key_of(vector), vector.file, size, room, size, ctypes.byref(written))
+        return answer, room[:written.value]
 
 
 def vectors():
@@ -115,3 +158,19 @@ class VectorsTest(Case):
             except agefile.AgeError as error:
                 fault = error.number
             self.see(f"{vector.name} in Python", self.judge(vector, fault, text), fault, len(text))
+
+    def test_c(self):
+        """By a passphrase and by the file key: in one call, and in pieces."""
+        bindings.module()
+        c = Decoding(LIBRARY / "libagefile.so")
+        for vector in self.vectors:
+            if vector.passphrase is None and vector.expected not in ("success", "payload failure", "HMAC failure") and not vector.is_armored:
+                continue
+            # (README counts those of the program and the module)
+            for size in (97, 65_536) if vector.passphrase or len(vector.file) > 10_000 else (1, 97, 65_536):
+                fault, text = c.in_pieces(vector, size)
+                Case.see(self, f"{vector.name} in C, in pieces of {size}", self.judge(vector, fault, text), fault, len(text))
+            fault, text = c.at_once(vector)
+            whole = vector.expected == "success" and not vector.is_armored
+            Case.see(self, f"{vector.name} in C, at once", fault in (FAULTS["armor failure"] if vector.is_armored else FAULTS.get(vector.expected, {0}))
+                     and (vector.text_is(text) if whole else text == b""), fault, len(text))

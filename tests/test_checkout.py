@@ -86,7 +86,7 @@ class CheckoutTest(Case):
             self.see(f"rt ci takes it, {turn}", not said, said)
         if not shutil.which("pkg-config"):
             return self.leave_out("pkg-config", "needs pkg-config")
-        words = "eval cc -o user \\'bindings/c/decrypt.c\\' $(pkg-config --cflags --libs age_c)"
+        words = "eval cc -o user \\'bindings/c/decrypt.c\\' $(pkg-config --cflags --libs agefile)"
         run = subprocess.run(["sh", "-c", words], cwd=top, env={**os.environ, "PKG_CONFIG_PATH": str(top / "bindings/out/pkgconfig")}, capture_output=True, text=True)
         self.see("a program by pkg-config", run.returncode == 0, run.stderr)
 

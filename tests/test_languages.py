@@ -66,7 +66,7 @@ class LanguagesTest(ProgramsCase):
         """The C program in bindings/README.md, which reads a text from standard input."""
         self.path("sample.c").write_text(sample_of("c"))
         comma = ["-Wcomma"] if shutil.which("clang") else []
-        words = ["clang" if comma else "cc", *STRICT, *comma, "-o", self.path("sample-c"), self.path("sample.c"), LIBRARY / "libage_c.a"]
+        words = ["clang" if comma else "cc", *STRICT, *comma, "-o", self.path("sample-c"), self.path("sample.c"), LIBRARY / "libagefile.a"]
         self.succeed("C", self.room, {}, words)
         shutil.copy(TOP / "bindings" / "tests" / "age" / "passphrase.age", self.path("notes.age"))
         text = plain_of(200_000)
@@ -79,7 +79,7 @@ class LanguagesTest(ProgramsCase):
             text = plain_of(length)
             self.write("in", text)
             self.tool(*"encrypt --pass horse --log 1 --no-sync in notes.age".split(), check=True)
-            self.path("sample.c").write_text(sample_of("c").replace("pass_len, 18,", "pass_len, 1,").replace("from, 13,", f"from, {place},"))
+            self.path("sample.c").write_text(sample_of("c").replace("horse\", 13);", "horse\", 13);\n    key.work = 1;").replace("from, 13,", f"from, {place},"))
             self.succeed("C", self.room, {}, words)
             run = subprocess.run([self.path("sample-c")], cwd=self.room, input=b"", capture_output=True)
             self.see(f"the sample in C from {place} of {length}", (run.returncode, run.stdout) == (0, text[place:]), run.stderr)
@@ -157,7 +157,7 @@ class LanguagesTest(ProgramsCase):
         user.mkdir()
         # (Go takes no folder whose name has a space, neither from a go.mod nor from pkg-config)
         found = (LIBRARY / "pkgconfig" / "age_c.pc").read_text()
-        for name, folder in (("module", TOP / "bindings" / "go"), ("library", LIBRARY), ("include", TOP / "include")):
+        for name, folder in (("module", TOP / "bindings" / "go"), ("library", LIBRARY), ("private", TOP / "bindings" / "c")):
             self.path(name).symlink_to(folder)
             found = found.replace(str(folder).replace(" ", "\\ "), str(self.path(name)))
         self.write("age_c.pc", found.encode())

@@ -56,7 +56,7 @@ class ProcessorTest(BindingsCase):
 
     @needs("cc")
     def test_c(self):
-        for name, library in (("static", [LIBRARY / "libage_c.a"]), ("shared", [LIBRARY / "libage_c.so", f"-Wl,-rpath,{LIBRARY}"])):
+        for name, library in (("static", [LIBRARY / "libagefile.a"]), ("shared", [LIBRARY / "libagefile.so", f"-Wl,-rpath,{LIBRARY}"])):
             made = self.path(name)
             words = ["cc", "-std=c11", "-O1", f"-I{TOP / 'include'}", "-o", made, TOP / "bindings" / "c" / "decrypt.c", *library]
             subprocess.run(words, check=True)
@@ -77,7 +77,7 @@ class ProcessorTest(BindingsCase):
     def test_go(self):
         module = self.path("go")
         shutil.copytree(TOP / "bindings" / "go", module)
-        for it in (TOP / "include" / "age_c.h", LIBRARY / "libage_c.a"):
+        for it in (TOP / "bindings" / "c" / "age_c.h", LIBRARY / "libage_c.a"):
             shutil.copy(it, module)
         env = {**os.environ, "GOCACHE": str(LIBRARY / "gocache"), "GOPROXY": "off", "GOFLAGS": "-buildvcs=false"}
         (module / "processor_test.go").write_text(GO_TEST)

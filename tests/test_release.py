@@ -15,7 +15,7 @@ from tools.workspace import LIBRARY, PROGRAM, TOP, library, program
 
 # In the place of what builds: the program and the library that were built.
 STUBS = {
-    "bindings/build": f"#!/bin/sh\nmkdir -p bindings/out && cp '{LIBRARY}'/libage_c* bindings/out && cp include/age_c.h '{LIBRARY}/libage_c.a' bindings/go\n",
+    "bindings/build": f"#!/bin/sh\nmkdir -p bindings/out && cp '{LIBRARY}'/libage* bindings/out && cp bindings/c/age_c.h '{LIBRARY}/libage_c.a' bindings/go\n",
     "release/static": f"#!/bin/sh\nfor it in \"$1\" \"$2\" \"$2.o\"; do cp '{PROGRAM}' \"$it\"; done\n",
 }
 EARLIER, LATER, DAY = 1_800_000_000, 1_800_000_100, "2027-01-15"
@@ -69,7 +69,7 @@ class ReleaseTest(Case):
         said = run(alone, "--version").stdout
         self.see("the program names its commit", said == f"age_tool 1.3.0 (of {commit})\n", said)
         self.see("the notices are", f"{names[0]}/share/doc/age_tool/NOTICES" in names, names)
-        ends = ("linux.tar.gz", "source.tar.gz", ".whl", "-static", "-static.o", "age_tool.spdx.json", "NOTICES", "SHA256SUMS", *4 * ["amd64.deb"])
+        ends = ("linux.tar.gz", "source.tar.gz", ".whl", "agefile-1.3.0.py", "-static", "-static.o", "age_tool.spdx.json", "NOTICES", "SHA256SUMS", *4 * ["amd64.deb"])
         self.see("all files of a release", sorted(self.held("first")) == sorted(it for it in self.held("first") if it.endswith(ends))
                  and len(self.held("first")) == len(ends), *self.held("first"))
         self.see("its sums aren't signed", "SHA256SUMS.sig" not in self.held("first"))
@@ -162,15 +162,16 @@ class ReleaseTest(Case):
         for it in ("1.2.0-1", "1.2.0-202611292214"):
             self.see(f"from {it} too", run("dpkg", "--compare-versions", it, "lt", packages[0]).returncode == 0, packages)
         self.see("a distribution's own is later", run("dpkg", "--compare-versions", packages[1], "lt", "1.3.0-1").returncode == 0, packages)
-        for name, needs_library, is_for in (("python3-agefile", ">=", "no"), ("libage-c-dev", "=", "same"), ("libage-c0", None, "same"), ("age-tool", None, "foreign")):
+        for name, needs_library, is_for in (("python3-agefile", ">=", "no"), ("libagefile-dev", "=", "same"), ("libagefile2", None, "same"), ("age-tool", None, "foreign")):
             [package] = self.path("out").glob(f"{name}_*.deb")
             told = run("dpkg-deb", "--field", package, "Depends", "Multi-Arch").stdout
-            self.see(f"{name}: which library it takes", (needs_library is None) == ("libage-c0" not in told)
-                     and (needs_library is None or f"libage-c0 ({needs_library} 1.3.0-" in told) and ("" if is_for == "no" else f"Multi-Arch: {is_for}\n") in told, told)
-        [library_] = self.path("out").glob("libage-c0_*.deb")
+            self.see(f"{name}: which library it takes", (needs_library is None) == ("libagefile2" not in told)
+                     and (needs_library is None or f"libagefile2 ({needs_library} 2.0.0-" in told) and ("" if is_for == "no" else f"Multi-Arch: {is_for}\n") in told, told)
+        [library_] = self.path("out").glob("libagefile2_*.deb")
+        own = run("dpkg-deb", "--field", library_, "Version").stdout.strip()
         asked = {it for name in ("shlibs", "symbols") for it in re.findall(r" \(?(?:>= )?(\d[\w.~]*)\)?$", run("dpkg-deb", "-I", library_, name).stdout, re.M)}
-        self.see("what needs the library takes this one", len(asked) > 1
-                 and all(run("dpkg", "--compare-versions", packages[1], "ge", it).returncode == 0 for it in asked), asked)
+        self.see("what needs the library takes this one", asked
+                 and all(run("dpkg", "--compare-versions", own, "ge", it).returncode == 0 for it in asked), own, asked)
         self.see("the module was compiled", any((place / "agefile" / "__pycache__").iterdir()))
         documents = self.path("root/usr/share/doc/python3-agefile")
         self.see("what the module names is there", all((documents / it).exists() for it in ("copyright", "bindings/README.md", "docs/FAULTS.md")))

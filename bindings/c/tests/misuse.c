@@ -99,11 +99,11 @@ static int writes(void) {
     *before = *stream;
     int is_end = (int)(next() % 2);
     uint32_t answer = is_end ? age_c_finish_text(stream, out, room, &written) : age_c_feed_text(stream, given, len, &taken, out, room, &written);
-    int fits = before->writer.state == 1 && before->writer.chunk < UINT64_C(1) << 48 && before->held <= 65536
-        && (before->held > 0 || before->writer.chunk == 0) && room >= 65552;
     int seals = !is_end && len > 0 && before->held == 65536;
+    size_t wanted = is_end ? before->held + (size_t)16 : seals ? 65552 : 0;
+    int fits = before->writer.state == 1 && before->writer.chunk < UINT64_C(1) << 48 && before->held <= 65536
+        && (before->held > 0 || before->writer.chunk == 0) && room >= wanted;
     int is_too_many = fits && seals && before->writer.chunk == (UINT64_C(1) << 48) - 1;
-    size_t wanted = is_end ? before->held + 16u : seals ? 65552 : 0;
     int right = answer == (is_too_many ? 22u : fits ? 0u : AGE_C_MISUSED);
     if (answer != 0) right = right && written == 0 && (is_end || taken == 0) && is_untouched(out, room) && memcmp(stream, before, sizeof *stream) == 0;
     else right = right && written == wanted && is_untouched(out + written, room - written);

@@ -139,7 +139,8 @@ static void see_misuse(const age_c_reader *begun) {
         size_t room = AGE_C_CHUNK - next() % 2;
         int is_end = (int)(next() % 2);
         uint32_t state = stream.reader.state;
-        int fits = ((state >= 1 && state <= 3) || (state >= 17 && state <= 22)) && stream.reader.chunk < UINT64_C(1) << 48 && stream.held < AGE_C_BLOCK && room >= AGE_C_CHUNK;
+        int fits = ((state >= 1 && state <= 3) || (state >= 17 && state <= 22)) && stream.reader.chunk < UINT64_C(1) << 48 && stream.held < AGE_C_BLOCK
+            && (is_end ? stream.held <= room + 16 : stream.held + 3 < AGE_C_BLOCK || room >= AGE_C_CHUNK);
         taken = written = 77;
         uint32_t answer = is_end ? age_c_finish(&stream, out, room, &written) : age_c_feed(&stream, file, 3, &taken, out, room, &written);
         see((answer == AGE_C_MISUSED) == !fits && written == 0, "misuse");
@@ -195,7 +196,8 @@ static void see_text_misuse(void) {
         uint64_t chunk = stream.writer.chunk;
         size_t room = AGE_C_BLOCK - next() % 2, size = next() % 3, taken = 77, written = 77;
         int is_end = (int)(next() % 2);
-        int fits = stream.writer.state == 1 && chunk < limit && stream.held <= AGE_C_CHUNK && (stream.held > 0 || chunk == 0) && room >= AGE_C_BLOCK;
+        int fits = stream.writer.state == 1 && chunk < limit && stream.held <= AGE_C_CHUNK && (stream.held > 0 || chunk == 0)
+            && (is_end ? room >= stream.held + 16 : stream.held < AGE_C_CHUNK || size == 0 || room >= AGE_C_BLOCK);
         int many = !is_end && size > 0 && stream.held == AGE_C_CHUNK && chunk == limit - 1;
         uint32_t answer = is_end ? age_c_finish_text(&stream, made, room, &written)
                                  : age_c_feed_text(&stream, text, size, &taken, made, room, &written);

@@ -8,7 +8,7 @@ use Rattle.std.proofs.lemmas.List.{append-nil, length-take, nil_from_length}
 use Rattle.age_chunk.specs.{block_length, chunk_length, payload}
 use Rattle.age_keys.specs.{box, unbox}
 use Rattle.age_stream.specs.Segment.{Segment}
-use Rattle.age_stream.specs.{Outcome, fresh, released, with_end, with_piece}
+use Rattle.age_stream.specs.{Outcome, fresh, with_end, with_piece}
 use Rattle.age_stream.specs.declared.step.Status.TheVariants.{Open}
 use Rattle.age_stream.proofs.{going, going_part, piece_nil}
 use Rattle.age_stream.proofs.GoingLemmas.{pieces_join}
@@ -38,7 +38,7 @@ abbrev released_of : Outcome → List ℕ
 released_of o = flat_map (λ (t : List ℕ). t) o.texts
 
 -- what is held releases nothing
-stream_same : (st : Stream) (s : Segment) → (h : StreamIsAt st s) → reader_outcome st.reader s ≡ reader_outcome st.reader h.blocks
+pub stream_same : (st : Stream) (s : Segment) → (h : StreamIsAt st s) → reader_outcome st.reader s ≡ reader_outcome st.reader h.blocks
 stream_same st s h = grind (arith, common_steps, length-take, part_same)
 
 -- bytes more, after those that are held
@@ -48,7 +48,7 @@ given_more st s h more all is =
     ap (λ (t : Segment). with_piece t more) h.given ∙ (pieces_join h.blocks (held_block st) more ∙ ap (with_piece h.blocks) is)
 
 -- a stream that holds nothing
-nothing_held : (st : Stream) (s : Segment) → st.held ≡ 0 → IsAt st.reader s → StreamIsAt st s
+pub nothing_held : (st : Stream) (s : Segment) → st.held ≡ 0 → IsAt st.reader s → StreamIsAt st s
 nothing_held st s zero at = grind (arith, common_steps, piece_nil)
 
 opened : (r : Reader) (s : Segment) → IsAt r s → reader_status r.state r.fault_chunk ≡ Some Open → (reader_outcome r s).status ≡ Open
@@ -108,12 +108,12 @@ feeds_whole piece count answer block text old new takes zero is count_is short =
 }
 
 -- a whole block of a piece, opened where it lies
-pub block_call : (s : Stream) (piece out : List ℕ) → IsStreamCall s out → block_length ≤ length piece
+pub block_call : (s : Stream) (piece out : List ℕ) → IsStreamCall s piece out → block_length ≤ length piece
     → IsBlockCall s.reader (take block_length piece) out
 block_call s piece out call whole = record {
   usable = call.usable;
   whole = omega (arith, length-take block_length piece, whole);
-  room = call.room;
+  room = call.room (omega (arith, whole));
 }
 
 -- bytes after the last block, or after a fault
@@ -152,7 +152,7 @@ feeds_are_written s start at empty limit calls are text few =
 -- ---- answers are calls
 
 -- an end that is given no bytes
-ends_with_none : (old : Stream) (answer : ℕ) (text : List ℕ) (new : Stream) → StreamMoves with_end old answer text new
+pub ends_with_none : (old : Stream) (answer : ℕ) (text : List ℕ) (new : Stream) → StreamMoves with_end old answer text new
     → StreamMoves (λ (s : Segment). with_end (with_piece s [])) old answer text new
 ends_with_none old answer text new moves = record {
   at = λ s h. subst (λ (t : Segment). StreamIsAt new (with_end t)) (sym (piece_nil s)) (moves.at s h);

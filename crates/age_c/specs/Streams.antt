@@ -1,7 +1,8 @@
 -- A stream, which takes pieces of any length: what one call does to it, and what a caller may rely
 -- on after any calls.
-use Rattle.std.specs.Prelude.{◌≡◌, ◌≢◌, ℕ, ◌<◌, ◌≤◌, List, [], ◌++◌, length, take, Bool, true, false, ◌∷◌}
-use Rattle.age_chunk.specs.{block_length, chunk_length, chunk_limit, chunk_count}
+use Rattle.std.specs.Prelude.{◌≡◌, ◌≢◌, ℕ, ◌+◌, ◌*◌, ◌/◌, ◌<◌, ◌≤◌, List, [], ◌++◌, length, take, drop, Bool, true}
+use Rattle.std.specs.Prelude.{◌∷◌, false}
+use Rattle.age_chunk.specs.{block_length, chunk_length, chunk_limit, chunk_count, tag_length}
 use Rattle.age_stanza.specs.declared.header.Header.{Header}
 use Rattle.age_stream.specs.{with_end, with_piece, fresh, IsClosed}
 use Rattle.age_stream.specs.declared.step.Status.TheVariants.{Open}
@@ -13,7 +14,8 @@ use Rattle.age_c.specs.declared.stream.Stream.{Stream}
 use Rattle.std.specs.List.{flat_map}
 use Rattle.age_keys.specs.{box, unbox, FileOf}
 use Rattle.age_c.specs.declared.write_stream.WriteStream.{WriteStream}
-use Rattle.age_c.specs.Writers.{IsBegun, WritesOrRefuses, FeedsText, FinishesText, IsTextCall, RefusesText}
+use Rattle.age_c.specs.Writers.{IsBegun, WritesOrRefuses, FeedsText, FinishesText, IsTextCall}
+use Rattle.age_c.specs.Writers.{IsLastTextCall, RefusesText}
 use Rattle.age_c.specs.Writers.{TakesText}
 
 -- ---- A stream that reads: what its numbers and bytes stand for, and what one call does to it.
@@ -48,16 +50,34 @@ pub record FeedsStream (piece : List ℕ) (old : Stream) (answer taken : ℕ) (t
   pub some : 0 < length piece → 0 < taken
   pub all : taken < length piece → new.held ≡ 0
 
+-- how much room the plaintext of the blocks needs that a piece fills
+abbrev pub room_to_feed : ℕ → List ℕ → ℕ
+room_to_feed held piece = (held + length piece) / block_length * chunk_length
+
+-- the stream can take what is left of the piece, and there is room for that if there was for all
+pub record KeepsRoom (piece : List ℕ) (old : Stream) (taken written : ℕ) (new : Stream) : Type 0 where
+  pub usable : CanBeUsed new.reader
+  pub short : new.held < block_length
+  pub room : room_to_feed new.held (drop taken piece) + written ≤ room_to_feed old.held piece
+
 -- an end answers 0 only once the last chunk was opened
 pub record FinishesStream (old : Stream) (answer : ℕ) (text : List ℕ) (new : Stream) : Type 0 where
   pub moves : StreamMoves with_end old answer text new
   pub done : answer ≡ 0 → new.reader.state ≡ 3
 
--- the call isn't misused: the stream can be used, and there is room for a chunk's plaintext
-pub record IsStreamCall (s : Stream) (out : List ℕ) : Type 0 where
+-- the call isn't misused: the stream can be used, and there is room for a chunk's plaintext, if the
+-- piece fills the block that is open
+pub record IsStreamCall (s : Stream) (piece out : List ℕ) : Type 0 where
   pub usable : CanBeUsed s.reader
   pub short : s.held < block_length
-  pub room : chunk_length ≤ length out
+  pub room : block_length ≤ s.held + length piece → chunk_length ≤ length out
+
+-- the call of an end isn't misused: the stream can be used, and there is room for the plaintext of what
+-- it holds
+pub record IsFinishCall (s : Stream) (out : List ℕ) : Type 0 where
+  pub usable : CanBeUsed s.reader
+  pub short : s.held < block_length
+  pub room : s.held ≤ length out + tag_length
 
 -- ---- What any calls on a stream that reads do.
 
@@ -75,10 +95,10 @@ FeedsAreWritten = (s : Stream) (start : ℕ) → IsAt s.reader (fresh start) →
 -- contracts) makes each of them a call on the stream
 abbrev pub AnswersAreFeedCalls : Type 0
 AnswersAreFeedCalls = (old new : Stream) (piece before after : List ℕ) (answer taken written : ℕ)
-    → (Answers (IsStreamCall old before)
+    → (Answers (IsStreamCall old piece before)
     (λ answer text new. FeedsStream piece old answer taken text new) old new answer written before after
     → IsCall (λ s. s.reader) StreamIsAt old (call_of false (take taken piece) answer written after new))
-    × (Answers (IsStreamCall old before) (FinishesStream old) old new answer written before after
+    × (Answers (IsFinishCall old before) (FinishesStream old) old new answer written before after
     → IsCall (λ s. s.reader) StreamIsAt old (call_of true [] answer written after new))
 
 -- ---- What any calls on a stream that writes do.
@@ -152,11 +172,11 @@ text_call_of is_end text answer written out after = record {
 -- what `age_c_feed_text` and `age_c_finish_text` promise makes each of them a call on the stream
 abbrev pub AnswersAreTextCalls : Type 0
 AnswersAreTextCalls = (old new : WriteStream) (piece before after : List ℕ) (answer taken written : ℕ)
-    → (Answers (IsTextCall old before) (WritesOrRefuses (FeedsText piece taken old)
+    → (Answers (IsTextCall old piece before) (WritesOrRefuses (FeedsText piece taken old)
     (RefusesText piece old) old) old new answer written before after
     → (answer ≢ 0 → taken ≡ 0)
     → IsTextCallOn old (text_call_of false (take taken piece) answer written after new))
-    × (Answers (IsTextCall old before) (WritesOrRefuses (FinishesText old) (λ _. ⊥) old)
+    × (Answers (IsLastTextCall old before) (WritesOrRefuses (FinishesText old) (λ _. ⊥) old)
     old new answer written before after
     → IsTextCallOn old (text_call_of true [] answer written after new))
 

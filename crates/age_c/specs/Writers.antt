@@ -1,11 +1,12 @@
 -- A writer of a plaintext in pieces: how it begins a file, and what one call does.
 use Rattle.std.specs.Prelude.{◌≡◌, ◌≢◌, ◌⊎◌, ℕ, ◌+◌, ◌*◌, ◌<◌, ◌≤◌, false, List, [], ◌++◌, length, take, drop}
-use Rattle.std.specs.Prelude.{map}
+use Rattle.std.specs.Prelude.{map, ◌-◌, ◌/◌}
 use Rattle.std.specs.List.{enumerate_from, flat_map}
 use Rattle.std.specs.Simd.{first_chunks}
 use Rattle.age_stanza.specs.{HeadText, HasText, stanza_text}
 use Rattle.age_stanza.specs.declared.header.Header.{Header}
-use Rattle.age_chunk.specs.{chunk_limit, chunk_length, block_length, chunk_count, pair, block_bytes, payload}
+use Rattle.age_chunk.specs.{chunk_limit, chunk_length, block_length, tag_length, chunk_count, pair}
+use Rattle.age_chunk.specs.{block_bytes, payload}
 use Rattle.age_keys.specs.{box, IsMacOf, IsScryptNotAlone, IsAllowed, scrypt_head}
 use Rattle.age_c.specs.declared.writer.Writer.{Writer}
 use Rattle.age_c.specs.declared.write_stream.WriteStream.{WriteStream}
@@ -146,6 +147,18 @@ pub record FeedsText (piece : List ℕ) (taken : ℕ) (old : WriteStream) (bytes
   pub some : 0 < length piece → 0 < taken
   pub all : taken < length piece → new.held ≡ chunk_length
 
+-- how much room the blocks need of the chunks that a piece makes full and no longer the last
+abbrev pub room_to_write : ℕ → List ℕ → ℕ
+room_to_write held piece = (held + length piece - 1) / chunk_length * block_length
+
+-- the stream can take what is left of the piece, and there is room for that if there was for all
+pub record KeepsTextRoom (piece : List ℕ) (old : WriteStream) (taken written : ℕ) (new : WriteStream)
+    : Type 0 where
+  pub usable : CanSeal new.writer
+  pub short : new.held ≤ chunk_length
+  pub some : new.held ≡ 0 → new.writer.chunk ≡ 0
+  pub room : room_to_write new.held (drop taken piece) + written ≤ room_to_write old.held piece
+
 -- a feed is refused only if its chunk would be one too many: a byte comes, the chunk that is held is
 -- full, and it can only be the last
 pub record RefusesText (piece : List ℕ) (old : WriteStream) (answer : ℕ) : Type 0 where
@@ -164,9 +177,18 @@ pub record FinishesText (old : WriteStream) (bytes : List ℕ) (new : WriteStrea
   pub finished : new.writer.state ≡ 2
   pub same : SameKeys old.writer new.writer
 
--- the call isn't misused: the stream can be used, and there is room for a block
-pub record IsTextCall (s : WriteStream) (out : List ℕ) : Type 0 where
+-- the call isn't misused: the stream can be used, and there is room for a block, if a byte comes
+-- after a chunk that is full
+pub record IsTextCall (s : WriteStream) (piece out : List ℕ) : Type 0 where
   pub usable : CanSeal s.writer
   pub short : s.held ≤ chunk_length
   pub some : s.held ≡ 0 → s.writer.chunk ≡ 0
-  pub room : block_length ≤ length out
+  pub room : s.held ≡ chunk_length → 0 < length piece → block_length ≤ length out
+
+-- the call of an end isn't misused: the stream can be used, and there is room for the block of what it
+-- holds
+pub record IsLastTextCall (s : WriteStream) (out : List ℕ) : Type 0 where
+  pub usable : CanSeal s.writer
+  pub short : s.held ≤ chunk_length
+  pub some : s.held ≡ 0 → s.writer.chunk ≡ 0
+  pub room : s.held + tag_length ≤ length out

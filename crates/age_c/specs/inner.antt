@@ -1,5 +1,6 @@
 -- What only private code cites, of readers and of what writes.
-use Rattle.std.specs.Prelude.{ℕ, List, [], ◌≡◌, ◌≢◌, ◌++◌, Some, true, false, ◌+◌, ◌≤◌, Bool, Result, IfErr}
+use Rattle.std.specs.Prelude.{ℕ, List, [], ◌≡◌, ◌≢◌, ◌++◌, Some, true, false, ◌+◌, ◌<◌, ◌≤◌, Bool, Result}
+use Rattle.std.specs.Prelude.{IfErr}
 use Rattle.std.specs.Prelude.{◌-◌, ◌∷◌, length, min, take, replicate}
 use Rattle.std.specs.Bool.{OnTrue}
 use Rattle.std.specs.List.{flat_map}
@@ -14,7 +15,7 @@ use Rattle.age_stream.specs.declared.step.Status.{Status}
 use Rattle.age_stream.specs.declared.step.Status.TheVariants.{Open, Done}
 use Rattle.age_stream.specs.Segment.{Segment}
 use Rattle.age_c.specs.Calls.{answer_of, reader_status}
-use Rattle.age_c.specs.Readers.{SameFile}
+use Rattle.age_c.specs.Readers.{CanBeUsed, SameFile}
 use Rattle.age_c.specs.declared.start.StartFault.{StartFault}
 use Rattle.age_c.specs.declared.start.StartFault.TheVariants.{Key}
 use Rattle.age_stanza.specs.{stanza_text, end_line, line, version}
@@ -26,6 +27,9 @@ use Rattle.age_c.specs.Writers.{CanSeal, HasLines, HasSealed, IsFileFront, SameK
 use Rattle.age_stanza.specs.declared.header.Header.{Header}
 use Rattle.age_c.specs.declared.writer.Writer.{Writer}
 use Rattle.age_c.specs.declared.write_stream.WriteStream.{WriteStream}
+use Rattle.age_c.specs.Decoders.{DecodeCall, IsDecodeCall}
+use Rattle.age_c.specs.Streams.{TextCall, IsTextCallOn}
+use Rattle.age_c.specs.declared.decoder.Decoder.{Decoder}
 
 -- ---- By which key and box a payload is opened, and what the parts of a call do to an opener
 -- and to a reader.
@@ -53,6 +57,12 @@ pub record PassesOn (next : Segment → Segment) (old new : OpenerView (List ℕ
   -- one that is open was open
   pub was_open : new.status ≡ Open → old.status ≡ Open
 
+-- the reader can be used, what is left is shorter than a block, and there is room for its plaintext
+pub record IsRestCall (r : Reader) (rest out : List ℕ) : Type 0 where
+  pub usable : CanBeUsed r
+  pub short : length rest < block_length
+  pub room : length rest ≤ length out + tag_length
+
 -- a reader keeps the chunk and the status of an opener
 pub record Keeps (chunk : ℕ) (is : Status) (old new : Reader) : Type 0 where
   -- its numbers stand for the status
@@ -75,6 +85,12 @@ pub record HoldsPiece (piece : List ℕ) (count : ℕ) (old new : Stream) : Type
   pub size : length new.block ≡ block_length
   pub reader : new.reader ≡ old.reader
   pub held : new.held ≡ old.held
+
+-- this many bytes of a piece came after those of a header that are held
+pub record HoldsFront (piece : List ℕ) (held count : ℕ) (old new : List ℕ) : Type 0 where
+  pub count_is : count ≡ min (length piece) (length old - held)
+  pub bytes : take (held + count) new ≡ take held old ++ take count piece
+  pub size : length new ≡ length old
 
 -- ---- How much work the start of a file takes, by a count of scrypt's steps.
 
@@ -168,3 +184,22 @@ pub record HoldsText (piece : List ℕ) (count : ℕ) (old new : WriteStream) : 
   pub bytes : held_chunk new ≡ held_chunk old ++ take count piece
   pub writer : new.writer ≡ old.writer
   pub held : new.held ≡ old.held + count
+
+-- ---- One call of those by which a piece is taken whole.
+
+-- a call took these bytes, and wrote these
+pub record DecodesOne (old new : Decoder) (bytes wrote : List ℕ) : Type 0 where
+  pub call : DecodeCall
+  pub is : IsDecodeCall old call
+  pub after : call.call.after ≡ new
+  pub given : call.call.bytes ≡ bytes
+  pub wrote_is : call.wrote ≡ wrote
+
+-- a call took this plaintext, and wrote these bytes
+pub record EncodesOne (old new : WriteStream) (text bytes : List ℕ) : Type 0 where
+  pub call : TextCall
+  pub is : IsTextCallOn old call
+  pub goes_on : call.is_end ≡ false
+  pub after : call.after ≡ new
+  pub text_is : call.text ≡ text
+  pub bytes_are : call.bytes ≡ bytes

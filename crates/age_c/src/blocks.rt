@@ -3,9 +3,9 @@
 ghost use Rattle.std.specs.Prelude.{◌≡◌, ◌≢◌, ◌+◌, ◌<◌, ◌≤◌, [], length, min, take, drop, IfSome, IfNone};
 ghost use Rattle.std.specs.Prelude.{Some, false};
 ghost use Rattle.age_stream.specs.{with_piece, with_end, chunk_bytes, has_failed};
-ghost use Rattle.age_c.specs.{PutsFront, answer_of, reader_status, IsBlockCall, IsEndCall, TakesBlock};
+ghost use Rattle.age_c.specs.{PutsFront, answer_of, reader_status, IsBlockCall, TakesBlock};
 ghost use Rattle.age_c.specs.{TakesEnd, after_block, CanBeUsed};
-ghost use Rattle.age_c.specs.inner.{Keeps, PassesOn, key_of_reader};
+ghost use Rattle.age_c.specs.inner.{IsRestCall, Keeps, PassesOn, key_of_reader};
 ghost use Rattle.age_chunk.specs.{chunk_length, block_length, tag_length};
 
 use crate::numbers::{numbers_of, status_of};
@@ -55,6 +55,7 @@ fn put_chunk(chunk: Option<&[u8]>, out: &mut [u8]) -> usize
     ensures text { take result out.new ≡ chunk_bytes chunk.entry }
     ensures after { drop result out.new ≡ drop result out.old }
     ensures most { result ≤ length out.new }
+    ensures len { result ≡ length (chunk_bytes chunk.entry) }
 {
     match chunk {
         Some(text) => put(text, out),
@@ -80,6 +81,7 @@ fn feed_block(opener: &mut PayloadOpener<'_>, block: &[u8], out: &mut [u8]) -> u
     ensures passes { PassesOn (λ s. with_piece s block.now) opener.old opener.new
         (take result out.new) }
     ensures put { PutsFront result out.old out.new }
+    ensures len { result ≤ chunk_length }
 {
     match opener.feed(block) {
         Ok(step) => put_chunk(step.chunk, out),
@@ -127,6 +129,7 @@ pub(crate) fn refuse_more(reader: &mut Reader, status: Status, piece: &[u8]) -> 
     ensures takes { TakesBlock (λ s. with_piece s (take result piece.now)) reader.old
         (answer_of reader.new.state) [] reader.new }
     ensures count { result ≡ min (length piece.now) 1 }
+    ensures usable { CanBeUsed reader.new }
 {
     let count = piece.len().min(1);
     let key = key_of(reader);
@@ -143,6 +146,8 @@ pub(crate) fn open_block(reader: &mut Reader, status: Status, block: &[u8], out:
     ensures takes { TakesBlock (after_block block.now) reader.old (answer_of reader.new.state)
         (take result out.new) reader.new }
     ensures put { PutsFront result out.old out.new }
+    ensures usable { CanBeUsed reader.new }
+    ensures len { result ≤ chunk_length }
 {
     let key = key_of(reader);
     let mut opener = PayloadOpener::between(&key, reader.chunk, status);
@@ -154,7 +159,7 @@ pub(crate) fn open_block(reader: &mut Reader, status: Status, block: &[u8], out:
 /// Opens what is left before the end, which is shorter than a block, and returns how many bytes of
 /// plaintext it put into `out`.
 pub(crate) fn open_last(reader: &mut Reader, status: Status, rest: &[u8], out: &mut [u8]) -> usize
-    requires call { IsEndCall reader.old rest.now out.old }
+    requires call { IsRestCall reader.old rest.now out.old }
     requires status { reader_status reader.old.state reader.old.fault_chunk ≡ Some status }
     ensures takes { TakesEnd rest.now reader.old (answer_of reader.new.state)
         (take result out.new) reader.new }

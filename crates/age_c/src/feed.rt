@@ -1,16 +1,16 @@
 //! The functions by which C reads a payload in pieces of any length.
 
-ghost use Rattle.std.specs.Prelude.{◌≡◌, ◌<◌, ◌≤◌, IfNone, IfSome, Some, length, take};
-ghost use Rattle.age_chunk.specs.{chunk_length, block_length};
+ghost use Rattle.std.specs.Prelude.{◌≡◌, ◌≢◌, ◌<◌, ◌≤◌, IfNone, IfSome, Some, length, take};
+ghost use Rattle.age_chunk.specs.{block_length};
 ghost use Rattle.age_c.specs.{Answers, PutsFront, answer_of, misused, reader_status, CanBeUsed, FeedsStream};
-ghost use Rattle.age_c.specs.{FinishesStream, IsStreamCall};
+ghost use Rattle.age_c.specs.{FinishesStream, IsFinishCall, IsStreamCall, KeepsRoom};
 ghost use Rattle.age_c.specs.inner.{HoldsPiece};
 
 use crate::MISUSED;
 use crate::blocks::{open_block, open_last, refuse_more, status_at};
 use crate::numbers::answer_of;
 use crate::stream::Stream;
-use age_chunk::{BLOCK_LEN, CHUNK_LEN};
+use age_chunk::{BLOCK_LEN, CHUNK_LEN, TAG_LEN};
 use age_stream::Status;
 
 /// Copies the bytes for which the open block has room, after those that are held, and returns how
@@ -28,11 +28,12 @@ fn hold(stream: &mut Stream, piece: &[u8]) -> usize
 /// Takes bytes of a block, and opens it if it is full. Returns how many bytes were taken, and how
 /// many bytes of plaintext were put into `out`.
 fn feed_open(stream: &mut Stream, piece: &[u8], out: &mut [u8]) -> (usize, usize)
-    requires call { IsStreamCall stream.old out.old }
+    requires call { IsStreamCall stream.old piece.now out.old }
     requires open { reader_status stream.old.reader.state stream.old.reader.fault_chunk
         ≡ Some Status.Open }
     ensures feeds { FeedsStream piece.now stream.old (answer_of stream.new.reader.state) result.0
         (take result.1 out.new) stream.new }
+    ensures room { KeepsRoom piece.now stream.old result.0 result.1 stream.new }
     ensures put { PutsFront result.1 out.old out.new }
 {
     let taken = hold(stream, piece);
@@ -49,13 +50,14 @@ fn feed_open(stream: &mut Stream, piece: &[u8], out: &mut [u8]) -> (usize, usize
 /// Opens the full block that a piece begins with, while nothing is held, without holding it.
 /// Returns its length, and how many bytes of plaintext were put into `out`.
 fn feed_whole(stream: &mut Stream, piece: &[u8], out: &mut [u8]) -> (usize, usize)
-    requires call { IsStreamCall stream.old out.old }
+    requires call { IsStreamCall stream.old piece.now out.old }
     requires open { reader_status stream.old.reader.state stream.old.reader.fault_chunk
         ≡ Some Status.Open }
     requires empty { stream.old.held ≡ 0 }
     requires whole { block_length ≤ length piece.now }
     ensures feeds { FeedsStream piece.now stream.old (answer_of stream.new.reader.state) result.0
         (take result.1 out.new) stream.new }
+    ensures room { KeepsRoom piece.now stream.old result.0 result.1 stream.new }
     ensures put { PutsFront result.1 out.old out.new }
 {
     let block = &piece[..BLOCK_LEN];
@@ -65,11 +67,12 @@ fn feed_whole(stream: &mut Stream, piece: &[u8], out: &mut [u8]) -> (usize, usiz
 
 /// Takes bytes of a piece. Returns how many, and how many bytes of plaintext were put into `out`.
 fn feed(stream: &mut Stream, status: Status, piece: &[u8], out: &mut [u8]) -> (usize, usize)
-    requires call { IsStreamCall stream.old out.old }
+    requires call { IsStreamCall stream.old piece.now out.old }
     requires status { reader_status stream.old.reader.state stream.old.reader.fault_chunk
         ≡ Some status }
     ensures feeds { FeedsStream piece.now stream.old (answer_of stream.new.reader.state) result.0
         (take result.1 out.new) stream.new }
+    ensures room { KeepsRoom piece.now stream.old result.0 result.1 stream.new }
     ensures put { PutsFront result.1 out.old out.new }
 {
     match status {
@@ -86,7 +89,7 @@ fn feed(stream: &mut Stream, status: Status, piece: &[u8], out: &mut [u8]) -> (u
 
 /// Ends, and returns how many bytes of plaintext were put into `out`.
 fn finish(stream: &mut Stream, status: Status, out: &mut [u8]) -> usize
-    requires call { IsStreamCall stream.old out.old }
+    requires call { IsFinishCall stream.old out.old }
     requires status { reader_status stream.old.reader.state stream.old.reader.fault_chunk
         ≡ Some status }
     ensures finishes { FinishesStream stream.old (answer_of stream.new.reader.state)
@@ -98,16 +101,16 @@ fn finish(stream: &mut Stream, status: Status, out: &mut [u8]) -> usize
     open_last(&mut stream.reader, status, &stream.block[..held], out)
 }
 
-/// The status of a stream that can be used, with this much room for plaintext.
-fn stream_status(stream: &Stream, room: usize) -> Option<Status>
+/// The status of a stream that can be used.
+fn stream_status(stream: &Stream) -> Option<Status>
     ensures status { IfSome result (λ status.
         reader_status stream.now.reader.state stream.now.reader.fault_chunk ≡ Some status) }
-    ensures usable { IfSome result (λ _. (CanBeUsed stream.now.reader)
-        × (stream.now.held < block_length) × (chunk_length ≤ room)) }
+    ensures usable { IfSome result
+        (λ _. (CanBeUsed stream.now.reader) × (stream.now.held < block_length)) }
     ensures none { IfNone result (CanBeUsed stream.now.reader → stream.now.held < block_length
-        → chunk_length ≤ room → ⊥) }
+        → ⊥) }
 {
-    if stream.held as usize >= BLOCK_LEN || room < CHUNK_LEN {
+    if stream.held as usize >= BLOCK_LEN {
         return None;
     }
     status_at(&stream.reader)
@@ -115,7 +118,7 @@ fn stream_status(stream: &Stream, room: usize) -> Option<Status>
 
 /// Takes bytes of the payload from the front of `piece`, up to the end of the block that is open,
 /// and puts the plaintext of a block that is full into `out`, which has room for 65,536 bytes or
-/// more. The answer is 0 or the number of a fault, 17 to 22, with which the reader refuses each
+/// more if one is. The answer is 0 or the number of a fault, 17 to 22, with which the reader refuses each
 /// further call that gives it bytes or an end.
 #[unsafe(no_mangle)]
 pub extern "C" fn age_c_feed(
@@ -125,31 +128,39 @@ pub extern "C" fn age_c_feed(
     out: &mut [u8],
     written: &mut usize,
 ) -> u32
-    ensures answers { Answers (IsStreamCall stream.old out.old)
+    ensures answers { Answers (IsStreamCall stream.old piece.now out.old)
         (λ answer text new. FeedsStream piece.now stream.old answer taken.new text new)
         stream.old stream.new result written.new out.old out.new }
     ensures none { result ≡ misused → taken.new ≡ 0 }
+    ensures room { result ≢ misused
+        → KeepsRoom piece.now stream.old taken.new written.new stream.new }
 {
     *taken = 0;
     *written = 0;
-    let Some(status) = stream_status(stream, out.len()) else {
+    let Some(status) = stream_status(stream) else {
         return MISUSED;
     };
+    if piece.len() >= BLOCK_LEN - stream.held as usize && out.len() < CHUNK_LEN {
+        return MISUSED;
+    }
     (*taken, *written) = feed(stream, status, piece, out);
     answer_of(stream.reader.state)
 }
 
-/// The payload ended: what is left of its plaintext is put into `out`, which has room for 65,536
-/// bytes or more. The plaintext is complete only if the answer is 0.
+/// The payload ended: what is left of its plaintext is put into `out`, which has room for it: 65,536
+/// bytes always are enough. The plaintext is complete only if the answer is 0.
 #[unsafe(no_mangle)]
 pub extern "C" fn age_c_finish(stream: &mut Stream, out: &mut [u8], written: &mut usize) -> u32
-    ensures { Answers (IsStreamCall stream.old out.old) (FinishesStream stream.old)
+    ensures { Answers (IsFinishCall stream.old out.old) (FinishesStream stream.old)
         stream.old stream.new result written.new out.old out.new }
 {
     *written = 0;
-    let Some(status) = stream_status(stream, out.len()) else {
+    let Some(status) = stream_status(stream) else {
         return MISUSED;
     };
+    if stream.held as usize > out.len() + TAG_LEN {
+        return MISUSED;
+    }
     *written = finish(stream, status, out);
     answer_of(stream.reader.state)
 }

@@ -1,27 +1,24 @@
 //! The functions by which C writes a file in pieces of any length.
 
 ghost use Rattle.std.specs.Prelude.{◌≡◌, ◌≢◌, ◌+◌, ◌<◌, ◌≤◌, ◌↔◌, IsTrue, true, false, [], length, take};
-ghost use Rattle.age_chunk.specs.{block_length, chunk_length, chunk_limit};
+ghost use Rattle.age_chunk.specs.{chunk_length, chunk_limit};
 ghost use Rattle.age_c.specs.{Answers, PutsFront, CanSeal, WritesOrRefuses, FeedsText, FinishesText};
-ghost use Rattle.age_c.specs.{IsTextCall, RefusesText};
+ghost use Rattle.age_c.specs.{IsTextCall, IsLastTextCall, KeepsTextRoom, RefusesText};
 ghost use Rattle.age_c.specs.inner.{HoldsText};
 
 use crate::MISUSED;
 use crate::seal::{TOO_MANY_CHUNKS, can_be_used};
 use crate::sealing::{seal_last, seal_next};
 use crate::write_stream::WriteStream;
-use age_chunk::{BLOCK_LEN, CHUNK_LEN, CHUNK_LIMIT};
+use age_chunk::{BLOCK_LEN, CHUNK_LEN, CHUNK_LIMIT, TAG_LEN};
 
-/// Whether a stream can be used, with this much room for a block.
-fn can_take(stream: &WriteStream, room: usize) -> bool
+/// Whether a stream can be used.
+pub(crate) fn can_take(stream: &WriteStream) -> bool
     ensures { IsTrue result ↔ (CanSeal stream.now.writer × (stream.now.held ≤ chunk_length)
-        × (stream.now.held ≡ 0 → stream.now.writer.chunk ≡ 0) × (block_length ≤ room)) }
+        × (stream.now.held ≡ 0 → stream.now.writer.chunk ≡ 0)) }
 {
     let held = stream.held as usize;
-    can_be_used(&stream.writer)
-        && held <= CHUNK_LEN
-        && (held > 0 || stream.writer.chunk == 0)
-        && room >= BLOCK_LEN
+    can_be_used(&stream.writer) && held <= CHUNK_LEN && (held > 0 || stream.writer.chunk == 0)
 }
 
 /// Holds the bytes for which the open chunk has room, after those that are held, and returns how
@@ -49,7 +46,10 @@ fn has_room(stream: &WriteStream, piece: &[u8]) -> bool
 fn hold_only(stream: &mut WriteStream, piece: &[u8]) -> usize
     requires short { stream.old.held ≤ chunk_length }
     requires room { 0 < length piece.now → stream.old.held < chunk_length }
-    ensures { FeedsText piece.now result stream.old [] stream.new }
+    requires usable { CanSeal stream.old.writer }
+    requires some { stream.old.held ≡ 0 → stream.old.writer.chunk ≡ 0 }
+    ensures feeds { FeedsText piece.now result stream.old [] stream.new }
+    ensures room { KeepsTextRoom piece.now stream.old result 0 stream.new }
 {
     hold_text(stream, piece)
 }
@@ -57,12 +57,13 @@ fn hold_only(stream: &mut WriteStream, piece: &[u8]) -> usize
 /// Seals the chunk that is held, which isn't the last, and then holds bytes of a piece. Returns how
 /// many, and the length of the block that it put into `out`.
 fn seal_held(stream: &mut WriteStream, piece: &[u8], out: &mut [u8]) -> (usize, usize)
-    requires call { IsTextCall stream.old out.old }
+    requires call { IsTextCall stream.old piece.now out.old }
     requires full { stream.old.held ≡ chunk_length }
     requires limit { stream.old.writer.chunk + 1 < chunk_limit }
     requires more { 0 < length piece.now }
     ensures feeds { FeedsText piece.now result.0 stream.old (take result.1 out.new) stream.new }
     ensures put { PutsFront result.1 out.old out.new }
+    ensures room { KeepsTextRoom piece.now stream.old result.0 result.1 stream.new }
 {
     let written = seal_next(&mut stream.writer, &stream.chunk, out);
     stream.held = 0;
@@ -71,7 +72,7 @@ fn seal_held(stream: &mut WriteStream, piece: &[u8], out: &mut [u8]) -> (usize, 
 
 /// Takes bytes of the plaintext from the front of `piece`, up to the end of the chunk that is open.
 /// A chunk that is full is sealed once a byte comes after it, and its block is put into `out`,
-/// which has room for 65,552 bytes or more. A chunk that can only be the last, since a payload has
+/// which has room for 65,552 bytes or more if one is. A chunk that can only be the last, since a payload has
 /// at most 2^48, is refused with 22, and nothing is changed.
 #[unsafe(no_mangle)]
 pub extern "C" fn age_c_feed_text(
@@ -81,20 +82,25 @@ pub extern "C" fn age_c_feed_text(
     out: &mut [u8],
     written: &mut usize,
 ) -> u32
-    ensures answers { Answers (IsTextCall stream.old out.old)
+    ensures answers { Answers (IsTextCall stream.old piece.now out.old)
         (WritesOrRefuses (FeedsText piece.now taken.new stream.old)
         (RefusesText piece.now stream.old) stream.old)
         stream.old stream.new result written.new out.old out.new }
     ensures none { result ≢ 0 → taken.new ≡ 0 }
+    ensures room { result ≡ 0
+        → KeepsTextRoom piece.now stream.old taken.new written.new stream.new }
 {
     *taken = 0;
     *written = 0;
-    if !can_take(stream, out.len()) {
+    if !can_take(stream) {
         return MISUSED;
     }
     if has_room(stream, piece) {
         *taken = hold_only(stream, piece);
         return 0;
+    }
+    if out.len() < BLOCK_LEN {
+        return MISUSED;
     }
     if stream.writer.chunk == CHUNK_LIMIT - 1 {
         return TOO_MANY_CHUNKS;
@@ -105,7 +111,7 @@ pub extern "C" fn age_c_feed_text(
 
 /// Seals what is held as the last chunk into `out`, and returns the length of its block.
 fn seal_rest(stream: &mut WriteStream, out: &mut [u8]) -> usize
-    requires { IsTextCall stream.old out.old }
+    requires { IsLastTextCall stream.old out.old }
     ensures finishes { FinishesText stream.old (take result out.new) stream.new }
     ensures put { PutsFront result out.old out.new }
 {
@@ -115,19 +121,19 @@ fn seal_rest(stream: &mut WriteStream, out: &mut [u8]) -> usize
 }
 
 /// The plaintext ended: what is held is sealed as the last chunk into `out`, which has room for
-/// 65,552 bytes or more.
+/// its block.
 #[unsafe(no_mangle)]
 pub extern "C" fn age_c_finish_text(
     stream: &mut WriteStream,
     out: &mut [u8],
     written: &mut usize,
 ) -> u32
-    ensures { Answers (IsTextCall stream.old out.old)
+    ensures { Answers (IsLastTextCall stream.old out.old)
         (WritesOrRefuses (FinishesText stream.old) (λ _. ⊥) stream.old)
         stream.old stream.new result written.new out.old out.new }
 {
     *written = 0;
-    if !can_take(stream, out.len()) {
+    if !can_take(stream) || out.len() < stream.held as usize + TAG_LEN {
         return MISUSED;
     }
     *written = seal_rest(stream, out);

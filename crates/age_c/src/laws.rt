@@ -3,7 +3,9 @@
 
 ghost use Rattle.age_c.specs.{CallsAreWritten, PartsAreWritten, AnswersAreCalls, OpeningsAreParts};
 ghost use Rattle.age_c.specs.{UndamagedOpens, AnswersAreFeedCalls, AnswersAreTextCalls, FeedsAreWritten};
-ghost use Rattle.age_c.specs.{PiecesReadBack, TextsAreFiles};
+ghost use Rattle.age_c.specs.{PiecesReadBack, TextsAreFiles, DecodesAreWritten, AnswersAreDecodeCalls};
+ghost use Rattle.age_c.specs.{DecodersAreRight, SoughtIsRight, EncodersWriteFiles, DecodersOpenFiles};
+ghost use Rattle.age_c.specs.{DecodersReadBack, EncodersAreRead, KeysOpen};
 
 /// The headline for a caller: after any calls of [`age_c_block`](crate::age_c_block) and
 /// [`age_c_end`](crate::age_c_end) on a reader that was just begun, or went to a chunk, while no
@@ -84,4 +86,65 @@ pub fn answers_are_feed_calls()
 #[tactic(auto, using(crate::proofs::WriterLemmas::answers_are_text_calls))]
 pub fn answers_are_text_calls()
     ensures { AnswersAreTextCalls }
+{}
+
+/// The headline for a caller who decodes: since its header was opened, or a place was last sought,
+/// what any calls of [`age_c_decode`](crate::age_c_decode) and
+/// [`age_c_decode_end`](crate::age_c_decode_end) on a decoder wrote is a prefix of the plaintext from
+/// that place on, and all of that if the last of them is an end that answered 0.
+#[tactic(auto, using(crate::proofs::DecoderLemmas::decodes_are_written))]
+pub fn decodes_are_written()
+    ensures { DecodesAreWritten }
+{}
+
+/// What [`age_c_decode`](crate::age_c_decode) and [`age_c_decode_end`](crate::age_c_decode_end)
+/// promise makes each use of them one of the calls that [`decodes_are_written`] speaks of.
+#[tactic(auto, using(crate::proofs::DecoderLemmas::answers_are_decode_calls))]
+pub fn answers_are_decode_calls()
+    ensures { AnswersAreDecodeCalls }
+{}
+
+/// The headline for a caller who decodes: after any calls of `age_c_decode_head_..` on a decoder
+/// that was begun, if its header is open, then what they took is the header and the nonce, and what
+/// [`decodes_are_written`] says holds from the plaintext's first byte on.
+pub fn decoders_are_right()
+    ensures { DecodersAreRight }
+{}
+
+/// The same since a place was last sought by [`age_c_decode_seek`](crate::age_c_decode_seek).
+pub fn sought_is_right()
+    ensures { SoughtIsRight }
+{}
+
+/// What a call of `age_c_encode_..` that answered 0, then any calls of
+/// [`age_c_feed_text`](crate::age_c_feed_text), and then one of
+/// [`age_c_finish_text`](crate::age_c_finish_text) that answered 0 wrote is the age file of what they
+/// took, whatever the encoder was used for before.
+pub fn encoders_write_files()
+    ensures { EncodersWriteFiles }
+{}
+
+/// A decoder that is given an age file in pieces of any length opens it, unless memory is lacking: a
+/// file key opens each file of that key, and a passphrase what an encoder wrote under it.
+pub fn decoders_open_files()
+    ensures { DecodersOpenFiles }
+{}
+
+/// And it gives back the plaintext, in whatever pieces it gets the payload.
+pub fn decoders_read_back()
+    ensures { DecodersReadBack }
+{}
+
+/// Which keys of a decoder open what an encoder wrote: the passphrase, if the work that it allows
+/// suffices, the file key, and the shared secret by which [`age_c_wrap_shared`](crate::age_c_wrap_shared)
+/// wrapped the file key in the only stanza. By [`decoders_open_files`] and [`decoders_read_back`] it
+/// then gives the plaintext back.
+pub fn keys_open()
+    ensures { KeysOpen }
+{}
+
+/// The headline for whoever encodes: what an encoder wrote from a begin that answered 0 to an end that
+/// answered 0, a decoder of the same key gives back, in whatever pieces either is given its bytes.
+pub fn encoders_are_read()
+    ensures { EncodersAreRead }
 {}

@@ -1,16 +1,28 @@
-//! Age files (<https://c2sp.org/age>) for callers in C: a reader and a writer that are plain
-//! numbers in the caller's memory, so that nothing needs to be freed.
+//! Age files (<https://c2sp.org/age>) for callers in C, whose state is plain numbers in the caller's
+//! memory, so that nothing here needs to be freed. `bindings/c/agefile.c` makes the calls of
+//! `include/agefile.h` of them: it allocates, draws random bytes and wipes.
 //!
-//! A header is opened by a passphrase, a file key or a shared secret, and then a [`Reader`] takes
-//! the blocks of the payload one after the other. A [`Writer`] begins with the header of a
-//! passphrase, or of a file key and given stanzas, and then seals chunk after chunk.
+//! A [`Decoder`] takes a file from its first byte on, in pieces of any length, and writes plaintext;
+//! it can be begun again, ended, or sent to any place, at any time. An encoder, a [`WriteStream`],
+//! begins with a passphrase, or with a file key and the stanzas that wrap it, and takes plaintext.
+//! [`Reader`] and [`Writer`] take and give one block after the other, for the modules of other
+//! languages.
 //!
-//! Each function may be called with any numbers in a reader or writer, and with slices of any
-//! length. What doesn't fit returns [`MISUSED`]. `include/age_c.h` says the same to a C programmer.
+//! Each function may be called with any numbers in what it is given, and with slices of any length.
+//! What doesn't fit returns [`MISUSED`].
 #![tactic(auto)]
 
 mod again;
 mod blocks;
+mod decode;
+mod decode_begin;
+mod decode_head;
+mod decode_open;
+mod decode_piece;
+mod decode_seek;
+mod decoder;
+mod encode;
+mod encode_piece;
 mod feed;
 mod feed_text;
 mod header;
@@ -31,16 +43,29 @@ mod start;
 mod stream;
 mod text_len;
 mod work;
+mod wrap;
 mod write_stream;
 mod writer;
 
 pub use again::age_c_may_open;
+pub use decode::{age_c_decode, age_c_decode_end};
+pub use decode_begin::age_c_decode_begin;
+pub use decode_open::{
+    age_c_decode_head_key, age_c_decode_head_passphrase, age_c_decode_head_shared,
+};
+pub use decode_piece::age_c_decode_piece;
+pub use decode_seek::age_c_decode_seek;
+pub use decoder::Decoder;
+pub use encode::{age_c_encode_key, age_c_encode_passphrase};
+pub use encode_piece::age_c_encode_piece;
 pub use feed::{age_c_feed, age_c_finish};
 pub use feed_text::{age_c_feed_text, age_c_finish_text};
 pub use header::{age_c_header, age_c_stanzas};
 pub use laws::{
-    answers_are_calls, answers_are_feed_calls, answers_are_text_calls, calls_are_written,
-    feeds_are_written, openings_are_parts, parts_are_written, pieces_read_back, texts_are_files,
+    answers_are_calls, answers_are_decode_calls, answers_are_feed_calls, answers_are_text_calls,
+    calls_are_written, decoders_are_right, decoders_open_files, decoders_read_back,
+    decodes_are_written, encoders_are_read, encoders_write_files, feeds_are_written, keys_open,
+    openings_are_parts, parts_are_written, pieces_read_back, sought_is_right, texts_are_files,
     undamaged_opens,
 };
 pub use open::{age_c_open_key, age_c_open_passphrase, age_c_open_shared, age_c_version};
@@ -53,6 +78,7 @@ pub use seek::age_c_seek;
 pub use size::age_c_size;
 pub use stanza_place::StanzaPlace;
 pub use stream::Stream;
+pub use wrap::age_c_wrap_shared;
 pub use write_stream::WriteStream;
 pub use writer::Writer;
 
@@ -60,7 +86,7 @@ pub use writer::Writer;
 pub const MORE: u32 = 254;
 
 /// The call doesn't fit: a length, a work factor or the number of a chunk is out of range, there is
-/// too little room, or a reader, writer or stream holds numbers that can't be used (MISUSE in
-/// `include/age_c.h`). Nothing is changed, except that each number that the call would have
+/// too little room, or a reader, writer or stream holds numbers that can't be used.
+/// Nothing is changed, except that each number that the call would have
 /// reported is 0.
 pub const MISUSED: u32 = 255;

@@ -2,7 +2,7 @@
 
 ghost use Rattle.std.specs.Prelude.{◌≡◌, ◌+◌, ◌<◌, ◌≤◌, [], length, take, drop, IfOk, IfErr};
 ghost use Rattle.age_cipher.specs.{sealing as sealing_with};
-ghost use Rattle.age_chunk.specs.{chunk_limit, nonce_bytes, chunk_length, tag_length};
+ghost use Rattle.age_chunk.specs.{block_length, chunk_limit, nonce_bytes, chunk_length, tag_length};
 ghost use Rattle.age_stanza.specs.{HasText};
 ghost use Rattle.age_keys.specs.{IsAllowed, scrypt_head};
 ghost use Rattle.age_c.specs.{start_fault_number, PutsFront, IsFileFront};
@@ -87,6 +87,7 @@ fn seal_chunk(writer: &Writer, last: bool, text: &[u8], out: &mut [u8]) -> usize
         (nonce_bytes writer.now.chunk last) [] text.now }
     ensures after { drop result out.new ≡ drop result out.old }
     ensures most { result ≤ length out.new }
+    ensures len { result ≡ length text.now + tag_length }
 {
     let len = text.len() + TAG_LEN;
     let block = &mut out[..len];
@@ -101,6 +102,7 @@ pub(crate) fn seal_next(writer: &mut Writer, chunk: &[u8], out: &mut [u8]) -> us
     requires limit { writer.old.chunk + 1 < chunk_limit }
     ensures sealed { SealsChunk chunk.now writer.old (take result out.new) writer.new }
     ensures put { PutsFront result out.old out.new }
+    ensures len { result ≡ block_length }
 {
     let len = seal_chunk(writer, false, chunk, out);
     writer.chunk += 1;

@@ -29,6 +29,7 @@ impl StartFault {
         ensures number { result ≡ start_fault_number self.now }
         ensures some { result ≢ 0 }
         ensures meant { result ≢ 255 }
+        ensures cut { result ≡ 254 → self.now ≡ StartFault.More }
     {
         match self {
             StartFault::More => MORE,

@@ -1,4 +1,5 @@
 use Rattle.std.proofs.Common.{◌≡◌, ◌++◌, ap, arith, length, take, ℕ}
+use Rattle.std.proofs.lemmas.List.{length-drop}
 use Rattle.std.specs.Prelude.{◌-◌, min}
 use Rattle.age_chunk.specs.{block_length}
 use Rattle.age_c.specs.{held_block}
@@ -18,3 +19,12 @@ returns-clause-feeds c =
 
 pub open_block-written-requires-clause-call : goal.open_block-written-requires-clause-call
 open_block-written-requires-clause-call c = block_call c.args.stream.now c.args.piece.now c.args.out.now c.requires.call c.requires.whole
+
+pub returns-clause-room : goal.returns-clause-room
+returns-clause-room c =
+    let opened = c.open_block-written.ensures in
+    record {
+      usable = opened.usable;
+      short = c.requires.call.short;
+      room = omega (arith, c.requires.empty, c.requires.whole, opened.len, length-drop 65552 c.args.piece.now);
+    }

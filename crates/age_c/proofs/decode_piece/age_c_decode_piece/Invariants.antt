@@ -1,0 +1,14 @@
+use Rattle.std.proofs.Common.{◌≤◌, ◌-◌, length, take, drop}
+use Rattle.age_c.specs.{DecodesMore, IsPieceCall}
+use Rattle.age_c.proofs.decode_piece.age_c_decode_piece.Given as goal
+
+abbrev pub invariant-pieces : goal.invariant-pieces
+invariant-pieces l = record {
+  within : l.at ≤ length l.piece;
+  room : l.done ≤ length l.out;
+  so_far : DecodesMore l.initial.decoder l.decoder (take l.at l.piece) (take l.done l.out);
+  fits : IsPieceCall l.decoder (drop l.at l.piece) (length l.out - l.done);
+}
+
+abbrev pub decreases-pieces : goal.decreases-pieces
+decreases-pieces l = length l.piece - l.at

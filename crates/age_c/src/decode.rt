@@ -1,0 +1,96 @@
+//! The functions by which C gives a decoder the payload of a file.
+
+ghost use Rattle.std.specs.Prelude.{◌≡◌, ◌≢◌, ◌-◌, ◌≤◌, length, take, drop};
+ghost use Rattle.age_c.specs.{misused, FeedsStream, FinishesStream, IsStreamCall, IsFinishCall, Decodes};
+ghost use Rattle.age_c.specs.{KeepsRoom};
+
+use crate::MISUSED;
+use crate::decoder::Decoder;
+use crate::feed::{age_c_feed, age_c_finish};
+
+/// Leaves out the first `skip` of the `count` bytes at the front of `out`, and returns how many are
+/// left there.
+fn pass_over(skip: usize, out: &mut [u8], count: usize) -> usize
+    requires { count ≤ length out.old }
+    ensures text { take result out.new ≡ drop skip (take count out.old) }
+    ensures left { result ≡ count - skip }
+    ensures after { drop count out.new ≡ drop count out.old }
+    ensures most { result ≤ length out.new }
+{
+    if skip == 0 {
+        return count;
+    }
+    if skip >= count {
+        return 0;
+    }
+    out.copy_within(skip..count, 0);
+    count - skip
+}
+
+/// Takes bytes of the payload from the front of `piece`, up to the end of the block that is open,
+/// and puts the plaintext of a block that is full into `out`, from the place that was sought on;
+/// there is room for 65,536 bytes or more if one is. The answer is 0 or the number of a fault, 17 to 22, with
+/// which the decoder refuses each further call that gives it bytes or an end.
+#[unsafe(no_mangle)]
+pub extern "C" fn age_c_decode(
+    decoder: &mut Decoder,
+    piece: &[u8],
+    taken: &mut usize,
+    out: &mut [u8],
+    written: &mut usize,
+) -> u32
+    ensures decodes { result ≢ misused → Decodes
+        (λ answer text new. FeedsStream piece.now decoder.old.stream answer taken.new text new)
+        decoder.old decoder.new result written.new out.old out.new }
+    ensures idle { result ≡ misused → decoder.new ≡ decoder.old }
+    ensures nothing { result ≢ 0 → written.new ≡ 0 }
+    ensures none { result ≡ misused → taken.new ≡ 0 }
+    ensures room { result ≢ misused → KeepsRoom piece.now decoder.old.stream taken.new written.new
+        decoder.new.stream }
+    ensures most { written.new ≤ length out.new }
+    ensures fits { decoder.old.open ≡ 1 → IsStreamCall decoder.old.stream piece.now out.old
+        → result ≢ misused }
+    ensures meant { result ≢ misused
+        → (decoder.old.open ≡ 1) × IsStreamCall decoder.old.stream piece.now out.old }
+{
+    *taken = 0;
+    *written = 0;
+    if decoder.open != 1 {
+        return MISUSED;
+    }
+    let answer = age_c_feed(&mut decoder.stream, piece, taken, out, written);
+    let count = *written;
+    *written = pass_over(decoder.skip, out, count);
+    decoder.skip = decoder.skip.saturating_sub(count);
+    answer
+}
+
+/// The file ended: what is left of its plaintext, from the place that was sought on, is put into
+/// `out`, which has room for it. The plaintext is complete only if the answer is
+/// 0.
+#[unsafe(no_mangle)]
+pub extern "C" fn age_c_decode_end(
+    decoder: &mut Decoder,
+    out: &mut [u8],
+    written: &mut usize,
+) -> u32
+    ensures decodes { result ≢ misused → Decodes (FinishesStream decoder.old.stream) decoder.old
+        decoder.new result written.new out.old out.new }
+    ensures idle { result ≡ misused → decoder.new ≡ decoder.old }
+    ensures nothing { result ≢ 0 → written.new ≡ 0 }
+    ensures most { written.new ≤ length out.new }
+    ensures fits { decoder.old.open ≡ 1 → IsFinishCall decoder.old.stream out.old
+        → result ≢ misused }
+    ensures meant { result ≢ misused
+        → (decoder.old.open ≡ 1) × IsFinishCall decoder.old.stream out.old }
+{
+    *written = 0;
+    if decoder.open != 1 {
+        return MISUSED;
+    }
+    let answer = age_c_finish(&mut decoder.stream, out, written);
+    let count = *written;
+    *written = pass_over(decoder.skip, out, count);
+    decoder.skip = decoder.skip.saturating_sub(count);
+    answer
+}

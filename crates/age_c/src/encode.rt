@@ -1,0 +1,59 @@
+//! The functions by which C begins a file that is encoded: what its stream held of another is
+//! forgotten.
+
+ghost use Rattle.std.specs.Prelude.{◌≡◌};
+ghost use Rattle.age_c.specs.{Begins, BeginsFileFrom, BeginsFileWith, IsStartCall, IsKeyCall};
+ghost use Rattle.age_c.specs.{RefusesLines};
+
+use crate::seal::age_c_seal_passphrase;
+use crate::seal_key::age_c_seal_key;
+use crate::write_stream::WriteStream;
+use std::alloc::Global;
+
+/// Leaves a stream as one that was given up.
+fn forget(stream: &mut WriteStream)
+    ensures empty { stream.new.held ≡ 0 }
+    ensures shut { stream.new.writer.state ≡ 0 }
+{
+    stream.held = 0;
+    stream.writer.state = 0;
+}
+
+/// Begins a file under a passphrase, as [`age_c_seal_passphrase`] does, with a stream that holds
+/// nothing. What it held is forgotten in any case.
+#[unsafe(no_mangle)]
+pub extern "C" fn age_c_encode_passphrase(
+    alloc: Global,
+    pass: &[u8],
+    work: u32,
+    random: &[u8],
+    out: &mut [u8],
+    written: &mut usize,
+    stream: &mut WriteStream,
+) -> u32
+    ensures { Begins (IsStartCall pass.now work random.now out.old)
+        (BeginsFileFrom pass.now work random.now) (λ answer. answer ≡ 28) stream.new result
+        written.new out.old out.new }
+{
+    forget(stream);
+    age_c_seal_passphrase(alloc, pass, work, random, out, written, &mut stream.writer)
+}
+
+/// Begins a file whose key the caller has wrapped, as [`age_c_seal_key`] does, with a stream that
+/// holds nothing. What it held is forgotten in any case.
+#[unsafe(no_mangle)]
+pub extern "C" fn age_c_encode_key(
+    alloc: Global,
+    stanzas: &[u8],
+    random: &[u8],
+    out: &mut [u8],
+    written: &mut usize,
+    stream: &mut WriteStream,
+) -> u32
+    ensures { Begins (IsKeyCall stanzas.now random.now out.old)
+        (BeginsFileWith stanzas.now random.now) (RefusesLines stanzas.now) stream.new result
+        written.new out.old out.new }
+{
+    forget(stream);
+    age_c_seal_key(alloc, stanzas, random, out, written, &mut stream.writer)
+}
