@@ -1,2 +1,9 @@
 """What is done to the built program and to the C library. `python3 -m unittest` runs all of it, and with `tests.test_disk -k links` one
 test; AGE_TOOL names another program than ./age_tool's, and AGE_C_DIR another folder of the library."""
+import signal
+
+# A shell that runs the tests in the background has them ignore interrupts, and nohup has them ignore hangups. What they start would, too,
+# but for a signal that is handled, as by nothing here.
+for number in (signal.SIGINT, signal.SIGHUP):
+    if signal.getsignal(number) == signal.SIG_IGN:
+        signal.signal(number, lambda *_: None)
