@@ -1,37 +1,42 @@
 -- What a run leaves over files in memory, from its contract.
-use Rattle.std.proofs.Common.{◌≡◌, ◌∙◌, ◌⊎◌, ◌++◌, ◌*◌, take, ℕ, inl, inr, ap, sym, subst, refl, true, true≢false}
-use Rattle.std.proofs.Common.{List, [], ◌∷◌, Option, Some, None, ⊎_elim, Result, Ok, Err}
+use Rattle.std.proofs.Common.{◌≡◌, ◌∙◌, ◌⊎◌, ◌++◌, ◌*◌, take, ℕ, inl, inr, ap, sym, subst, refl, true}
+use Rattle.std.proofs.Common.{true≢false, List, [], ◌∷◌, Option, Some, None, ⊎_elim, Result, Ok, Err}
 use Rattle.std.specs.Borrow.{Bor}
-use Rattle.std.specs.Prelude.{is_some, IfSome, IsSomeAnd, OnOk, option_map}
 use Rattle.std.specs.Io.KnownBytes.{prepend_known}
+use Rattle.std.specs.Prelude.{is_some, IfSome, IsSomeAnd, OnOk, option_map}
 use Rattle.clap.specs.Words.{Row, Text}
 use Rattle.age_chunk.specs.{chunk_length}
-use Rattle.age_inspection.specs.{IsReport}
 use Rattle.age_position.specs.{position_text}
 use Rattle.age_position.specs.declared.position.Position.{Position}
-use Rattle.age_fileset.specs.{Files, Entry, entry, entry_of, Outcome, Found, PutsOnly, CameSince}
-use Rattle.age_fileset.specs.{HasGiven, HasGivenAll, AreTrue, held_by, puts_in}
+use Rattle.age_sealing.specs.{SecretView}
+use Rattle.age_inspection.specs.{IsReport}
+use Rattle.age_fileset.proofs.{AreOthers, others_then, same_since, put_since, found_was, gave_all_was}
+use Rattle.age_fileset.proofs.{all_as, grows_by}
+use Rattle.age_fileset.specs.{Files, Entry, entry, entry_of, Outcome, Found, PutsOnly, CameSince, HasGiven}
+use Rattle.age_fileset.specs.{HasGivenAll, AreTrue, held_by, puts_in}
 use Rattle.age_fileset.specs.declared.files.Missing.{Missing}
 use Rattle.age_fileset.specs.declared.files.Missing.TheVariants.{Fails}
 use Rattle.age_fileset.specs.declared.mem_entry.MemEntry.{MemEntry}
-use Rattle.age_fileset.proofs.{AreOthers, others_then, same_since, put_since, found_was, gave_all_was, all_as}
+use Rattle.age_cli_args.proofs.{no_command, one_number}
 use Rattle.age_cli_args.specs.{IsForHelp, IsRequest}
-use Rattle.age_cli_args.specs.declared.request.Paths.{Paths}
+use Rattle.age_cli_args.specs.Requests.{Requests}
 use Rattle.age_cli_args.specs.declared.request.Encrypting.{Encrypting}
+use Rattle.age_cli_args.specs.declared.request.Paths.{Paths}
 use Rattle.age_cli_args.specs.declared.request.Request.{Request}
 use Rattle.age_cli_args.specs.declared.request.Request.TheVariants.{Inspect, Encrypt, Decrypt, Resume, Drill}
-use Rattle.age_cli_args.specs.Requests.{Requests}
-use Rattle.age_cli_args.proofs.{no_command, one_number}
 use Rattle.age_command.specs.{IsPassphraseIn, random_name}
 use Rattle.age_command.specs.declared.ending.Ending.{Ending}
-use Rattle.age_outputs.specs.Acts.{CameFirst, paths_of}
-use Rattle.age_outputs.specs.Commands.{MakesSecret}
 use Rattle.age_outputs.proofs.ReadLemmas.{made_by}
-use Rattle.age_sealing.specs.{SecretView}
-use Rattle.age_cli.specs.{FileBegins, FileHolds, OutHolds, LeavesFor, Left, PrintsReport, Reports, ReportsEntry, ReportsFor}
-use Rattle.age_cli.specs.{Runs, SavesOf, World, PutsFor, out_of, save_of, status_by}
+use Rattle.age_outputs.specs.Commands.{MakesSecret}
+use Rattle.age_outputs.specs.Done.{CameFirst, paths_of, OutHolds, LeavesFor}
+use Rattle.age_outputs.specs.Left.{Left, SavesOf, save_of, Spares}
+use Rattle.age_cli.proofs.RunLemmas.{failed_by}
 use Rattle.age_cli.proofs.WordLemmas.{differs, not_help, rows_of, same_identity, same_names, same_text}
-use Rattle.age_cli.proofs.ZeroLemmas.{failed_by}
+use Rattle.age_cli.specs.{FileBegins, FileHolds, PrintsReport, Reports, ReportsEntry, ReportsFor}
+use Rattle.age_cli.specs.{World, PutsFor, out_of, status_by}
+use Rattle.age_cli.specs.Runs.{Runs, WritesNone}
+use Rattle.age_cli.specs.declared.error.RunError.{RunError}
+use Rattle.age_cli.specs.declared.error.RunError.TheVariants as run
 
 -- ---- What a command leaves, said of other files or of another request of the same words.
 
@@ -172,6 +177,13 @@ module _ (words : List Text) (before after : World) (was is : List MemEntry) (ke
   out_is : (p : Paths) (bytes : List ℕ) → OutHolds before.files after.files p bytes → news p.to.now ≡ Some bytes
   out_is p bytes o = put_since before.files after.files was is kept_was kept_is (entry p.to.now bytes ∷ []) o.put p.to.now bytes [] refl tt
 
+  wrote_none : WritesNone words before.files after.files → PutsOnly [] before.files after.files
+  wrote_none (inl did) = grows_by before.files after.files did
+  wrote_none (inr (asked, made, spares)) = go (paths_of asked) spares where
+    go : (paths : Option Paths) → IsSomeAnd paths (λ p. Spares p.to.now before.files after.files) → PutsOnly [] before.files after.files
+    go None none = absurd none
+    go (Some p) spares = spares.none
+
   left_others : (asked : Request) (p : Paths) (ending : Ending) (l : Left asked p before.files after.files ending) (q : Text) → (Some p.to.now ≡ Some q → ⊥)
       → (save_of asked ≡ Some q → ⊥) → AreOthers q (l.outs ++ l.saves)
   left_others asked p ending l q out save =
@@ -180,7 +192,7 @@ module _ (words : List Text) (before after : World) (was is : List MemEntry) (ke
       (saved_others q (save_of asked) l.saved l.saves l.saved_is save)
 
   -- by the paths of what was asked
-  wrote_others : (asked : Request) (r : Result (Unit {0}) Ending) → IsSomeAnd (paths_of asked) (λ p. PutsFor asked p before.files after.files r) → (q : Text)
+  wrote_others : (asked : Request) (r : Result (Unit {0}) RunError) → IsSomeAnd (paths_of asked) (λ p. PutsFor asked p before.files after.files r) → (q : Text)
       → (out_of asked ≡ Some q → ⊥) → (status_by r ≡ 0 ⊎ (save_of asked ≡ Some q → ⊥)) → news q ≡ olds q
   wrote_others asked r wrote q out save = go (paths_of asked) refl wrote where
     go : (paths : Option Paths) → paths ≡ paths_of asked → IsSomeAnd paths (λ p. PutsFor asked p before.files after.files r) → news q ≡ olds q
@@ -189,14 +201,16 @@ module _ (words : List Text) (before after : World) (was is : List MemEntry) (ke
       other : Some p.to.now ≡ Some q → ⊥
       other here = out (sym (ap (λ (o : Option Paths). option_map (λ x. x.to.now) o) its) ∙ here)
 
-      by : (r : Result (Unit {0}) Ending) → PutsFor asked p before.files after.files r → (status_by r ≡ 0 ⊎ (save_of asked ≡ Some q → ⊥)) → news q ≡ olds q
+      by : (r : Result (Unit {0}) RunError) → PutsFor asked p before.files after.files r → (status_by r ≡ 0 ⊎ (save_of asked ≡ Some q → ⊥)) → news q ≡ olds q
       by (Ok done) (took, puts) save = same (entry p.to.now took ∷ []) puts q ((λ here. other (ap Some here)), tt)
       by (Err e) l (inl zero) = absurd (failed_by (Err e) zero)
-      by (Err e) l (inr save) = same (l.outs ++ l.saves) l.puts q (left_others asked p e l q other save)
+      by (Err (run.Ended e)) l (inr save) = same (l.outs ++ l.saves) l.puts q (left_others asked p e l q other save)
+      by (Err (run.Words e)) l (inr save) = absurd l
+      by (Err run.Unread) l (inr save) = absurd l
 
-  module _ (r : Result (Unit {0}) Ending) (runs : Runs words before after r) where
+  module _ (r : Result (Unit {0}) RunError) (runs : Runs words before after r) where
     spares : (asked : Request) → Requests words asked → (q : Text) → (out_of asked ≡ Some q → ⊥) → (status_by r ≡ 0 ⊎ (save_of asked ≡ Some q → ⊥)) → news q ≡ olds q
-    spares asked (name, rows, asks, is_asked) q out save = ⊎_elim (λ spared. same [] spared.1 q tt) (λ wrote.
+    spares asked (name, rows, asks, is_asked) q out save = ⊎_elim (λ none. same [] (wrote_none none) q tt) (λ wrote.
         let names = same_names name rows asked wrote.0 is_asked (rows_of words wrote.0 name rows asks (inl wrote.1)) in
         wrote_others wrote.0 r wrote.2 q (λ here. out (names.0 ∙ here)) (⊎_elim (λ zero. inl zero) (λ other. inr (λ here. other (names.1 ∙ here))) save)) runs.wrote
 
@@ -204,7 +218,7 @@ module _ (words : List Text) (before after : World) (was is : List MemEntry) (ke
     spares_asked asked made q out save = spares asked made q out (inr save)
 
     pub spares_refused : status_by r ≡ 2 → (q : Text) → news q ≡ olds q
-    spares_refused two q = same [] (runs.refused two).1 q tt
+    spares_refused two q = same [] (wrote_none (runs.refused two)) q tt
 
     pub spares_done : (asked : Request) → Requests words asked → status_by r ≡ 0 → (q : Text) → (out_of asked ≡ Some q → ⊥) → news q ≡ olds q
     spares_done asked made zero q out = spares asked made q out (inl zero)
@@ -240,7 +254,7 @@ module _ (words : List Text) (before after : World) (was is : List MemEntry) (ke
 
     pub reports : ReportsEntry words olds before after (status_by r)
     reports file (name, rows, asks, is_asked) zero = by r zero runs.reports where
-      by : (r : Result (Unit {0}) Ending) → status_by r ≡ 0 → OnOk r ((words ≡ []) ⊎ (IsForHelp words ⊎ ((mine : Request) × Requests words mine × ReportsFor before after mine)))
+      by : (r : Result (Unit {0}) RunError) → status_by r ≡ 0 → OnOk r ((words ≡ []) ⊎ (IsForHelp words ⊎ ((mine : Request) × Requests words mine × ReportsFor before after mine)))
           → (bytes : List ℕ) × FileHolds olds file.now bytes × PrintsReport (IsReport bytes) before.output after.output
       by (Ok done) zero (inl none) = absurd (no_command words name rows none asks)
       by (Ok done) zero (inr (inl help)) = absurd (not_help words asks.taken help)

@@ -1,33 +1,36 @@
 -- What each arm of the part that obeys the words promises, from what its callee does.
 use Rattle.std.proofs.Common.{◌≡◌, ◌∙◌, sym, subst, refl, inl, inr, List, [], ◌∷◌, ℕ, Bool, true, false}
-use Rattle.std.proofs.Common.{true≢false, Option, Result, Ok, Err, length, Some, None, rules}
-use Rattle.std.specs.Borrow.{Bor}
-use Rattle.std.specs.Prelude.{OnOk, IfErr, IfOk, IsOk, ◌==◌, IfSome}
+use Rattle.std.proofs.Common.{true≢false, Option, Result, Ok, Err, length, Some, None, rules, ⊎_elim}
 use Rattle.std.proofs.lemmas.Result.{on_ok_weaker}
-use Rattle.clap.specs.Words.{Text}
-use Rattle.clap.specs.Walk.{texts}
+use Rattle.std.specs.Borrow.{Bor}
+use Rattle.std.specs.Prelude.{OnOk, IfErr, IfOk, IsOk, ◌==◌, IfSome, IfNone}
 use Rattle.clap.specs.Kinds.{FailsBy, IsAmong, HasKind}
 use Rattle.clap.specs.Values.{kind_of}
+use Rattle.clap.specs.Walk.{texts}
+use Rattle.clap.specs.Words.{Text}
 use Rattle.clap.specs.declared.error.Error.{Error}
 use Rattle.clap.specs.declared.error.kind.ErrorKind.{ErrorKind}
 use Rattle.age_io.specs.{SinkView}
+use Rattle.age_io.specs.Supply.{Supply}
+use Rattle.age_inspection.specs.{IsReport, Inspects}
+use Rattle.age_inspection.specs.declared.report.Report.{Report}
+use Rattle.age_fileset.specs.{FilesView}
 use Rattle.age_cli_args.specs.{IsForHelp, refusals}
-use Rattle.age_cli_args.specs.declared.request.Request.{Request}
-use Rattle.age_cli_args.specs.declared.request.Request.TheVariants.{Inspect, Drill}
 use Rattle.age_cli_args.specs.Requests.{Requests}
 use Rattle.age_cli_args.specs.declared.request.Drilling.{Drilling}
-use Rattle.age_intake.specs.{Ports}
-use Rattle.age_inspection.specs.{IsReport, Inspects}
-use Rattle.age_fileset.specs.{FilesView}
-use Rattle.age_command.specs.declared.ending.Ending.{Ending}
+use Rattle.age_cli_args.specs.declared.request.Request.{Request}
+use Rattle.age_cli_args.specs.declared.request.Request.TheVariants.{Inspect, Drill}
 use Rattle.age_command.proofs.{always_ok}
+use Rattle.age_command.specs.declared.ending.Ending.{Ending}
+use Rattle.age_outputs.proofs.EndingLemmas.{as_ended}
 use Rattle.age_outputs.specs.Acts.{Acts, Finally}
 use Rattle.age_outputs.specs.declared.interruption.Unfinished.TheVariants.{Ended}
-use Rattle.age_outputs.proofs.EndingLemmas.{as_ended}
 use Rattle.age_cli.specs.{IsApart, IsMadeBy, IsReadOf, PrintsReport, World}
-use Rattle.age_cli.specs.inner.{DoesOther, IsForOutput, IsInspected, Obeys, ended_so}
-use Rattle.age_inspection.specs.declared.report.Report.{Report}
-use Rattle.age_io.specs.Supply.{Supply}
+use Rattle.age_cli.specs.Runs.{IsCausedBy}
+use Rattle.age_cli.specs.declared.error.RunError.{RunError}
+use Rattle.age_cli.specs.declared.error.RunError.TheVariants as run
+use Rattle.age_cli.specs.inner.{Declines, DoesOther, DoesRequest, IsForOutput, IsInspected, IsRefusedBy}
+use Rattle.age_cli.specs.inner.{Obeys, ended_so}
 
 -- ---- The words.
 
@@ -53,13 +56,28 @@ for_help words e (inr among) (inl help) = inl (subst (λ (k : ErrorKind). IsAmon
 for_help words e (inr among) (inr version) = inr (subst (λ (k : ErrorKind). IsAmong k (refusals words)) version among)
 
 -- words that were read by the parser
-pub read_so : (words : List Text) (r : Result (Option Request) Error) → (words ≡ [] → ⊥) → IfOk r (λ o. IfSome o (Requests words)) → FailsBy (refusals words) r
-    → IsReadOf words r
-read_so words (Ok None) some made fails = record { made = tt; refuses = tt }
-read_so words (Ok (Some asked)) some made fails = record { made = inl made; refuses = tt }
-read_so words (Err e) some made fails = record { made = tt; refuses = (some, fails) }
+pub read_so : (words : List Text) (r : Result (Option Request) Error) → (words ≡ [] → ⊥) → IfOk r (λ o. IfSome o (Requests words))
+    → IfOk r (λ o. IfNone o ((asked : Request) → Requests words asked → ⊥)) → FailsBy (refusals words) r → IsReadOf words r
+read_so words (Ok None) some made unasked fails = record { made = tt; unread = (fails, unasked); refuses = tt }
+read_so words (Ok (Some asked)) some made unasked fails = record { made = inl made; unread = tt; refuses = tt }
+read_so words (Err e) some made unasked fails = record { made = tt; unread = tt; refuses = (some, fails) }
 
-pub help_done : {A N P : Type 0} (r : Result A Ending) (Q : Type 0) → N → (IsOk r → P) → OnOk r Q → OnOk r (N × P × Q)
+-- the parser refused them
+pub refused_by : (words : List Text) (error : Error) → HasKind (refusals words) error → (r : Result (Unit {0}) RunError) → IfErr r (IsRefusedBy error)
+    → IfErr r (IsCausedBy words)
+refused_by words error kind (Ok x) by = tt
+refused_by words error kind (Err (run.Words e)) (same, other) = ⊎_elim (λ memory. absurd (other memory))
+    (λ among. subst (λ (x : Error). IsAmong (kind_of x) (refusals words)) (sym same) among) kind
+refused_by words error kind (Err run.Unread) by = absurd by
+refused_by words error kind (Err (run.Ended e)) by = tt
+
+pub declined : {words : List Text} {before after : World} (r : Result (Unit {0}) RunError) → Declines words before after r → Obeys words before after r
+declined (Ok x) d = inr d
+declined (Err (run.Words e)) d = d
+declined (Err run.Unread) d = d
+declined (Err (run.Ended e)) d = inr d
+
+pub help_done : {A N P : Type 0} (r : Result A RunError) (Q : Type 0) → N → (IsOk r → P) → OnOk r Q → OnOk r (N × P × Q)
 help_done (Ok x) Q some asked printed = (some, asked refl, printed)
 help_done (Err e) Q some asked printed = tt
 
@@ -69,17 +87,17 @@ every_fault : {A : Type 0} (r : Result A Ending) (P : Ending → Type 0) → ((e
 every_fault (Ok x) P h = tt
 every_fault (Err e) P h = h e
 
-module _ (IsPorts : Ports → Type 0) (before after : FilesView) (r : Result (Unit {0}) Ending) where
-  pub drill_acts : (d : Drilling) → Acts IsPorts (Drill d) before after r
-  drill_acts d = record { done = always_ok r _ tt; stopped = every_fault r _ (λ e. inr tt) }
+module _ (before after : FilesView) (r : Result (Unit {0}) Ending) where
+  pub drill_acts : (d : Drilling) → Acts (Drill d) before after r
+  drill_acts d = record { done = always_ok r _ tt; stopped = every_fault r _ (λ e. tt) }
 
-  pub inspect_acts : (file : Option (Bor Text)) → Acts IsPorts (Inspect file) before after r
-  inspect_acts file = record { done = always_ok r _ tt; stopped = every_fault r _ (λ e. inr tt) }
+  pub inspect_acts : (file : Option (Bor Text)) → Acts (Inspect file) before after r
+  inspect_acts file = record { done = always_ok r _ tt; stopped = every_fault r _ (λ e. tt) }
 
-module _ (words : List Text) (IsPorts : Ports → Type 0) (before after : World) (ended : Result (Unit {0}) Ending) where
-  pub obeyed : (asked : Request) → IsMadeBy words asked → IsApart asked → Acts IsPorts asked before.files after.files ended
-      → DoesOther words IsPorts before after ended asked → Obeys words IsPorts before after ended
-  obeyed asked made apart acts answers = inl (record { asked = asked; made = made; apart = apart; acts = acts; answers = answers })
+module _ (words : List Text) (before after : World) (ended : Result (Unit {0}) Ending) where
+  pub does : (asked : Request) → IsMadeBy words asked → IsApart asked → Acts asked before.files after.files ended
+      → DoesOther words before after asked ended → DoesRequest words before after ended
+  does asked made apart acts answers = record { asked = asked; made = made; apart = apart; acts = acts; answers = answers }
 
 -- ---- How a part of the program ended.
 

@@ -1,19 +1,21 @@
 -- What words ask for, whichever request was made of them.
-use Rattle.std.proofs.Common.{◌≡◌, ◌∙◌, ap, sym, subst, refl, inl, inr, true, false, true≢false, ℕ, List, [], Option, Some}
-use Rattle.std.specs.Prelude.{bytes_eq}
+use Rattle.std.proofs.Common.{◌≡◌, ◌∙◌, ap, sym, subst, refl, inl, inr, true, false, true≢false, ℕ, List, []}
+use Rattle.std.proofs.Common.{Option, Some}
 use Rattle.std.specs.Option.{option_map_or}
-use Rattle.clap.specs.Words.{Row, Text}
+use Rattle.std.specs.Prelude.{bytes_eq}
 use Rattle.clap.specs.Kinds.{Kinds, IsAmong}
+use Rattle.clap.specs.Words.{Row, Text}
 use Rattle.clap.specs.declared.error.kind.ErrorKind.TheVariants.{DisplayHelp, DisplayVersion}
+use Rattle.age_cli_args.proofs.{no_command, one_number}
 use Rattle.age_cli_args.specs.{Asks, IsForHelp, refusals, IsIdentityOptions, IsRequest}
+use Rattle.age_cli_args.specs.Requests.{Requests}
 use Rattle.age_cli_args.specs.declared.request.IdentityOptions.{IdentityOptions}
 use Rattle.age_cli_args.specs.declared.request.Request.{Request}
 use Rattle.age_cli_args.specs.declared.request.Request.TheVariants.{Inspect, Encrypt, Decrypt, Resume, Drill}
-use Rattle.age_cli_args.specs.Requests.{Requests}
-use Rattle.age_cli_args.proofs.{no_command, one_number}
 use Rattle.age_command.specs.{MakesBy}
 use Rattle.age_command.specs.declared.identity.Identity.{Identity}
-use Rattle.age_cli.specs.{IsMadeBy, out_of, save_of}
+use Rattle.age_outputs.specs.Left.{save_of}
+use Rattle.age_cli.specs.{IsMadeBy, out_of}
 
 -- what the words ask for is asked for by their one command, with its arguments
 same_rows : (words : List Text) (asked : Request) (name : Text) (rows : List Row) → Asks words name rows → Requests words asked

@@ -1,17 +1,17 @@
 -- What a run leaves over files in memory.
-use Rattle.std.specs.Prelude.{◌≡◌, ℕ, List, ◌++◌, Option, Some, option_map, Result}
 use Rattle.std.specs.Borrow.{Bor}
+use Rattle.std.specs.Prelude.{◌≡◌, ℕ, List, ◌++◌, Option, Some, option_map, Result}
 use Rattle.clap.specs.Words.{Text}
 use Rattle.age_inspection.specs.{IsReport}
 use Rattle.age_fileset.specs.{Files, Shelf, entry_of, seen_in}
 use Rattle.age_cli_args.specs.Requests.{Requests}
 use Rattle.age_cli_args.specs.declared.request.Request.{Request}
 use Rattle.age_cli_args.specs.declared.request.Request.TheVariants.{Inspect}
-use Rattle.age_command.specs.declared.ending.Ending.{Ending}
-use Rattle.age_outputs.specs.Acts.{paths_of}
-use Rattle.age_cli.specs.Plain.{Runs, World, save_of, status_by}
+use Rattle.age_outputs.specs.Done.{paths_of, LeavesFor}
+use Rattle.age_outputs.specs.Left.{save_of}
 use Rattle.age_cli.specs.Printing.{PrintsReport}
-use Rattle.age_cli.specs.Zero.{LeavesFor}
+use Rattle.age_cli.specs.Runs.{Runs, World, status_by}
+use Rattle.age_cli.specs.declared.error.RunError.{RunError}
 
 -- the file of this name holds just these bytes, or begins with them
 abbrev pub FileHolds : Files → Text → List ℕ → Type 0
@@ -41,7 +41,7 @@ ReportsEntry words old before after status = (file : Bor Text) → Requests word
 
 -- A run over files in memory does so; and after 0 OUT holds what was asked for, of what the files held.
 abbrev pub RunsOverMemory : (old new : Shelf) → Type 0
-RunsOverMemory old new = (words : List Text) (before after : World) (ended : Result (Unit {0}) Ending)
+RunsOverMemory old new = (words : List Text) (before after : World) (ended : Result (Unit {0}) RunError)
     → before.files ≡ seen_in old → after.files ≡ seen_in new → Runs words before after ended
     → let was = entry_of old.entries in let is = entry_of new.entries in let status = status_by ended in
     SparesOthers words was is status × ReportsEntry words was before after status

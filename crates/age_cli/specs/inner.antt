@@ -1,14 +1,15 @@
 -- What only private code cites: how a part of the program ended, what a report of an input says, and what is
 -- done of a request.
 use Rattle.std.specs.Prelude.{◌≡◌, ◌≢◌, ◌⊎◌, ℕ, true, List, [], Option, Some, None, Result, Ok, Err, OnOk}
-use Rattle.std.specs.Prelude.{IfSome, length}
+use Rattle.std.specs.Prelude.{IfSome, length, IfErr}
+use Rattle.clap.specs.Values.{kind_of}
 use Rattle.clap.specs.Words.{Text}
+use Rattle.clap.specs.declared.error.Error.{Error}
 use Rattle.clap.specs.declared.error.kind.ErrorKind.{ErrorKind}
-use Rattle.clap.specs.declared.error.kind.ErrorKind.TheVariants.{DisplayHelp, DisplayVersion}
+use Rattle.clap.specs.declared.error.kind.ErrorKind.TheVariants.{DisplayHelp, DisplayVersion, OutOfMemory}
 use Rattle.age_io.specs.{SinkView}
 use Rattle.age_io.specs.Supply.{Supply}
 use Rattle.age_io.specs.Taken.{Appends}
-use Rattle.age_intake.specs.{Ports}
 use Rattle.age_inspection.specs.{Inspects, IsReport}
 use Rattle.age_inspection.specs.declared.report.Report.{Report}
 use Rattle.age_fileset.specs.{CameSince, Does}
@@ -19,8 +20,10 @@ use Rattle.age_command.specs.declared.ending.Ending.{Ending}
 use Rattle.age_outputs.specs.Acts.{Acts}
 use Rattle.age_outputs.specs.declared.interruption.Unfinished.{Unfinished}
 use Rattle.age_outputs.specs.declared.interruption.Unfinished.TheVariants.{Ended}
-use Rattle.age_cli.specs.Plain.{IsApart, IsMadeBy, World}
 use Rattle.age_cli.specs.Printing.{PrintsReport, ReportsAs, ReportsFile}
+use Rattle.age_cli.specs.Runs.{IsApart, IsMadeBy, IsCausedBy, World}
+use Rattle.age_cli.specs.declared.error.RunError.{RunError}
+use Rattle.age_cli.specs.declared.error.RunError.TheVariants.{Words, Unread, Ended as RanSo}
 
 -- a refusal that isn't one: help or the version is asked for
 abbrev pub IsForOutput : ErrorKind → Type 0
@@ -37,7 +40,7 @@ pub record IsInspected (size : Option ℕ) (old new : Supply) (r : Report) : Typ
   pub whole : (bytes : List ℕ) → old.left ≡ Some bytes → IfSome size (λ n. n ≡ length bytes)
       → IsReport bytes r
 
--- ---- What a run does of what its words ask for, with the ports of its files.
+-- ---- What a run does of what its words ask for.
 
 -- a text was written, and sent on
 abbrev pub Prints : (old new : SinkView) → Type 0
@@ -47,36 +50,43 @@ Prints old new = (text : List ℕ) × Appends old.taken new.taken text × (new.f
 abbrev pub IsQuiet : (before after : World) → Type 0
 IsQuiet before after = (after.input ≡ before.input) × (after.output ≡ before.output)
 
--- `IsPorts` says which are the ports of the files.
-module _ (words : List Text) (IsPorts : Ports → Type 0) (before after : World)
-    (ended : Result (Unit {0}) Ending) where
+-- Why words that were refused with this error weren't obeyed: for that, unless memory ran out; or a fault.
+abbrev pub IsRefusedBy : Error → RunError → Type 0
+IsRefusedBy error (Words e) = (e ≡ error) × (kind_of error ≢ OutOfMemory)
+IsRefusedBy error Unread = ⊥
+IsRefusedBy error (RanSo ending) = Unit {0}
+
+module _ (words : List Text) (before after : World) where
   -- `inspect` reported the input, which it read to its end, or its file. Neither it nor a drill puts
   -- anything under a name; and others read no input and print nothing.
-  abbrev pub DoesOther : Request → Type 0
-  DoesOther (Inspect None) = (after.files ≡ before.files) × OnOk ended
+  abbrev pub DoesOther : Request → Result (Unit {0}) Ending → Type 0
+  DoesOther (Inspect None) ended = (after.files ≡ before.files) × OnOk ended
       (PrintsReport (Inspects before.input.supply after.input.supply) before.output after.output)
-  DoesOther (Inspect (Some name)) = Does before.files after.files × OnOk ended
+  DoesOther (Inspect (Some name)) ended = Does before.files after.files × OnOk ended
       (PrintsReport (ReportsFile (CameSince before.files after.files) name.now) before.output after.output)
-  DoesOther (Drill d) = Does before.files after.files
-  DoesOther other = IsQuiet before after
+  DoesOther (Drill d) ended = Does before.files after.files
+  DoesOther other ended = IsQuiet before after
 
   -- Words that make a request are obeyed. No words ask for a report of the input.
-  pub record DoesRequest : Type 0 where
+  pub record DoesRequest (ended : Result (Unit {0}) Ending) : Type 0 where
     pub asked : Request
     pub made : IsMadeBy words asked
     pub apart : IsApart asked
     -- What was done with files.
-    pub acts : Acts IsPorts asked before.files after.files ended
+    pub acts : Acts asked before.files after.files ended
     -- What was written to the output.
-    pub answers : DoesOther asked
+    pub answers : DoesOther asked ended
 
-  -- Other words are refused, unless help or the version is asked for.
-  pub record Declines : Type 0 where
+  -- Other words are refused, unless help or the version is asked for; and so are names that are equal.
+  pub record Declines (ended : Result (Unit {0}) RunError) : Type 0 where
     pub done : OnOk ended ((words ≢ []) × IsForHelp words × Prints before.output after.output)
+    pub cause : IfErr ended (IsCausedBy words)
     -- No file was opened, made or changed.
     pub untouched : after.files ≡ before.files
     pub quiet : (IsForHelp words → ⊥) → IsQuiet before after
 
   -- A run did one of these, of its words.
-  abbrev pub Obeys : Type 0
-  Obeys = DoesRequest ⊎ Declines
+  abbrev pub Obeys : Result (Unit {0}) RunError → Type 0
+  Obeys (Ok done) = DoesRequest (Ok done) ⊎ Declines (Ok done)
+  Obeys (Err (RanSo e)) = DoesRequest (Err e) ⊎ Declines (Err (RanSo e))
+  Obeys (Err other) = Declines (Err other)

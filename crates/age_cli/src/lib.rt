@@ -9,6 +9,7 @@
 //! and `drill` is in `age_drill`.
 #![tactic(auto)]
 
+mod error;
 mod inspect_command;
 mod laws;
 mod names;
@@ -24,5 +25,6 @@ pub use age_fileset::{
 };
 pub use age_io::{Failed, MemSink, MemSource, Meter, Sink, Source};
 pub use age_options::{ClobberOption, Durability};
+pub use error::RunError;
 pub use laws::runs_keep_files;
 pub use program::{read_words, run, run_words, status};

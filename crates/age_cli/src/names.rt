@@ -2,7 +2,7 @@
 
 ghost use Rattle.std.specs.Prelude.{◌≡◌, IfNone, IfSome, Some, true};
 ghost use Rattle.age_cli_args.specs.{option_text};
-ghost use Rattle.age_cli.specs.Plain.{AreApart, IsApart, IsOutputApart, IsSaveApart};
+ghost use Rattle.age_cli.specs.Runs.{AreApart, IsApart, IsOutputApart, IsSaveApart};
 
 use age_cli_args::{Decrypting, Paths, Request};
 

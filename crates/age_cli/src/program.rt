@@ -1,13 +1,15 @@
 //! The program, over arguments, files, a source and sinks.
 
-ghost use Rattle.std.specs.Prelude.{◌≡◌, IsOk, List, OnOk, Result};
+ghost use Rattle.std.specs.Prelude.{◌≡◌, IfErr, IsOk, List, OnOk, Result};
 ghost use Rattle.clap.specs.Words.{Text, kind_of};
 ghost use Rattle.clap.specs.Walk.{texts};
-ghost use Rattle.age_command.specs.declared.ending.Ending.{Ending};
-ghost use Rattle.age_outputs.specs.Acts.{Finally, PortsOf};
-ghost use Rattle.age_cli.specs.{IsApart, IsMadeBy, IsReadOf, Runs, status_by};
-ghost use Rattle.age_cli.specs.inner.{IsForOutput, Obeys, Prints, ended_so};
+ghost use Rattle.age_outputs.specs.Acts.{Finally};
+ghost use Rattle.age_cli.specs.declared.error.RunError.{RunError};
+ghost use Rattle.age_cli.specs.declared.error.RunError.TheVariants.{Ended};
+ghost use Rattle.age_cli.specs.Runs.{IsApart, IsMadeBy, IsReadOf, Runs, status_by};
+ghost use Rattle.age_cli.specs.inner.{DoesRequest, IsForOutput, IsRefusedBy, Obeys, Prints, ended_so};
 
+use crate::error::RunError;
 use crate::inspect_command::{report, report_file};
 use crate::names::find_shared_name;
 use age_cli_args::{Request, read_request};
@@ -22,21 +24,22 @@ use clap::error::ErrorKind;
 use std::alloc::Global;
 
 /// Help and the version go to the output if asked for; other words are refused.
-fn answer<'w, O: Sink>(alloc: Global, error: Error, output: &mut O) -> Result<(), Ending<'w>>
+fn answer<'w, O: Sink>(alloc: Global, error: Error, output: &mut O) -> Result<(), RunError<'w>>
     ensures asked { IsOk result → IsForOutput (kind_of error) }
+    ensures refused { IfErr result (IsRefusedBy error) }
     ensures prints { OnOk result (Prints (O.view output.old) (O.view output.new)) }
     ensures quiet { (IsForOutput (kind_of error) → ⊥) → O.view output.new ≡ O.view output.old }
 {
     match error.kind() {
-        ErrorKind::OutOfMemory => Err(Ending::from(FileFault::Memory)),
+        ErrorKind::OutOfMemory => Err(RunError::from(FileFault::Memory)),
         ErrorKind::DisplayHelp | ErrorKind::DisplayVersion => {
             let Ok(text) = error.to_string(alloc) else {
-                return Err(Ending::from(FileFault::Memory));
+                return Err(RunError::from(FileFault::Memory));
             };
             put_bytes(output, text.as_bytes())?;
             Ok(flush_all(output)?)
         }
-        _ => Err(Ending::Words(error)),
+        _ => Err(RunError::Words(error)),
     }
 }
 
@@ -60,8 +63,7 @@ fn obey<'w, F: FileSet<'w>, I: Source, O: Sink, P: Meter>(
     progress: &mut P,
 ) -> Result<(), Unfinished<'w>>
     requires apart { IsApart request.now }
-    ensures { (words : List Text) → IsMadeBy words request.now → Finally (λ after. Obeys words
-        (PortsOf F.In.view F.Out.view)
+    ensures { (words : List Text) → IsMadeBy words request.now → Finally (λ after. DoesRequest words
         (record { files = F.view files.old; input = I.view input.old; output = O.view output.old })
         (record { files = after; input = I.view input.new; output = O.view output.new }))
         (F.view files.new) result }
@@ -76,6 +78,14 @@ fn obey<'w, F: FileSet<'w>, I: Source, O: Sink, P: Meter>(
     }
 }
 
+/// Reports why a command isn't done.
+fn refuse<'w, E: Sink>(ending: Ending<'w>, faults: &mut E) -> RunError<'w>
+    ensures { result ≡ Ended ending.entry }
+{
+    report_ending(faults, &ending);
+    RunError::Ended(ending)
+}
+
 /// Does what is asked, and reports to `faults` why it isn't done, if it isn't.
 fn perform<'w, F: FileSet<'w>, I: Source, O: Sink, E: Sink, P: Meter>(
     alloc: Global,
@@ -85,9 +95,8 @@ fn perform<'w, F: FileSet<'w>, I: Source, O: Sink, E: Sink, P: Meter>(
     output: &mut O,
     faults: &mut E,
     progress: &mut P,
-) -> Result<(), Ending<'w>>
+) -> Result<(), RunError<'w>>
     ensures obeys { (words : List Text) → IsMadeBy words request.now → Obeys words
-        (PortsOf F.In.view F.Out.view)
         (record { files = F.view files.old; input = I.view input.old; output = O.view output.old })
         (record { files = F.view files.new; input = I.view input.new; output = O.view output.new })
         result }
@@ -96,44 +105,53 @@ fn perform<'w, F: FileSet<'w>, I: Source, O: Sink, E: Sink, P: Meter>(
     if let Some(name) = find_shared_name(request) {
         let both = ErrorContext::Twice(name, Some(name));
         let refused = UsageError::new(Usage::SameFile, both);
-        return reported(alloc, Err(Ending::Usage(refused)), faults);
+        return Err(refuse(Ending::Usage(refused), faults));
     }
     match obey(alloc, request, files, input, output, progress) {
         Ok(()) => Ok(()),
-        Err(unfinished) => Err(conclude(alloc, files, unfinished, faults)),
+        Err(unfinished) => Err(RunError::Ended(conclude(alloc, files, unfinished, faults))),
     }
 }
 
-/// The status of the program for how it ended: 0 if all was done, 1 on a fault, 2 on a bad command
-/// line.
-pub fn status(ended: &Result<(), Ending<'_>>) -> u8
+/// Returns the status of the program for how a run ended: 0 if all was done, 1 on a fault, 2 on a bad
+/// command line.
+pub fn status(ended: &Result<(), RunError<'_>>) -> u8
     ensures { result ≡ status_by ended.now }
 {
     match ended {
         Ok(()) => 0,
-        Err(Ending::Words(_) | Ending::Usage(_)) => 2,
-        Err(Ending::Fault(_) | Ending::Unsaved(_, _)) => 1,
+        Err(RunError::Words(_) | RunError::Unread | RunError::Ended(Ending::Usage(_))) => 2,
+        Err(RunError::Ended(Ending::Fault(_) | Ending::Unsaved(_, _))) => 1,
     }
 }
 
 /// Reports why words weren't obeyed, if they weren't. What the parser of command lines refuses is left
 /// to the caller, who may know more to say of it.
 fn reported<'w, E: Sink>(
-    alloc: Global,
-    answered: Result<(), Ending<'w>>,
+    answered: Result<(), RunError<'w>>,
     faults: &mut E,
-) -> Result<(), Ending<'w>>
+) -> Result<(), RunError<'w>>
     ensures same { result ≡ answered.entry }
     ensures silent { OnOk result (E.view faults.new ≡ E.view faults.old) }
 {
     match answered {
         Ok(()) => Ok(()),
-        Err(Ending::Words(error)) => Err(Ending::Words(error)),
-        Err(ending) => {
-            report_ending(alloc, faults, &ending);
-            Err(ending)
+        Err(RunError::Words(error)) => Err(RunError::Words(error)),
+        Err(RunError::Unread) => {
+            let _ = send_line(faults, b"age_tool: bad command line\n");
+            Err(RunError::Unread)
+        }
+        Err(RunError::Ended(ending)) => {
+            report_ending(faults, &ending);
+            Err(RunError::Ended(ending))
         }
     }
+}
+
+/// Sends a line.
+fn send_line<E: Sink>(faults: &mut E, line: &[u8]) -> Result<(), FileFault> {
+    put_bytes(faults, line)?;
+    Ok(flush_all(faults)?)
 }
 
 /// What the words after the program's name ask for: none ask for a report of the input.
@@ -174,7 +192,7 @@ pub fn run_words<'w, F: FileSet<'w>, I: Source, O: Sink, E: Sink, P: Meter>(
     output: &mut O,
     faults: &mut E,
     progress: &mut P,
-) -> Result<(), Ending<'w>>
+) -> Result<(), RunError<'w>>
     requires read { IsReadOf (texts words.now) read }
     ensures runs { Runs (texts words.now)
         (record { files = F.view files.old; input = I.view input.old; output = O.view output.old })
@@ -184,24 +202,26 @@ pub fn run_words<'w, F: FileSet<'w>, I: Source, O: Sink, E: Sink, P: Meter>(
 {
     match read {
         Ok(Some(request)) => perform(alloc, &request, files, input, output, faults, progress),
-        Ok(None) => reported(alloc, Err(Ending::from(Usage::Unread)), faults),
-        Err(error) => {
-            let answered = answer(alloc, error, output);
-            reported(alloc, answered, faults)
-        }
+        Ok(None) => reported(Err(RunError::Unread), faults),
+        Err(error) => reported(answer(alloc, error, output), faults),
     }
 }
 
-/// Reports words that were refused.
-fn report_words<'w, E: Sink>(alloc: Global, ended: &Result<(), Ending<'w>>, faults: &mut E)
+/// Sends the parser's text of an error.
+fn send_words<E: Sink>(alloc: Global, error: &Error, faults: &mut E) -> Result<(), FileFault> {
+    let text = error.to_string(alloc)?;
+    send_line(faults, text.as_bytes())
+}
+
+/// Reports words that the parser refused.
+fn report_words<'w, E: Sink>(alloc: Global, ended: &Result<(), RunError<'w>>, faults: &mut E)
     ensures { OnOk ended.now (E.view faults.new ≡ E.view faults.old) }
 {
     match ended {
-        Ok(()) => {}
-        Err(ending) => match ending {
-            Ending::Words(_) => report_ending(alloc, faults, ending),
-            _ => {}
-        },
+        Err(RunError::Words(error)) => {
+            let _ = send_words(alloc, error, faults);
+        }
+        _ => {}
     }
 }
 
@@ -217,7 +237,7 @@ pub fn run<'w, F: FileSet<'w>, I: Source, O: Sink, E: Sink, P: Meter>(
     faults: &mut E,
     progress: &mut P,
 ) -> u8
-    ensures runs { (ended : Result (Unit {0}) Ending) × (result ≡ status_by ended)
+    ensures runs { (ended : Result (Unit {0}) RunError) × (result ≡ status_by ended)
         × Runs (texts words.now)
         (record { files = F.view files.old; input = I.view input.old; output = O.view output.old })
         (record { files = F.view files.new; input = I.view input.new; output = O.view output.new })

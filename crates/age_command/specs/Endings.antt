@@ -1,10 +1,10 @@
--- How a run ends if it isn't done.
+-- How a command ends that isn't done.
 use Rattle.std.specs.Prelude.{Bool, true, false}
 use Rattle.age_command.specs.declared.ending.Ending.{Ending}
-use Rattle.age_command.specs.declared.ending.Ending.TheVariants.{Fault, Unsaved}
+use Rattle.age_command.specs.declared.ending.Ending.TheVariants.{Fault, Unsaved, Usage}
 
--- the command line was refused
+-- it can't be done as it was asked
 abbrev pub is_usage : Ending → Bool
 is_usage (Fault fault) = false
 is_usage (Unsaved fault second) = false
-is_usage other = true
+is_usage (Usage error) = true

@@ -9,7 +9,6 @@ use age_fault::FileFault;
 use age_fileset::{ErrorContext, FileError, OpenError, OpenFault};
 use age_io::Unsent;
 use age_position::Position;
-use clap::Error;
 use std::marker::Model;
 
 /// What is wrong with a command line that the parser of command lines accepts.
@@ -37,8 +36,6 @@ pub enum Usage {
     BadScriptLine(usize),
     /// The payload has more than 16,777,216 bytes.
     PayloadTooLong,
-    /// No request could be read from arguments that were accepted.
-    Unread,
 }
 
 /// What is wrong with a command line, and what that is about. Contracts see the first alone.
@@ -126,12 +123,10 @@ impl<'w> UnsavedError<'w> {
     }
 }
 
-/// Why a run failed.
+/// Why a command isn't done.
 #[derive(Drop)]
 pub enum Ending<'w> {
-    /// The parser of command lines refuses the arguments.
-    Words(Error),
-    /// The arguments are accepted, but can't be obeyed.
+    /// What was asked can't be done so.
     Usage(UsageError<'w>),
     /// A fault.
     Fault(FileError<'w>),

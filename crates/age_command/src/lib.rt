@@ -2,9 +2,7 @@
 //! options name), the first bytes of a source, and how a command ends, with the lines that report
 //! it.
 //!
-//! Its definitions say in which order a command opens, creates and replaces the files that its
-//! arguments name, why it may end before its output is written, which line reports each ending, and
-//! what a sink holds after it.
+//! Its definitions say what the options and the files that they name make.
 #![tactic(auto)]
 
 mod choice;

@@ -1,4 +1,4 @@
-//! Reports why a run ended.
+//! Reports why a command isn't done.
 
 ghost use Rattle.std.specs.Prelude.{true};
 ghost use Rattle.age_io.specs.{holds};
@@ -9,7 +9,6 @@ use age_fault::FileFault;
 use age_io::{Failed, Failures, Sink, flush_all};
 use arrayvec::ArrayVec;
 use itoa::Buffer;
-use std::alloc::Global;
 
 /// A line on the stack, so that it goes out in one put and lines of several runs don't mix. The
 /// longest has 54 bytes.
@@ -121,18 +120,12 @@ fn put_usage<E: Sink>(faults: &mut E, usage: Usage) -> Result<(), FileFault> {
         Usage::ScriptTooLong => put_bytes(faults, b"age_tool: script too long\n"),
         Usage::BadScriptLine(line) => put_whole_script_line(faults, line as u64),
         Usage::PayloadTooLong => put_bytes(faults, b"age_tool: payload too long\n"),
-        Usage::Unread => put_bytes(faults, b"age_tool: bad command line\n"),
     }
 }
 
-/// The text or the lines of an ending.
-fn put_ending<E: Sink>(
-    alloc: Global,
-    faults: &mut E,
-    ending: &Ending<'_>,
-) -> Result<(), FileFault> {
+/// The lines of an ending.
+fn put_ending<E: Sink>(faults: &mut E, ending: &Ending<'_>) -> Result<(), FileFault> {
     match ending {
-        Ending::Words(error) => put_bytes(faults, error.to_string(alloc)?.as_bytes()),
         Ending::Usage(error) => put_usage(faults, error.usage()),
         Ending::Fault(error) => put_fault(faults, error.fault()),
         Ending::Unsaved(error, second) => {
@@ -143,12 +136,8 @@ fn put_ending<E: Sink>(
 }
 
 /// The same, flushed.
-fn send_ending<E: Sink>(
-    alloc: Global,
-    faults: &mut E,
-    ending: &Ending<'_>,
-) -> Result<(), FileFault> {
-    put_ending(alloc, faults, ending)?;
+fn send_ending<E: Sink>(faults: &mut E, ending: &Ending<'_>) -> Result<(), FileFault> {
+    put_ending(faults, ending)?;
     Ok(flush_all(faults)?)
 }
 
@@ -158,7 +147,7 @@ pub fn report_fault<E: Sink>(faults: &mut E, fault: FileFault) -> Result<(), Fil
     Ok(flush_all(faults)?)
 }
 
-/// Reports why a run ended, if the sink takes it.
-pub fn report_ending<E: Sink>(alloc: Global, faults: &mut E, ending: &Ending<'_>) {
-    let _ = send_ending(alloc, faults, ending);
+/// Reports why a command isn't done, if the sink takes it.
+pub fn report_ending<E: Sink>(faults: &mut E, ending: &Ending<'_>) {
+    let _ = send_ending(faults, ending);
 }

@@ -1,4 +1,4 @@
-//! How a run ended, and what may surprise.
+//! Why a command isn't done, and what may surprise.
 
 use crate::fault::explain_fault;
 use crate::position::{explain_position, explain_unsaved};
@@ -23,33 +23,33 @@ pub struct RunContext<'w> {
     pub output: ErrorContext<'w>,
 }
 
-/// Says on standard error why a run stopped, and what to do, in one line; whether a position was
-/// saved; or what is wrong with what was asked. Then, however it ended, what may surprise.
-pub fn explain<'w>(rt: &HostRuntime, ended: &Result<(), Ending<'w>>, run: &RunContext<'w>) {
-    match ended {
-        Ok(()) => explain_work_factor(rt, run),
-        Err(Ending::Words(_)) => {}
-        Err(Ending::Usage(error)) => explain_usage(rt, error, &run.asked),
-        Err(Ending::Fault(error)) => {
+/// Says on standard error why a command isn't done, if it isn't, and what to do, in one line; whether
+/// a position was saved; or what is wrong with what was asked. Then, however it ended, what may
+/// surprise.
+pub fn explain<'w>(rt: &HostRuntime, ending: Option<&Ending<'w>>, run: &RunContext<'w>) {
+    match ending {
+        None => explain_work_factor(rt, run),
+        Some(Ending::Usage(error)) => explain_usage(rt, error, &run.asked),
+        Some(Ending::Fault(error)) => {
             explain_fault(rt, error, run);
             explain_position(rt, run);
         }
-        Err(Ending::Unsaved(error, second)) => {
+        Some(Ending::Unsaved(error, second)) => {
             explain_fault(rt, error, run);
             explain_unsaved(rt, second);
         }
     }
     explain_words_taken(rt, &run.asked);
     explain_files(rt, &run.notes);
-    if !is_about_passphrase(ended) {
+    if !is_about_passphrase(ending) {
         explain_typing(rt, run);
     }
 }
 
 /// Whether the passphrase's file was refused.
-fn is_about_passphrase(ended: &Result<(), Ending<'_>>) -> bool {
-    match ended {
-        Err(Ending::Usage(error)) => error.usage() == Usage::BadPassphraseFile,
+fn is_about_passphrase(ending: Option<&Ending<'_>>) -> bool {
+    match ending {
+        Some(Ending::Usage(error)) => error.usage() == Usage::BadPassphraseFile,
         _ => false,
     }
 }

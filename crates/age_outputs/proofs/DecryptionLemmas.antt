@@ -5,26 +5,28 @@ use Rattle.std.proofs.lemmas.Result.{on_ok_weaker, IfErr-weaker}
 use Rattle.std.specs.Prelude.{is_some, IfSome, IsSomeAnd, option_map}
 use Rattle.clap.specs.Words.{Text}
 use Rattle.age_io.specs.{SinkView, SourceView}
-use Rattle.age_opening.specs.{Beginning, DecryptEnds, DecryptStops, DecryptsMarked, FindsMarks, IsMarked}
-use Rattle.age_opening.specs.{MarksView, Resumption, Run, from_either}
-use Rattle.age_intake.specs.{Ports, ports}
-use Rattle.age_opening.specs.declared.decryption.Done.{Done}
-use Rattle.age_opening.specs.declared.decryption.Stopped.{Stopped}
 use Rattle.age_position.specs.declared.position.Position.{Position}
 use Rattle.age_position.specs.declared.position.PositionPolicy.{PositionPolicy}
 use Rattle.age_position.specs.declared.position.PositionPolicy.TheVariants.{Kept, Dropped}
+use Rattle.age_intake.specs.{Ports, ports}
+use Rattle.age_opening.specs.{Beginning, DecryptEnds, DecryptStops, DecryptsMarked, FindsMarks, IsMarked}
+use Rattle.age_opening.specs.{MarksView, Resumption, Run, from_either}
+use Rattle.age_opening.specs.declared.decryption.Done.{Done}
+use Rattle.age_opening.specs.declared.decryption.Stopped.{Stopped}
 use Rattle.age_fileset.specs.{FilesView, Outcome, Found, Gave, Settled, reading_of}
 use Rattle.age_cli_args.specs.{option_text}
 use Rattle.age_command.specs.{allows_by, refuses_by}
 use Rattle.age_command.specs.declared.ending.Ending.{Ending}
 use Rattle.age_command.specs.declared.identity.Identity.{Identity}
-use Rattle.age_outputs.specs.{Engine, GoesOn, Reached, decrypt_engine, kept_for, start_of, EndsText, IsPlaced}
-use Rattle.age_outputs.specs.{StopsText, PortsOf, missing_at}
+use Rattle.age_outputs.proofs.EngineLemmas.{the_some}
+use Rattle.age_outputs.specs.{Reached, missing_at}
+use Rattle.age_outputs.specs.Left.{start_of}
 use Rattle.age_outputs.specs.declared.decrypt_command.OldText.{OldText}
 use Rattle.age_outputs.specs.declared.output.Writing.{Writing}
 use Rattle.age_outputs.specs.inner.{Concludes, IsNewOld, IsPlacedBy, IsSameOld, RunsEngine, earlier_of}
 use Rattle.age_outputs.specs.inner.{end_of, goes_on, own_of}
-use Rattle.age_outputs.proofs.EngineLemmas.{the_some}
+use Rattle.age_outputs.specs.inner.Engines.{Engine, GoesOn, decrypt_engine, kept_for, EndsText, IsPlaced}
+use Rattle.age_outputs.specs.inner.Engines.{StopsText, PortsOf}
 
 -- ---- The position of a stop, by the marks of its run.
 

@@ -1,13 +1,14 @@
 -- How a command ended, or will when it is concluded.
 use Rattle.std.proofs.Common.{◌≡◌, subst, sym, inl, Result, Ok, Err}
-use Rattle.std.specs.Prelude.{IsErr, IsErrAnd}
 use Rattle.std.proofs.lemmas.Result.{IfErr-weaker, on_ok_weaker}
-use Rattle.age_intake.specs.{Ports}
+use Rattle.std.specs.Prelude.{IfSome, IsErr, IsErrAnd}
 use Rattle.age_fileset.specs.{FilesView}
 use Rattle.age_cli_args.specs.declared.request.Request.{Request}
 use Rattle.age_command.specs.declared.ending.Ending.{Ending}
-use Rattle.age_outputs.specs.{HasNotBegun}
+use Rattle.age_outputs.proofs.DecryptionLemmas.{if_some}
 use Rattle.age_outputs.specs.Acts.{Acts, Concluding, Finally}
+use Rattle.age_outputs.specs.Done.{paths_of}
+use Rattle.age_outputs.specs.Left.{Spares}
 use Rattle.age_outputs.specs.declared.interruption.Unfinished.{Unfinished}
 use Rattle.age_outputs.specs.declared.interruption.Unfinished.TheVariants.{Ended}
 
@@ -34,6 +35,6 @@ finally_as r so p = record {
 }
 
 -- a command that ended before its engine ran
-pub acts_before : {IsPorts : Ports → Type 0} {asked : Request} {before after : FilesView} (r : Result (Unit {0}) Unfinished) (e : Ending)
-    → IsErr r × IsErrAnd r (λ u. u ≡ Ended e) → HasNotBegun before after → Finally (λ files. Acts IsPorts asked before files) after r
-acts_before r e is none = ended_finally r e is (record { done = tt; stopped = inl none })
+pub acts_before : (asked : Request) {before after : FilesView} (r : Result (Unit {0}) Unfinished) (e : Ending) → IsErr r × IsErrAnd r (λ u. u ≡ Ended e)
+    → IfSome (paths_of asked) (λ p. Spares p.to.now before after) → Finally (Acts asked before) after r
+acts_before asked r e is spares = ended_finally r e is (record { done = tt; stopped = if_some (paths_of asked) (λ p s. inl s) spares })

@@ -3,31 +3,32 @@ use Rattle.std.proofs.Common.{◌≡◌, ◌∙◌, ◌⊎◌, ◌++◌, ◌∷�
 use Rattle.std.proofs.Common.{true≢false, List, [], Option, Some, None, Result, Ok, Err, OnOk, IfOk, IfErr}
 use Rattle.std.specs.Prelude.{IsSomeAnd, IfSome, MatchOption, is_some, ◌≢◌, Contains, Bool, false}
 use Rattle.clap.specs.Words.{Text}
-use Rattle.age_intake.specs.{Ports}
-use Rattle.age_sealing.specs.{SecretView, EncryptsFront}
-use Rattle.age_sealing.specs.declared.encryption.Written.{Written}
-use Rattle.age_sealing.specs.Encrypts.{Encrypts}
+use Rattle.age_options.specs.declared.ClobberOption.TheVariants.{Refused}
 use Rattle.age_fault.specs.declared.fault.FileFault.{FileFault}
 use Rattle.age_fault.specs.declared.fault.FileFault.TheVariants.{Write}
-use Rattle.age_fileset.specs.{FilesView, Outcome, Absent, Settled, Put, Entry, entry, PutsOnly, CameSince}
-use Rattle.age_fileset.specs.declared.files.Missing.TheVariants.{Fails}
-use Rattle.age_fileset.proofs.{grows_then}
-use Rattle.age_options.specs.declared.ClobberOption.TheVariants.{Refused}
-use Rattle.age_cli_args.specs.declared.request.Paths.{Paths}
-use Rattle.age_command.specs.declared.ending.Ending.{Ending}
+use Rattle.age_intake.specs.{Ports}
+use Rattle.age_sealing.specs.{SecretView, EncryptsFront}
+use Rattle.age_sealing.specs.Encrypts.{Encrypts}
+use Rattle.age_sealing.specs.declared.encryption.Written.{Written}
+use Rattle.age_calls.proofs.LawLemmas.{calls_answered}
 use Rattle.age_calls.specs.{EndedFile, IsAtName, OutFile, TouchesItself, TouchesFile, FileCall, Opened}
 use Rattle.age_calls.specs.{opening_of, is_waited, AllAnswered}
+use Rattle.age_calls.specs.Disk.{Disk}
+use Rattle.age_calls.specs.Ends.{OpensDevice}
 use Rattle.age_calls.specs.declared.opening.Kind.TheVariants.{Regular}
 use Rattle.age_calls.specs.declared.opening.Opening.{Opening}
 use Rattle.age_calls.specs.declared.opening.Opening.TheVariants as way
-use Rattle.age_calls.specs.Disk.{Disk}
-use Rattle.age_calls.specs.Ends.{OpensDevice}
-use Rattle.age_calls.proofs.LawLemmas.{calls_answered}
-use Rattle.age_outputs.specs.Acts.{IsAnsweredOnce, Stopping, Unended}
-use Rattle.age_outputs.specs.{WasRead, Engine, encrypt_engine, Returned, HasEngineEnded, HasEngineStopped}
-use Rattle.age_outputs.specs.{Reached}
-use Rattle.age_outputs.specs.inner.{AreNew, sealing_end, Concludes, IsLeft, IsPut, IsUnended, SavesStop}
+use Rattle.age_fileset.proofs.{grows_then}
+use Rattle.age_fileset.specs.{FilesView, Outcome, Absent, Settled, Put, Entry, entry, PutsOnly, CameSince}
+use Rattle.age_fileset.specs.declared.files.Missing.TheVariants.{Fails}
+use Rattle.age_cli_args.specs.declared.request.Paths.{Paths}
+use Rattle.age_command.specs.declared.ending.Ending.{Ending}
 use Rattle.age_outputs.proofs.PutLemmas.{due_as, put_came}
+use Rattle.age_outputs.specs.{WasRead, Reached}
+use Rattle.age_outputs.specs.Done.{IsAnsweredOnce}
+use Rattle.age_outputs.specs.inner.{AreNew, sealing_end, Concludes, IsLeft, IsPut, IsUnended, SavesStop}
+use Rattle.age_outputs.specs.inner.Engines.{Stopping, Unended, Engine, encrypt_engine, Returned}
+use Rattle.age_outputs.specs.inner.Engines.{HasEngineEnded, HasEngineStopped}
 
 -- ---- What an engine promises, by how it ended.
 

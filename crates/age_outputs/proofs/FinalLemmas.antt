@@ -1,26 +1,31 @@
 -- What a command did whose engine ran.
-use Rattle.std.proofs.Common.{◌≡◌, ◌∙◌, [], sym, refl, inr, true, false, true≢false, ℕ, Option, None, Result}
-use Rattle.std.proofs.Common.{Ok, Err, IfOk, IfErr}
+use Rattle.std.proofs.Common.{◌≡◌, ◌∙◌, [], sym, refl, inr, true≢false, ℕ, Option, None, Result, Ok, Err}
+use Rattle.std.proofs.Common.{IfOk, IfErr}
 use Rattle.std.proofs.lemmas.Result.{on_ok_weaker, IfErr-weaker}
+use Rattle.age_options.specs.declared.ClobberOption.TheVariants.{Refused}
 use Rattle.age_fault.specs.declared.fault.FileFault.{FileFault}
-use Rattle.age_sealing.specs.{SecretView, EncryptsFront}
 use Rattle.age_intake.specs.{Ports}
-use Rattle.age_sealing.specs.declared.encryption.Written.{Written}
+use Rattle.age_sealing.specs.{SecretView, EncryptsFront}
 use Rattle.age_sealing.specs.Encrypts.{Encrypts}
+use Rattle.age_sealing.specs.declared.encryption.Written.{Written}
+use Rattle.age_fileset.proofs.{grows_by, then_came}
 use Rattle.age_fileset.specs.{FilesView, Outcome, Found, Absent, Gave, CameSince, Does, reading_of}
 use Rattle.age_fileset.specs.declared.files.Missing.TheVariants.{Fails}
-use Rattle.age_fileset.proofs.{grows_by, then_came}
-use Rattle.age_command.proofs.{always_ok}
 use Rattle.age_cli_args.specs.declared.request.Paths.{Paths}
-use Rattle.age_options.specs.declared.ClobberOption.TheVariants.{Refused}
 use Rattle.age_cli_args.specs.declared.request.Request.{Request}
+use Rattle.age_command.proofs.{always_ok}
 use Rattle.age_command.specs.declared.ending.Ending.{Ending}
-use Rattle.age_outputs.specs.Acts.{Acts}
-use Rattle.age_outputs.specs.{CameFirst, Engine, OfEngine, HasEngineEnded, HasEngineStopped, encrypt_engine}
-use Rattle.age_outputs.specs.{WasRead, Reached}
-use Rattle.age_outputs.specs.inner.{AreNew, Concludes, sealing_end, RunsEngine}
+use Rattle.age_outputs.proofs.DecryptionLemmas.{if_some}
+use Rattle.age_outputs.proofs.DoneLemmas.{leaves_asked}
 use Rattle.age_outputs.proofs.EngineLemmas.{engine_ended, engine_stopped, sealing_ends, sealing_stops}
+use Rattle.age_outputs.proofs.LeftLemmas.{left_of}
 use Rattle.age_outputs.proofs.PutLemmas.{concludes_from}
+use Rattle.age_outputs.specs.{WasRead, Reached}
+use Rattle.age_outputs.specs.Acts.{Acts}
+use Rattle.age_outputs.specs.Done.{CameFirst, paths_of}
+use Rattle.age_outputs.specs.inner.{AreNew, Concludes, sealing_end, RunsEngine}
+use Rattle.age_outputs.specs.inner.Engines.{Engine, OfEngine, HasEngineEnded, HasEngineStopped}
+use Rattle.age_outputs.specs.inner.Engines.{encrypt_engine}
 
 -- what it wrote went under the name that OUT has
 sealed_named : (s : SecretView) (before after : Ports) (end : Result Written FileFault) → IfOk end (Encrypts s before after)
@@ -65,16 +70,17 @@ module _ (IsPorts : Ports → Type 0) (asked : Request) (old mid new : FilesView
 
   pub acts_engine : IsPorts before → AreNew before → First (Found Fails p.from.now before.source.supply.left size)
       → (p.clobber ≡ Refused → First (Absent p.to.now)) → before.sink.taken.label ≡ p.to.now → RunsEngine IsPorts First Came engine p before mid new r
-      → Does old mid → ((P : Engine → Paths → Type 0) → P engine p → OfEngine IsPorts First Came asked P) → Acts IsPorts asked old new r
+      → Does old mid → ((P : Engine → Paths → Type 0) → P engine p → OfEngine IsPorts First Came asked P) → Acts asked old new r
   acts_engine before_is begun found fresh named run did of =
       let grows = grows_by old mid did in
       let late : (o : Outcome) → CameSince mid new o → Came o = then_came [] old mid new grows in
       let read : WasRead First Fails p.from.now before.source run.after.source = record { unread = begun.given; size = size; found = found; over = run.over; named = run.from } in
       record {
-        done = on_ok_weaker r (λ ended. of (λ n q. HasEngineEnded IsPorts First Came n q old new) ended)
+        done = on_ok_weaker r (λ ended. leaves_asked IsPorts old new asked (of (λ n q. HasEngineEnded IsPorts First Came n q old new) ended))
             (engine_ended IsPorts First Came engine p before run.after before_is run.after_is begun read fresh (run.named ∙ named) old mid new grows late
             run.end run.place run.ends r run.concludes);
-        stopped = IfErr-weaker r _ _ (λ e stop. inr (of (λ n q. HasEngineStopped IsPorts First Came n q e old new) stop))
+        stopped = IfErr-weaker r _ _ (λ e stop. if_some (paths_of asked) (λ q left. inr left)
+            (left_of IsPorts old new asked e (of (λ n q. HasEngineStopped IsPorts First Came n q e old new) stop)))
             (engine_stopped IsPorts First Came engine p before run.after before_is run.after_is begun read fresh (run.named ∙ named) old mid new grows late
             run.end run.place run.ends run.unended run.stops run.certain r run.concludes);
       }

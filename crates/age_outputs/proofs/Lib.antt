@@ -1,7 +1,9 @@
 pub mod DecryptionLemmas
+pub mod DoneLemmas
 pub mod EndingLemmas
 pub mod EngineLemmas
 pub mod FinalLemmas
+pub mod LeftLemmas
 pub mod OpeningLemmas
 pub mod PutLemmas
 pub mod ReadLemmas

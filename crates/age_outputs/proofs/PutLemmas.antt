@@ -11,17 +11,18 @@ use Rattle.age_fault.specs.declared.fault.FileFault.TheVariants.{Write}
 use Rattle.age_position.specs.{position_text}
 use Rattle.age_position.specs.declared.position.Position.{Position}
 use Rattle.age_calls.specs.{Closes, Discards, EndedFile, OutFile, IsThere, IsOnDisk}
+use Rattle.age_fileset.proofs.{came_then, grows_then, grows_by, then_came}
 use Rattle.age_fileset.specs.{Entry, entry, FilesView, Does, PutsOnly, CameSince, Absent, Present, Outcome}
 use Rattle.age_fileset.specs.{Put, put_as, puts_in}
-use Rattle.age_fileset.proofs.{came_then, grows_then, grows_by, then_came}
-use Rattle.age_command.specs.declared.ending.Ending.{Ending}
-use Rattle.age_outputs.specs.{IsDue, IsThereUnlessFailed, IsSaved, Reached, stop_ending}
 use Rattle.age_cli_args.specs.{option_text}
-use Rattle.age_outputs.specs.Acts.{IsConcluded, PutsRest}
+use Rattle.age_command.proofs.FileLemmas.{did_came}
+use Rattle.age_command.specs.declared.ending.Ending.{Ending}
+use Rattle.age_outputs.proofs.OpeningLemmas.{some_and}
+use Rattle.age_outputs.specs.{Reached}
+use Rattle.age_outputs.specs.Acts.{IsDue, IsSaved, IsConcluded, PutsRest}
+use Rattle.age_outputs.specs.Left.{IsThereUnlessFailed, stop_ending}
 use Rattle.age_outputs.specs.declared.interruption.Stop.{Stop}
 use Rattle.age_outputs.specs.inner.{Concludes, EndsOut, IsLeft, IsPut, LeavesOut, Saved, SavesStop}
-use Rattle.age_outputs.proofs.OpeningLemmas.{some_and}
-use Rattle.age_command.proofs.FileLemmas.{did_came}
 
 -- nothing was put
 pub grows_same : (old new : FilesView) → new.outcomes ≡ old.outcomes ++ [] → PutsOnly [] old new

@@ -1,17 +1,17 @@
 -- What was read of the files of a command, and what it makes.
 use Rattle.std.proofs.Common.{◌≡◌, ◌∙◌, ◌++◌, refl, List, ℕ, Option, Some, None, subst}
 use Rattle.std.specs.Option.{option_or}
-use Rattle.age_cli_args.specs.{option_text}
 use Rattle.clap.specs.Words.{Text}
-use Rattle.age_fileset.specs.{Outcome, HasGivenAll}
 use Rattle.age_fileset.proofs.{all_as}
-use Rattle.age_command.specs.{HoldsBytes, IsIdentity, Makes, Chooses, IsSecretGiven, MakesBy, file_of}
-use Rattle.age_command.specs.declared.identity.Identity.{Identity}
-use Rattle.age_command.specs.declared.identity.Identity.TheVariants.{ByPassphrase, ByFileKey, ByShared}
-use Rattle.age_outputs.specs.{OpensOf}
+use Rattle.age_fileset.specs.{Outcome, HasGivenAll}
+use Rattle.age_cli_args.specs.{option_text}
 use Rattle.age_cli_args.specs.declared.request.Decrypting.{Decrypting}
 use Rattle.age_cli_args.specs.declared.request.IdentityOptions.{IdentityOptions}
+use Rattle.age_command.specs.{HoldsBytes, IsIdentity, Makes, Chooses, IsSecretGiven, MakesBy, file_of}
 use Rattle.age_command.specs.declared.choice.Choice.{Choice}
+use Rattle.age_command.specs.declared.identity.Identity.{Identity}
+use Rattle.age_command.specs.declared.identity.Identity.TheVariants.{ByPassphrase, ByFileKey, ByShared}
+use Rattle.age_outputs.specs.inner.Engines.{OpensOf}
 
 -- what a file gave, if one is named
 secret_of_file : {Came : Outcome → Type 0} (file : Option Text) (held : Option (List ℕ)) → IsSecretGiven Came file held → (name : Text) (bytes : List ℕ)

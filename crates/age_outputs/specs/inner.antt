@@ -18,7 +18,9 @@ use Rattle.age_command.specs.{without_line_feed}
 use Rattle.age_keys.specs.{IsAllowed, PassphraseIdentity}
 use Rattle.age_command.specs.declared.ending.Ending.{Ending}
 use Rattle.age_calls.specs.{Closes, EndedFile, IsAtName, OutFile, TouchesItself, IsUntouched}
-use Rattle.age_outputs.specs.Acts.{stop_ending, IsDue, IsSaved, Engine, HasNotBegun, IsThereUnlessFailed}
+use Rattle.age_outputs.specs.Acts.{IsDue, IsSaved}
+use Rattle.age_outputs.specs.Left.{stop_ending, IsThereUnlessFailed, Spares}
+use Rattle.age_outputs.specs.inner.Engines.{Engine}
 use Rattle.age_outputs.specs.declared.interruption.Reached.{Reached}
 use Rattle.age_chunk.specs.{chunk_length}
 use Rattle.age_opening.specs.{IsMarked, MarksView, Resumption, resumption}
@@ -32,6 +34,7 @@ use Rattle.age_keys.specs.declared.random.FileRandom.{FileRandom}
 use Rattle.age_cli_args.specs.declared.request.Encrypting.{Encrypting}
 use Rattle.age_outputs.specs.declared.decrypt_command.OldText.{OldText}
 use Rattle.age_outputs.specs.declared.encrypt_command.Material.{Material}
+pub mod Engines
 
 -- ---- How a part of a command ended.
 
@@ -180,11 +183,17 @@ IsNewOld read size Came e = ((read e.source).supply.given ≡ [])
 
 -- ---- How a command ends before its output is written.
 
--- files were opened or made, and this holds of them; or it ended, with the files unchanged
+-- files were opened and read, and this holds of what came of it, or it failed
 pub record OpensFiles {A : Type 0} (old new : FilesView) (IsNew : A → Type 0) (result : Result A Ending)
     : Type 0 where
   pub done : IfOk result (λ x. IsNew x × Does old new)
-  pub fails : IfErr result (λ e. HasNotBegun old new)
+  pub fails : IfErr result (λ e. Does old new)
+
+-- OUT was opened or made too, or no output was touched but an empty new one of its name
+pub record OpensOut {A : Type 0} (to : Text) (old new : FilesView) (IsNew : A → Type 0)
+    (result : Result A Ending) : Type 0 where
+  pub done : IfOk result (λ x. IsNew x × Does old new)
+  pub fails : IfErr result (λ e. Spares to old new)
 
 -- a source that gave nothing so far, and a sink that took nothing, and of which no call failed
 pub record AreNew (p : Ports) : Type 0 where

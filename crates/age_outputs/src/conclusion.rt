@@ -3,7 +3,8 @@
 ghost use Rattle.std.specs.Prelude.{◌≡◌, ◌⊎◌, ◌≤◌, ◌<◌, Some, IfSome, option_map};
 ghost use Rattle.age_fileset.specs.{CameSince, Does, Gave, reading_of};
 ghost use Rattle.age_cli_args.specs.{option_text};
-ghost use Rattle.age_outputs.specs.{kept_for, start_of};
+ghost use Rattle.age_outputs.specs.Left.{start_of};
+ghost use Rattle.age_outputs.specs.inner.Engines.{kept_for};
 ghost use Rattle.age_outputs.specs.inner.{IsPlacedBy, earlier_of, end_of, own_of};
 
 use crate::decrypt_command::OldText;

@@ -7,8 +7,9 @@ ghost use Rattle.age_cli_args.specs.{option_text};
 ghost use Rattle.age_cli_args.specs.declared.request.Request.TheVariants.{Decrypt};
 ghost use Rattle.age_command.specs.{allows_by, refuses_by};
 ghost use Rattle.age_fileset.specs.{CameSince, FilesView, PutsOnly};
-ghost use Rattle.age_outputs.specs.Acts.{Acts, CameFirst, Finally};
-ghost use Rattle.age_outputs.specs.{OpensOf, PortsOf, decrypt_engine, kept_for};
+ghost use Rattle.age_outputs.specs.Acts.{Acts, Finally};
+ghost use Rattle.age_outputs.specs.Done.{CameFirst};
+ghost use Rattle.age_outputs.specs.inner.Engines.{OpensOf, PortsOf, decrypt_engine, kept_for};
 ghost use Rattle.age_outputs.specs.inner.{IsNewOld, IsSameOld, OpensFiles, RunsEngine, earlier_of, goes_on};
 
 use crate::conclusion::{attach_context, close_old, end_of, place_of, positions_for, start_of};
@@ -162,8 +163,7 @@ pub fn decrypt_file<'w, F: FileSet<'w>, P: Meter>(
     asked: &Decrypting<'w>,
     progress: &mut P,
 ) -> Result<(), Unfinished<'w>>
-    ensures { Finally (λ after. Acts (PortsOf F.In.view F.Out.view) (Decrypt asked.now)
-        (F.view files.old) after) (F.view files.new) result }
+    ensures { Finally (Acts (Decrypt asked.now) (F.view files.old)) (F.view files.new) result }
 {
     let writing = Writing {
         first: asked.identity.pass,

@@ -8,9 +8,9 @@ ghost use Rattle.age_command.specs.{random_name};
 ghost use Rattle.age_sealing.specs.Encrypts.{Encrypts};
 ghost use Rattle.age_sealing.specs.{EncryptsFront, IsFrontOf, SecretView};
 ghost use Rattle.age_intake.specs.{ports};
-ghost use Rattle.age_outputs.specs.Acts.{Acts, Finally, PortsOf};
+ghost use Rattle.age_outputs.specs.Acts.{Acts, Finally};
 ghost use Rattle.age_outputs.specs.inner.{GivesPassphrase, IsMaterialGiven, IsNewBy, IsRandom, OpensFiles};
-ghost use Rattle.age_outputs.specs.inner.{secret_of};
+ghost use Rattle.age_outputs.specs.inner.{OpensOut, secret_of};
 
 use crate::conclusion::attach_context;
 use crate::interruption::{Reached, Unfinished, sealing_end};
@@ -147,7 +147,7 @@ fn open_sealing<'w, F: FileSet<'w>>(
     writing: &Writing<'w>,
     material: Material,
 ) -> Result<(F::In, F::Out, Front), Ending<'w>>
-    ensures { OpensFiles (F.view files.old) (F.view files.new)
+    ensures { OpensOut writing.now.paths.to.now (F.view files.old) (F.view files.new)
         (λ r. IsFrontOf (secret_of material) r.2 × IsNewBy F.In.view F.Out.view F.size
         (CameSince (F.view files.old) (F.view files.new)) writing.now.paths r.0 r.1) result }
 {
@@ -196,8 +196,7 @@ pub fn encrypt_file<'w, F: FileSet<'w>, P: Meter>(
     asked: &Encrypting<'w>,
     progress: &mut P,
 ) -> Result<(), Unfinished<'w>>
-    ensures { Finally (λ after. Acts (PortsOf F.In.view F.Out.view) (Encrypt asked.now)
-        (F.view files.old) after) (F.view files.new) result }
+    ensures { Finally (Acts (Encrypt asked.now) (F.view files.old)) (F.view files.new) result }
 {
     let random_name = random_name(asked);
     let writing = Writing {

@@ -3,7 +3,8 @@
 ghost use Rattle.std.specs.Prelude.{◌≡◌};
 ghost use Rattle.age_fileset.specs.{CameSince, Does};
 ghost use Rattle.age_cli_args.specs.{option_text};
-ghost use Rattle.age_outputs.specs.Acts.{Concluding, IsConcluded, IsDue, stop_ending};
+ghost use Rattle.age_outputs.specs.Acts.{Concluding, IsConcluded, IsDue};
+ghost use Rattle.age_outputs.specs.Left.{stop_ending};
 ghost use Rattle.age_outputs.specs.inner.{Saved, sealing_end};
 ghost use Rattle.age_outputs.specs.declared.interruption.Unfinished.TheVariants.{Ended};
 
@@ -170,7 +171,7 @@ pub fn conclude<'w, F: FileSet<'w>, E: Sink>(
 {
     match unfinished {
         Unfinished::Ended(ending) => {
-            report_ending(alloc, faults, &ending);
+            report_ending(faults, &ending);
             ending
         }
         Unfinished::Stopped(stop) => conclude_stop(alloc, files, stop, faults),

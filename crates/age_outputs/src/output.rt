@@ -6,6 +6,7 @@ ghost use Rattle.age_cli_args.specs.{option_text};
 ghost use Rattle.age_options.specs.declared.ClobberOption.TheVariants.{Refused};
 ghost use Rattle.age_outputs.specs.Acts.{Finally};
 ghost use Rattle.age_outputs.specs.inner.{Concludes, EndsOut, IsLeft, LeavesOut, IsNewBy, OpensFiles};
+ghost use Rattle.age_outputs.specs.inner.{OpensOut};
 
 use crate::interruption::{Reached, Stop, Unfinished};
 use age_cli_args::{Paths, ProgressOption};
@@ -200,7 +201,8 @@ pub(crate) fn create_out<'w, F: FileSet<'w>>(
     files: &mut F,
     asked: &Writing<'w>,
 ) -> Result<F::Out, Ending<'w>>
-    ensures { OpensFiles (F.view files.old) (F.view files.new) (λ o. ((F.Out.view o).taken.bytes ≡ [])
+    ensures { OpensOut asked.now.paths.to.now (F.view files.old) (F.view files.new)
+        (λ o. ((F.Out.view o).taken.bytes ≡ [])
         × ((F.Out.view o).failed ≡ 0) × ((F.Out.view o).taken.label ≡ asked.now.paths.to.now)
         × (asked.now.paths.clobber ≡ Refused
         → CameSince (F.view files.old) (F.view files.new) (Absent asked.now.paths.to.now))) result }
@@ -246,7 +248,7 @@ pub(crate) fn open_both<'w, F: FileSet<'w>>(
     files: &mut F,
     asked: &Writing<'w>,
 ) -> Result<(F::In, F::Out), Ending<'w>>
-    ensures { OpensFiles (F.view files.old) (F.view files.new)
+    ensures { OpensOut asked.now.paths.to.now (F.view files.old) (F.view files.new)
         (λ both. IsNewBy F.In.view F.Out.view F.size
         (CameSince (F.view files.old) (F.view files.new)) asked.now.paths both.0 both.1) result }
 {

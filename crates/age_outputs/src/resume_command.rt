@@ -5,7 +5,7 @@ ghost use Rattle.age_fileset.specs.{CameSince, HasGivenAll};
 ghost use Rattle.age_cli_args.specs.declared.request.Request.TheVariants.{Resume};
 ghost use Rattle.age_position.specs.{position_text};
 ghost use Rattle.age_outputs.specs.Acts.{Acts, Finally};
-ghost use Rattle.age_outputs.specs.{PortsOf, missing_at};
+ghost use Rattle.age_outputs.specs.{missing_at};
 ghost use Rattle.age_outputs.specs.inner.{IsNewOld, OpensFiles};
 
 use crate::decrypt_command::{OldText, Outputs, Ready, decrypt_ready, identify};
@@ -89,8 +89,7 @@ pub fn resume_file<'w, F: FileSet<'w>, P: Meter>(
     asked: &Resuming<'w>,
     progress: &mut P,
 ) -> Result<(), Unfinished<'w>>
-    ensures { Finally (λ after. Acts (PortsOf F.In.view F.Out.view) (Resume asked.now)
-        (F.view files.old) after) (F.view files.new) result }
+    ensures { Finally (Acts (Resume asked.now) (F.view files.old)) (F.view files.new) result }
 {
     let wanted = &asked.decrypting;
     let writing = Writing {

@@ -3,7 +3,7 @@
 //! status. It answers `help N` and `help NAME`, about a fault, itself.
 #![tactic(auto)]
 
-use age_cli::{Ending, read_words, run_words, status};
+use age_cli::{RunError, read_words, run_words, status};
 use age_cli_args::Request;
 use age_disk::{HostFiles, HostOut, Watched};
 use age_hints::{
@@ -74,6 +74,14 @@ fn asked_by<'w>(read: &Result<Option<Request<'w>>, Error>) -> Request<'w> {
     }
 }
 
+/// Says why the parser of command lines refuses the words.
+fn refuse(rt: &HostRuntime, words: &[&str], error: &Error) -> ExitCode {
+    match explain_refusal(rt, words, error) {
+        Ok(()) => ExitCode::from(2),
+        Err(_) => out_of_memory(rt),
+    }
+}
+
 /// Does what the words after the program's name ask for, over the machine's files and the standard
 /// streams, and says what people should know of how it ended.
 fn obey<'w>(rt: &HostRuntime, words: &'w [&'w str]) -> ExitCode {
@@ -97,19 +105,19 @@ fn obey<'w>(rt: &HostRuntime, words: &'w [&'w str]) -> ExitCode {
         &mut faults,
         &mut progress,
     );
-    if let Err(Ending::Words(error)) = &ended {
-        return match explain_refusal(rt, words, error) {
-            Ok(()) => ExitCode::from(2),
-            Err(_) => out_of_memory(rt),
-        };
-    }
+    let ending = match &ended {
+        Ok(()) => None,
+        Err(RunError::Words(error)) => return refuse(rt, words, error),
+        Err(RunError::Unread) => return ExitCode::from(2),
+        Err(RunError::Ended(ending)) => Some(ending),
+    };
     let run = RunContext {
         asked,
         notes: files.notes(),
         input: input.inner().context(),
         output: output.inner().context(),
     };
-    explain(rt, &ended, &run);
+    explain(rt, ending, &run);
     ExitCode::from(status(&ended))
 }
 

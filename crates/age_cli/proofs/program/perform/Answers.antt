@@ -1,12 +1,12 @@
-use Rattle.std.proofs.Common.{inr, refl}
+use Rattle.std.proofs.Common.{inl, inr, refl}
 use Rattle.age_cli.proofs.program.perform.Goals as goal
 
 pub returns-in-Some-clause-obeys : goal.returns-in-Some-clause-obeys
 returns-in-Some-clause-obeys g c words made =
-    rw c.reported.ensures.same (inr (record { done = tt; untouched = refl; quiet = λ no. (refl, refl) }))
+    rw c.refuse.ensures (inr (record { done = tt; cause = tt; untouched = refl; quiet = λ no. (refl, refl) }))
 
 pub returns-in-Ok-clause-obeys : goal.returns-in-Ok-clause-obeys
-returns-in-Ok-clause-obeys g c words made = (c.in-Ok.ensures words made).done
+returns-in-Ok-clause-obeys g c words made = inl (c.in-Ok.ensures words made).done
 
 pub returns-in-Err-clause-obeys : goal.returns-in-Err-clause-obeys
-returns-in-Err-clause-obeys g c words made = (c.in-Err.ensures words made).unfinished _ _ c.conclude.ensures
+returns-in-Err-clause-obeys g c words made = inl ((c.in-Err.ensures words made).unfinished _ _ c.conclude.ensures)

@@ -4,7 +4,8 @@ use Rattle.age_intake.specs.{ports}
 use Rattle.age_fileset.specs.{CameSince, Gave, Outcome, PutsOnly, reading_of}
 use Rattle.age_fileset.proofs.{came_one, came_then, does_then, grows_by, grows_then, then_came}
 use Rattle.age_cli_args.specs.{option_text}
-use Rattle.age_outputs.specs.{CameFirst, PortsOf}
+use Rattle.age_outputs.specs.Done.{CameFirst}
+use Rattle.age_outputs.specs.inner.Engines.{PortsOf}
 use Rattle.age_outputs.specs.inner.{earlier_of, goes_on}
 use Rattle.age_outputs.proofs.{came_did, concluded, concludes_from, did_came, finally_as, first_came, if_some}
 use Rattle.age_outputs.proofs.{runs_opened, went_on}

@@ -1,23 +1,23 @@
 use Rattle.age_fileset.proofs.{does_none, does_same, does_then}
-use Rattle.age_outputs.proofs.{did_came, opens_by, opens_not, spares_did}
+use Rattle.age_outputs.proofs.{did_came, opens_by, opens_not}
 use Rattle.age_outputs.proofs.decrypt_command.identify.Goals as goal
 
 pub returns-in_err-choice : goal.returns-in_err-choice
-returns-in_err-choice g c = opens_not _ c.from_residual.result c.from_residual.ensures (spares_did _ _ (does_none _))
+returns-in_err-choice g c = opens_not _ c.from_residual.result c.from_residual.ensures (does_none _)
 
 pub returns-in_err-check_names : goal.returns-in_err-check_names
 returns-in_err-check_names g c =
-    opens_not _ c.from_residual-in_err-check_names.result c.from_residual-in_err-check_names.ensures (spares_did _ _ (does_same _ _ c.check_names.ensures))
+    opens_not _ c.from_residual-in_err-check_names.result c.from_residual-in_err-check_names.ensures (does_same _ _ c.check_names.ensures)
 
 pub returns-in_err-secret : goal.returns-in_err-secret
 returns-in_err-secret g c =
     opens_not _ c.from_residual-in_err-secret.result c.from_residual-in_err-secret.ensures
-    (spares_did _ _ (does_then _ _ _ (does_same _ _ c.check_names.ensures) c.read.ensures.does))
+    (does_then _ _ _ (does_same _ _ c.check_names.ensures) c.read.ensures.does)
 
 pub returns-in_err-identity : goal.returns-in_err-identity
 returns-in_err-identity g c =
     opens_not _ c.from_residual-in_err-identity.result c.from_residual-in_err-identity.ensures
-    (spares_did _ _ (does_then _ _ _ (does_same _ _ c.check_names.ensures) c.read.ensures.does))
+    (does_then _ _ _ (does_same _ _ c.check_names.ensures) c.read.ensures.does)
 
 pub returns : goal.returns
 returns g c =

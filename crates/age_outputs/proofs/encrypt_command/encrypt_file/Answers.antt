@@ -7,11 +7,12 @@ use Rattle.age_cli_args.specs.{option_text}
 use Rattle.age_cli_args.specs.declared.request.Request.TheVariants.{Encrypt}
 use Rattle.age_cli_args.specs.declared.request.Encrypting.{Encrypting}
 use Rattle.age_command.specs.{random_name}
-use Rattle.age_outputs.specs.{CameFirst, encrypt_engine}
+use Rattle.age_outputs.specs.Done.{CameFirst}
+use Rattle.age_outputs.specs.inner.Engines.{PortsOf, encrypt_engine}
 use Rattle.age_outputs.specs.inner.{IsMaterialGiven, sealing_end, secret_of}
 use Rattle.age_outputs.specs.declared.encrypt_command.Material.{Material}
 use Rattle.age_outputs.proofs.{acts_before, came_did, concluded, acts_engine, did_came, finally_as}
-use Rattle.age_outputs.proofs.{first_came, nowhere, runs_sealed, spares_then}
+use Rattle.age_outputs.proofs.{first_came, nowhere, runs_sealed, spares_did, spares_then}
 use Rattle.age_outputs.proofs.encrypt_command.encrypt_file.Goals as goal
 
 -- by the name of the random bytes
@@ -19,11 +20,11 @@ abbrev DoneWith : Encrypting → Material → FilesView → FilesView → Text �
 DoneWith a m old new n = IsMaterialGiven (CameSince old new) a n m × Does old new
 
 pub returns-in_err-material : goal.returns-in_err-material
-returns-in_err-material g c = acts_before _ _ c.from_residual.ensures c.in_err-material.ensures.fails
+returns-in_err-material g c = acts_before (Encrypt c.args.asked.now) _ _ c.from_residual.ensures (spares_did _ _ _ c.in_err-material.ensures.fails)
 
 pub returns-in_err-source : goal.returns-in_err-source
 returns-in_err-source g c =
-    acts_before _ _ c.from_residual-in_err-source.ensures (spares_then _ _ _ c.in_ok-material.ensures.done.1 c.in_err-source.ensures.fails)
+    acts_before (Encrypt c.args.asked.now) _ _ c.from_residual-in_err-source.ensures (spares_then _ _ _ _ c.in_ok-material.ensures.done.1 c.in_err-source.ensures.fails)
 
 pub returns : goal.returns
 returns g c =
@@ -51,9 +52,9 @@ returns g c =
     let last : (o : Outcome) → CameSince old mid o → CameFirst old new o = first_came grows.0 old mid new (grows_by old mid (does_then old opened mid all ended)) grows.1 in
     let then : (o : Outcome) → CameSince old opened o → CameFirst old new o = λ o came. last o (came_did ended o came) in
     let given : (o : Outcome) → CameSince old _ o → CameFirst old new o = λ o came. then o (came_did both.1 o came) in
-    acts_engine _ (Encrypt a) old opened new (encrypt_engine secret) a.paths before done (g.F.FileSet.size source)
+    acts_engine (PortsOf In Out) (Encrypt a) old opened new (encrypt_engine secret) a.paths before done (g.F.FileSet.size source)
     (record { source = source; sink = c.in_ok-source.out; is = refl }) both.0.1.0 (then _ (did_came made.1 _ both.0.1.3)) (λ refused. then _ (did_came made.1 _ (both.0.1.4 refused))) both.0.1.2
-    (runs_sealed _ (CameFirst old new) (CameSince old new) a.paths secret before after opened mid new run.result.0 done
+    (runs_sealed (PortsOf In Out) (CameFirst old new) (CameSince old new) a.paths secret before after opened mid new run.result.0 done
     (record { source = run.result.1; sink = run.new.out; is = refl }) (last gave (did_came all gave (came_one opened mid gave (ap (λ v. v.outcomes) over)))) (run.ensures.named ∙ both.0.1.1) ended
     (run.ensures.done secret both.0.0) (run.ensures.fails secret both.0.0) concludes) all (λ P holds. (
       secret,

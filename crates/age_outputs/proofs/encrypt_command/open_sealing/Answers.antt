@@ -1,24 +1,24 @@
 use Rattle.age_fileset.proofs.{does_same, does_then}
-use Rattle.age_outputs.proofs.{came_did, did_came, opens_not, spares_did, spares_then}
+use Rattle.age_outputs.proofs.{came_did, did_came, opens_no_out, spares_did, spares_then}
 use Rattle.age_outputs.proofs.encrypt_command.open_sealing.Goals as goal
 
 pub returns-in_err-source : goal.returns-in_err-source
-returns-in_err-source g c = opens_not _ c.from_residual.result c.from_residual.ensures c.in_err-source.ensures.fails
+returns-in_err-source g c = opens_no_out _ c.from_residual.result c.from_residual.ensures (spares_did _ _ _ c.in_err-source.ensures.fails)
 
 pub returns-in_err-check_new : goal.returns-in_err-check_new
 returns-in_err-check_new g c =
-    opens_not _ c.from_residual-in_err-check_new.result c.from_residual-in_err-check_new.ensures
-    (spares_did _ _ (does_then _ _ _ c.in_ok-source.ensures.done.1 (does_same _ _ c.check_new.ensures)))
+    opens_no_out _ c.from_residual-in_err-check_new.result c.from_residual-in_err-check_new.ensures
+    (spares_did _ _ _ (does_then _ _ _ c.in_ok-source.ensures.done.1 (does_same _ _ c.check_new.ensures)))
 
 pub returns-in_err-front : goal.returns-in_err-front
 returns-in_err-front g c =
-    opens_not _ c.from_residual-in_err-front.result c.from_residual-in_err-front.ensures
-    (spares_did _ _ (does_then _ _ _ c.in_ok-source.ensures.done.1 (does_same _ _ c.check_new.ensures)))
+    opens_no_out _ c.from_residual-in_err-front.result c.from_residual-in_err-front.ensures
+    (spares_did _ _ _ (does_then _ _ _ c.in_ok-source.ensures.done.1 (does_same _ _ c.check_new.ensures)))
 
 pub returns-in_err-out : goal.returns-in_err-out
 returns-in_err-out g c =
-    opens_not _ c.from_residual-in_err-out.result c.from_residual-in_err-out.ensures
-    (spares_then _ _ _ (does_then _ _ _ c.in_ok-source.ensures.done.1 (does_same _ _ c.check_new.ensures)) c.in_err-out.ensures.fails)
+    opens_no_out _ c.from_residual-in_err-out.result c.from_residual-in_err-out.ensures
+    (spares_then _ _ _ _ (does_then _ _ _ c.in_ok-source.ensures.done.1 (does_same _ _ c.check_new.ensures)) c.in_err-out.ensures.fails)
 
 pub returns : goal.returns
 returns g c =

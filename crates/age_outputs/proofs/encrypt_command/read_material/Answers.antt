@@ -1,20 +1,20 @@
 use Rattle.std.proofs.Common.{List, ℕ, subst}
 use Rattle.age_fileset.specs.{CameSince, HasGiven}
 use Rattle.age_fileset.proofs.{all_as, does_same, does_then, given_as}
-use Rattle.age_outputs.proofs.{came_did, did_came, opens_not, spares_did, spares_then}
+use Rattle.age_outputs.proofs.{came_did, did_came, opens_not}
 use Rattle.age_outputs.proofs.encrypt_command.read_material.Goals as goal
 
 pub returns-in_err-check_names : goal.returns-in_err-check_names
-returns-in_err-check_names g c = opens_not _ c.from_residual.result c.from_residual.ensures (spares_did _ _ (does_same _ _ c.check_names.ensures))
+returns-in_err-check_names g c = opens_not _ c.from_residual.result c.from_residual.ensures (does_same _ _ c.check_names.ensures)
 
 pub returns-in_err-pass : goal.returns-in_err-pass
 returns-in_err-pass g c =
-    opens_not _ c.from_residual-in_err-pass.result c.from_residual-in_err-pass.ensures (spares_then _ _ _ (does_same _ _ c.check_names.ensures) c.in_err-pass.ensures.fails)
+    opens_not _ c.from_residual-in_err-pass.result c.from_residual-in_err-pass.ensures (does_then _ _ _ (does_same _ _ c.check_names.ensures) c.in_err-pass.ensures.fails)
 
 pub returns-in_err-random : goal.returns-in_err-random
 returns-in_err-random g c =
     opens_not _ c.from_residual-in_err-random.result c.from_residual-in_err-random.ensures
-    (spares_then _ _ _ (does_then _ _ _ (does_same _ _ c.check_names.ensures) c.in_ok-pass.ensures.done.1) c.in_err-random.ensures.fails)
+    (does_then _ _ _ (does_then _ _ _ (does_same _ _ c.check_names.ensures) c.in_ok-pass.ensures.done.1) c.in_err-random.ensures.fails)
 
 pub returns : goal.returns
 returns g c =

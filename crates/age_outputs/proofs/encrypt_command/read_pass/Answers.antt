@@ -1,8 +1,8 @@
-use Rattle.age_outputs.proofs.{opens_not, spares_did}
+use Rattle.age_outputs.proofs.{opens_not}
 use Rattle.age_outputs.proofs.encrypt_command.read_pass.Goals as goal
 
 pub returns-in_err-held : goal.returns-in_err-held
-returns-in_err-held g c = opens_not _ c.from_residual.result c.from_residual.ensures (spares_did _ _ c.read.ensures.does)
+returns-in_err-held g c = opens_not _ c.from_residual.result c.from_residual.ensures c.read.ensures.does
 
 pub returns-in-Some : goal.returns-in-Some
 returns-in-Some g c =
@@ -11,4 +11,4 @@ returns-in-Some g c =
     record { done = ((words.0.0, gave, words.0.2, words.1, words.2), c.read.ensures.does); fails = tt }
 
 pub returns-in-None : goal.returns-in-None
-returns-in-None g c = record { done = tt; fails = spares_did _ _ c.read.ensures.does }
+returns-in-None g c = record { done = tt; fails = c.read.ensures.does }

@@ -1,14 +1,14 @@
 use Rattle.std.proofs.Common.{◌∙◌}
 use Rattle.age_fileset.proofs.{does_then}
 use Rattle.age_command.proofs.{given_so}
-use Rattle.age_outputs.proofs.{opens_not, spares_did}
+use Rattle.age_outputs.proofs.{opens_not}
 use Rattle.age_outputs.proofs.encrypt_command.read_random.Goals as goal
 
 pub returns-in_err-source : goal.returns-in_err-source
 returns-in_err-source g c = opens_not _ c.from_residual.result c.from_residual.ensures c.in_err-source.ensures.fails
 
 pub returns-in-Err : goal.returns-in-Err
-returns-in-Err g c = record { done = tt; fails = spares_did _ _ (does_then _ _ _ c.in_ok-source.ensures.done.1 c.close_input-context.ensures.does) }
+returns-in-Err g c = record { done = tt; fails = does_then _ _ _ c.in_ok-source.ensures.done.1 c.close_input-context.ensures.does }
 
 pub returns-in-Some : goal.returns-in-Some
 returns-in-Some g c =
@@ -26,4 +26,4 @@ returns-in-Some g c =
     }
 
 pub returns : goal.returns
-returns g c = record { done = tt; fails = spares_did _ _ (does_then _ _ _ c.in_ok-source.ensures.done.1 c.close_input-context.ensures.does) }
+returns g c = record { done = tt; fails = does_then _ _ _ c.in_ok-source.ensures.done.1 c.close_input-context.ensures.does }

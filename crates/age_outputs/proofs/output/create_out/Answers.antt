@@ -1,12 +1,12 @@
 use Rattle.std.proofs.Common.{[], Ok}
 use Rattle.age_fileset.proofs.{created_absent, does_same, does_then, grows_by, grows_then, made_does}
-use Rattle.age_outputs.proofs.{came_did, grows_kept, opens_not, spared_by, spares_did}
+use Rattle.age_outputs.proofs.{came_did, grows_kept, opens_no_out, spared_by, spares_did}
 use Rattle.age_outputs.proofs.output.create_out.Goals as goal
 
 pub returns-in_err-out : goal.returns-in_err-out
 returns-in_err-out g c =
     let p = c.args.asked.now.paths in
-    opens_not _ c.from_residual.result c.from_residual.ensures (spares_did _ _ (made_does p.clobber p.to.now _ _ c.create.result c.create.ensures.noted))
+    opens_no_out _ c.from_residual.result c.from_residual.ensures (spares_did _ _ _ (made_does p.clobber p.to.now _ _ c.create.result c.create.ensures.noted))
 
 pub returns-in-Some : goal.returns-in-Some
 returns-in-Some g c =
@@ -20,7 +20,7 @@ returns-in-Some g c =
       done = tt;
       fails = record {
         none = grows_then [] [] old asked _ (grows_by _ _ did) (grows_kept asked _ c.discard.ensures.noted);
-        spared = spared_by _ _ _ _ made.begun.0 made.begun.1 c.discard.ensures.discarded;
+        spared = spared_by _ _ _ _ _ made.named made.begun.0 made.begun.1 c.discard.ensures.discarded;
       };
     }
 

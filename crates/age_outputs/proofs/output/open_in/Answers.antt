@@ -1,13 +1,13 @@
 use Rattle.std.proofs.Common.{Ok}
 use Rattle.age_fileset.proofs.{opened_came, opened_does}
-use Rattle.age_outputs.proofs.{opens_not, spares_did}
+use Rattle.age_outputs.proofs.{opens_not}
 use Rattle.age_outputs.proofs.output.open_in.Goals as goal
 
 pub returns-in_err-open : goal.returns-in_err-open
 returns-in_err-open g c =
     let a = c.args in
     opens_not _ c.from_residual.result c.from_residual.ensures
-    (spares_did _ _ (opened_does g.F.In.Source.view g.F.FileSet.size a.missing a.name.now _ _ c.open.result c.open.ensures.noted))
+    (opened_does g.F.In.Source.view g.F.FileSet.size a.missing a.name.now _ _ c.open.result c.open.ensures.noted)
 
 pub returns : goal.returns
 returns g c =

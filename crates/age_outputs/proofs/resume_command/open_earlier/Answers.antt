@@ -1,6 +1,6 @@
 use Rattle.std.proofs.Common.{refl}
 use Rattle.age_fileset.proofs.{all_as, does_then}
-use Rattle.age_outputs.proofs.{came_did, did_came, opens_not, spares_then}
+use Rattle.age_outputs.proofs.{came_did, did_came, opens_not}
 use Rattle.age_outputs.proofs.resume_command.open_earlier.Goals as goal
 
 pub returns-in_err-position : goal.returns-in_err-position
@@ -8,7 +8,7 @@ returns-in_err-position g c = opens_not _ c.from_residual.result c.from_residual
 
 pub returns-in_err-source : goal.returns-in_err-source
 returns-in_err-source g c = opens_not _ c.from_residual-in_err-source.result c.from_residual-in_err-source.ensures
-    (spares_then _ _ _ c.in_ok-position.ensures.done.1 c.in_err-source.ensures.fails)
+    (does_then _ _ _ c.in_ok-position.ensures.done.1 c.in_err-source.ensures.fails)
 
 pub returns : goal.returns
 returns g c =

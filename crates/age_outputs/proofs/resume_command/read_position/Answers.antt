@@ -1,14 +1,14 @@
 use Rattle.std.proofs.Common.{◌∙◌, List, ℕ, subst, sym}
 use Rattle.age_fileset.specs.{CameSince, HasGivenAll}
-use Rattle.age_outputs.proofs.{opens_not, spares_did}
+use Rattle.age_outputs.proofs.{opens_not}
 use Rattle.age_outputs.proofs.resume_command.read_position.Goals as goal
 
 pub returns-in_err-held : goal.returns-in_err-held
-returns-in_err-held g c = opens_not _ c.from_residual.result c.from_residual.ensures (spares_did _ _ c.read_file.ensures.does)
+returns-in_err-held g c = opens_not _ c.from_residual.result c.from_residual.ensures c.read_file.ensures.does
 
 pub returns-in_err-read-in-Some : goal.returns-in_err-read-in-Some
 returns-in_err-read-in-Some g c =
-    opens_not _ c.from_residual-in_err-read-in-Some.result c.from_residual-in_err-read-in-Some.ensures (spares_did _ _ c.read_file.ensures.does)
+    opens_not _ c.from_residual-in_err-read-in-Some.result c.from_residual-in_err-read-in-Some.ensures c.read_file.ensures.does
 
 pub returns-in_ok-read-in-Some : goal.returns-in_ok-read-in-Some
 returns-in_ok-read-in-Some g c =
@@ -19,4 +19,4 @@ returns-in_ok-read-in-Some g c =
     }
 
 pub returns-in-None : goal.returns-in-None
-returns-in-None g c = record { done = tt; fails = spares_did _ _ c.read_file.ensures.does }
+returns-in-None g c = record { done = tt; fails = c.read_file.ensures.does }

@@ -6,22 +6,23 @@ use Rattle.age_fileset.specs.{Outcome, CameSince}
 use Rattle.age_fileset.proofs.{all_as, does_then, grows_by}
 use Rattle.age_cli_args.specs.{option_text}
 use Rattle.age_cli_args.specs.declared.request.Request.TheVariants.{Resume}
-use Rattle.age_outputs.specs.{CameFirst, PortsOf, decrypt_engine}
+use Rattle.age_outputs.specs.Done.{CameFirst}
+use Rattle.age_outputs.specs.inner.Engines.{PortsOf, decrypt_engine}
 use Rattle.age_outputs.proofs.{acts_before, acts_engine, concluded, did_came, came_did, finally_as}
-use Rattle.age_outputs.proofs.{first_came, opens_as, spares_then}
+use Rattle.age_outputs.proofs.{first_came, opens_as, spares_did, spares_then}
 use Rattle.age_outputs.proofs.resume_command.resume_file.Goals as goal
 
 pub returns-in_err-identity : goal.returns-in_err-identity
-returns-in_err-identity g c = acts_before _ _ c.from_residual.ensures c.in_err-identity.ensures.fails
+returns-in_err-identity g c = acts_before (Resume c.args.asked.now) _ _ c.from_residual.ensures (spares_did _ _ _ c.in_err-identity.ensures.fails)
 
 pub returns-in_err-old : goal.returns-in_err-old
 returns-in_err-old g c =
-    acts_before _ _ c.from_residual-in_err-old.ensures (spares_then _ _ _ c.in_ok-identity.ensures.done.1 c.in_err-old.ensures.fails)
+    acts_before (Resume c.args.asked.now) _ _ c.from_residual-in_err-old.ensures (spares_did _ _ _ (does_then _ _ _ c.in_ok-identity.ensures.done.1 c.in_err-old.ensures.fails))
 
 pub returns-in_err-source : goal.returns-in_err-source
 returns-in_err-source g c =
-    acts_before _ _ c.from_residual-in_err-source.ensures
-    (spares_then _ _ _ c.in_ok-identity.ensures.done.1 (spares_then _ _ _ c.in_ok-old.ensures.done.1 c.in_err-source.ensures.fails))
+    acts_before (Resume c.args.asked.now) _ _ c.from_residual-in_err-source.ensures
+    (spares_then _ _ _ _ c.in_ok-identity.ensures.done.1 (spares_then _ _ _ _ c.in_ok-old.ensures.done.1 c.in_err-source.ensures.fails))
 
 pub returns : goal.returns
 returns g c =
@@ -45,7 +46,7 @@ returns g c =
     let grows = concluded (option_text d.save) d.paths.durability run.after.sink run.end run.place mid new ended run.concludes in
     let early : (o : Outcome) → CameSince old mid o → CameFirst old new o = first_came grows.0 old mid new (grows_by old mid did) grows.1 in
     let later : (o : Outcome) → CameSince then mid o → CameFirst old new o = λ o came. early o (did_came judged.1 o (did_came earlier.1 o came)) in
-    acts_engine _ (Resume r) old mid new _ d.paths before ended (g.F.FileSet.size source)
+    acts_engine (PortsOf In Out) (Resume r) old mid new _ d.paths before ended (g.F.FileSet.size source)
     (record { source = source; sink = c.in_ok-source.out; is = refl }) both.0.0 (later _ both.0.3) (λ refused. later _ (both.0.4 refused)) both.0.2 run did (λ P holds. (
       c.in_ok-identity.identity,
       opens_as (λ o came. early o (came_did opened o came)) d c.in_ok-identity.identity judged.0,

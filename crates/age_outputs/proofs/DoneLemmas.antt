@@ -1,32 +1,30 @@
--- What status 0 says, from what the commands did.
-use Rattle.std.proofs.Common.{◌≡◌, ◌∙◌, ◌++◌, ◌∷◌, ◌*◌, [], List, ℕ, ap, subst, refl, inl, inr, ⊎_elim}
-use Rattle.std.proofs.Common.{Option, Some, None, Ok, Err, Result, take, arith, rules, Bool, true, false}
-use Rattle.std.specs.Prelude.{OnErr, ◌<◌, ◌==◌, if◌then◌else◌}
+-- What a command leaves that is done, from what its engine did.
+use Rattle.std.proofs.Common.{◌≡◌, ◌∙◌, ◌++◌, ◌∷◌, ◌*◌, [], List, ℕ, ap, subst, refl, Option, Some, None}
+use Rattle.std.proofs.Common.{take, arith, rules, Bool, true, false}
+use Rattle.std.specs.Prelude.{◌<◌, ◌==◌, if◌then◌else◌}
 use Rattle.clap.specs.Words.{Text}
-use Rattle.age_chunk.specs.{chunk_length}
 use Rattle.age_io.specs.{SourceView, Consumes, IsAtEnd}
 use Rattle.age_io.specs.Taken.{Appends}
-use Rattle.age_opening.proofs.GivenLemmas.{gave_text}
-use Rattle.age_opening.specs.{CarriesText, resumption}
+use Rattle.age_chunk.specs.{chunk_length}
+use Rattle.age_position.specs.declared.position.Position.{Position}
 use Rattle.age_intake.specs.{Ports}
 use Rattle.age_sealing.specs.{SecretView, AgeFile}
-use Rattle.age_position.specs.declared.position.Position.{Position}
+use Rattle.age_opening.proofs.GivenLemmas.{gave_text}
+use Rattle.age_opening.specs.{CarriesText, resumption}
 use Rattle.age_fileset.proofs.{all_by, gave_by}
 use Rattle.age_fileset.specs.{FilesView, Outcome, Found, CameSince, HasGiven, HasGivenAll, PutsOnly, entry}
 use Rattle.age_fileset.specs.declared.files.Missing.{Missing}
 use Rattle.age_fileset.specs.declared.files.Missing.TheVariants as when
-use Rattle.age_command.specs.{allows_by, refuses_by}
-use Rattle.age_command.specs.declared.ending.Ending.{Ending}
-use Rattle.age_command.specs.declared.ending.Ending.TheVariants as end
-use Rattle.age_command.specs.declared.identity.Identity.{Identity}
-use Rattle.age_outputs.specs.Acts.{Acts, CameFirst, HasEngineEnded, LeavesText, Returned, decrypt_engine, encrypt_engine, kept_for}
-use Rattle.age_outputs.specs.Commands.{WasRead, missing_at}
-use Rattle.age_cli.specs.{World, IsFileBy, IsRestBy, OutHolds, LeavesFor, ZeroLeaves, status_by}
-use Rattle.age_cli.specs.inner.{Obeys}
 use Rattle.age_cli_args.specs.{option_text}
 use Rattle.age_cli_args.specs.declared.request.Paths.{Paths}
 use Rattle.age_cli_args.specs.declared.request.Request.{Request}
 use Rattle.age_cli_args.specs.declared.request.Request.TheVariants.{Encrypt, Decrypt, Resume}
+use Rattle.age_command.specs.{allows_by, refuses_by}
+use Rattle.age_command.specs.declared.identity.Identity.{Identity}
+use Rattle.age_outputs.specs.Commands.{WasRead, missing_at}
+use Rattle.age_outputs.specs.Done.{CameFirst, IsFileBy, IsRestBy, OutHolds, LeavesFor}
+use Rattle.age_outputs.specs.inner.Engines.{HasEngineEnded, LeavesText, Returned, decrypt_engine}
+use Rattle.age_outputs.specs.inner.Engines.{encrypt_engine, kept_for, OfEngine}
 
 -- ---- What a file gave, by what came.
 
@@ -131,34 +129,18 @@ module _ (IsPorts : Ports → Type 0) (old new : FilesView) (p : Paths) where
           is_out l gave.0 ended.puts gave.2.0,
         )
 
--- ---- What status 0 says.
+-- ---- What a command leaves that is done.
 
-leaves_asked : (IsPorts : Ports → Type 0) (before after : FilesView) (asked : Request) → Acts IsPorts asked before after (Ok tt)
+pub leaves_asked : (IsPorts : Ports → Type 0) (before after : FilesView) (asked : Request)
+    → OfEngine IsPorts (CameFirst before after) (CameSince before after) asked
+    (λ engine paths. HasEngineEnded IsPorts (CameFirst before after) (CameSince before after) engine paths before after)
     → LeavesFor (HasGivenAll (CameFirst before after)) (HasGiven (CameFirst before after)) (OutHolds before after) asked
-leaves_asked IsPorts before after (Encrypt e) did =
-    let done = did.done in
-    let l = leaves_file IsPorts before after e.paths done.0 done.2 in (done.0, done.1, l.0, l.1, l.2, l.3, l.4)
-leaves_asked IsPorts before after (Decrypt d) did =
-    let done = did.done in
-    let l = leaves_text IsPorts before after d.paths (option_text d.save) done.0 done.2 in (done.0, done.1, l.0, l.1, l.2, l.3, l.4)
-leaves_asked IsPorts before after (Resume r) did =
-    let done = did.done in
+leaves_asked IsPorts before after (Encrypt e) (secret, makes, ended) =
+    let l = leaves_file IsPorts before after e.paths secret ended in (secret, makes, l.0, l.1, l.2, l.3, l.4)
+leaves_asked IsPorts before after (Decrypt d) (identity, makes, ended) =
+    let l = leaves_text IsPorts before after d.paths (option_text d.save) identity ended in (identity, makes, l.0, l.1, l.2, l.3, l.4)
+leaves_asked IsPorts before after (Resume r) (identity, makes, position, at, ended) =
     let d = r.decrypting in
-    let l = leaves_resumed IsPorts before after d.paths (option_text d.save) done.0 done.2 r.old.now done.4 in
-    (done.0, done.1, done.2, done.3, l.0, l.1, l.2, l.3, l.4, l.5, l.6)
-leaves_asked IsPorts before after other did = tt
-
--- a status that isn't 0
-pub failed_by : (r : Result (Unit {0}) Ending) → OnErr r (status_by r ≡ 0 → ⊥)
-failed_by (Ok x) = tt
-failed_by (Err (end.Words text)) = λ no. cc
-failed_by (Err (end.Usage usage)) = λ no. cc
-failed_by (Err (end.Fault fault)) = λ no. cc
-failed_by (Err (end.Unsaved fault second)) = λ no. cc
-
-pub zero_leaves : (words : List Text) (IsPorts : Ports → Type 0) (before after : World) (r : Result (Unit {0}) Ending) → Obeys words IsPorts before after r
-    → ZeroLeaves words before.files after.files (status_by r)
-zero_leaves words IsPorts before after (Ok tt) (inl o) zero =
-    ⊎_elim (λ made. inr (inr (o.asked, made, leaves_asked IsPorts before.files after.files o.asked o.acts))) (λ none. inl none.0) o.made
-zero_leaves words IsPorts before after (Ok tt) (inr o) zero = inr (inl o.done.1)
-zero_leaves words IsPorts before after (Err e) obeys zero = absurd (failed_by (Err e) zero)
+    let l = leaves_resumed IsPorts before after d.paths (option_text d.save) identity position r.old.now ended in
+    (identity, makes, position, at, l.0, l.1, l.2, l.3, l.4, l.5, l.6)
+leaves_asked IsPorts before after other ended = tt

@@ -1,50 +1,48 @@
--- What a run does however it ends, from what its parts promise.
+-- What a command leaves that isn't done, from what its engine did.
 use Rattle.std.proofs.Common.{◌≡◌, ◌∙◌, ◌++◌, ◌≤◌, ◌*◌, [], List, ℕ, ap, sym, subst, inl, inr, ⊎_elim, ◌⊎◌}
-use Rattle.std.proofs.Common.{Option, Some, None, Result, Ok, Err, refl, arith, rules, Bool, true, false, append-nil, length, true≢false}
+use Rattle.std.proofs.Common.{Option, Some, None, Result, Ok, Err, refl, arith, rules, Bool, true, false}
+use Rattle.std.proofs.Common.{append-nil, length}
 use Rattle.std.proofs.lemmas.List.{nil_from_length}
-use Rattle.std.specs.Prelude.{IsSomeAnd, IfSome, OnOk, IsErrAnd, ◌<◌, ◌==◌, MatchOption, is_some}
-use Rattle.clap.specs.Words.{Row, Text}
-use Rattle.age_chunk.specs.{chunk_length}
+use Rattle.std.specs.Prelude.{IsSomeAnd, IfSome, ◌<◌, ◌==◌, MatchOption, is_some}
+use Rattle.clap.specs.Words.{Text}
 use Rattle.age_io.specs.{SourceView, SinkView, Consumes}
 use Rattle.age_io.specs.Taken.{Appends}
+use Rattle.age_stanza.specs.declared.header.Header.{Header}
+use Rattle.age_chunk.specs.{chunk_length}
 use Rattle.age_stream.specs.{IsPrefixOf}
 use Rattle.age_fault.specs.declared.fault.FileFault.{FileFault}
-use Rattle.age_fault.specs.declared.fault.FileFault.TheVariants.{OldTextDiffers, Stream, Read, Write, ReadNeverEnds}
-use Rattle.age_intake.specs.{Ports}
+use Rattle.age_fault.specs.declared.fault.FileFault.TheVariants.{OldTextDiffers, Stream, Read, Write}
+use Rattle.age_fault.specs.declared.fault.FileFault.TheVariants.{ReadNeverEnds}
 use Rattle.age_position.specs.declared.position.Position.{Position}
 use Rattle.age_position.specs.declared.position.PositionPolicy.{PositionPolicy}
 use Rattle.age_position.specs.declared.position.PositionPolicy.TheVariants.{Kept, Dropped}
-use Rattle.age_stanza.specs.declared.header.Header.{Header}
+use Rattle.age_intake.specs.{Ports}
 use Rattle.age_sealing.specs.{SecretView}
 use Rattle.age_opening.specs.{OpenedFile}
 use Rattle.age_opening.specs.Resumes.{InOldFails, InSkippedFails, WritesOld, Resumption, resumption}
-use Rattle.age_opening.specs.Runs.{Run, Reads, IsFromStart, IsRun, BelongsTo, IsPositionWithin, PayloadFails, held}
 use Rattle.age_opening.specs.Resumes.{IsOldText}
-use Rattle.age_fileset.specs.{FilesView, Outcome, CameSince, HasGiven, HasGivenAll, PutsOnly, Entry, Does}
-use Rattle.age_fileset.proofs.{gave_by, grows_by, grows_none}
-use Rattle.age_cli_args.specs.{IsForHelp, IsRequest, option_text}
-use Rattle.age_cli_args.specs.Requests.{IsDecrypting, Requests}
-use Rattle.age_cli_args.proofs.{no_command}
+use Rattle.age_opening.specs.Runs.{Run, Reads, IsFromStart, IsRun, BelongsTo, IsPositionWithin, PayloadFails}
+use Rattle.age_opening.specs.Runs.{held}
+use Rattle.age_fileset.proofs.{gave_by}
+use Rattle.age_fileset.specs.{FilesView, Outcome, CameSince, HasGiven, HasGivenAll, Entry}
+use Rattle.age_cli_args.specs.{option_text}
 use Rattle.age_cli_args.specs.declared.request.Decrypting.{Decrypting}
 use Rattle.age_cli_args.specs.declared.request.Encrypting.{Encrypting}
 use Rattle.age_cli_args.specs.declared.request.Paths.{Paths}
 use Rattle.age_cli_args.specs.declared.request.Request.{Request}
-use Rattle.age_cli_args.specs.declared.request.Request.TheVariants.{Encrypt, Decrypt, Resume, Inspect, Drill}
-use Rattle.age_command.specs.{allows_by, is_usage, MakesBy}
+use Rattle.age_cli_args.specs.declared.request.Request.TheVariants.{Encrypt, Decrypt, Resume}
+use Rattle.age_command.specs.{allows_by, MakesBy}
 use Rattle.age_command.specs.declared.ending.Ending.{Ending}
-use Rattle.age_command.specs.declared.ending.Ending.TheVariants as end
 use Rattle.age_command.specs.declared.identity.Identity.{Identity}
-use Rattle.age_outputs.specs.Acts.{Acts, CameFirst, Engine, HasEngineStopped, HasNotBegun, IsDue, IsPlaced, IsSaved, IsThereUnlessFailed}
-use Rattle.age_outputs.specs.Acts.{OfEngine, Returned, decrypt_engine, encrypt_engine, kept_for, paths_of, start_of, stop_ending}
-use Rattle.age_outputs.specs.Commands.{WasRead, missing_at}
 use Rattle.age_outputs.proofs.DecryptionLemmas.{if_some}
-use Rattle.age_outputs.proofs.OpeningLemmas.{first_came}
-use Rattle.age_cli.specs.{World, IsMadeBy, PrintsReport, ReportsFile, status_by}
-use Rattle.age_cli.specs.inner.{DoesOther, IsQuiet, Obeys}
-use Rattle.age_cli.specs.Plain.{AreApart, IsApart, IsOutputApart, IsSaveApart, GivesFile, IsBeforeRun, IsRunOf, IsSavedBy, Left, Reports, ReportsFor, Runs, SavesOf, Spares}
-use Rattle.age_cli.specs.Plain.{Stops, StopsOf, PutsFor, save_of}
-use Rattle.age_cli.proofs.WordLemmas.{differs, not_help, rows_of, same_text}
-use Rattle.age_cli.proofs.ZeroLemmas.{old_gave, zero_leaves}
+use Rattle.age_outputs.proofs.DoneLemmas.{old_gave}
+use Rattle.age_outputs.specs.Acts.{IsDue, IsSaved}
+use Rattle.age_outputs.specs.Commands.{WasRead, missing_at}
+use Rattle.age_outputs.specs.Done.{CameFirst, paths_of}
+use Rattle.age_outputs.specs.Left.{IsThereUnlessFailed, start_of, GivesFile, IsBeforeRun, IsRunOf, IsSavedBy}
+use Rattle.age_outputs.specs.Left.{Left, SavesOf, Stops, StopsOf, save_of}
+use Rattle.age_outputs.specs.inner.Engines.{Engine, HasEngineStopped, IsPlaced, OfEngine, Returned}
+use Rattle.age_outputs.specs.inner.Engines.{decrypt_engine, encrypt_engine, kept_for}
 
 -- ---- The position that was saved.
 
@@ -315,7 +313,7 @@ module _ (IsPorts : Ports → Type 0) (old new : FilesView) where
       → s.position ≡ None
   none_placed e secret ending s = ⊎_elim (λ stop. stop.promise.1) (λ unended. unended.placed) s.cause
 
-  left_of : (asked : Request) (ending : Ending) → OfEngine IsPorts early since asked
+  pub left_of : (asked : Request) (ending : Ending) → OfEngine IsPorts early since asked
       (λ engine paths. HasEngineStopped IsPorts early since engine paths ending old new)
       → IfSome (paths_of asked) (λ p. Left asked p old new ending)
   left_of (Encrypt e) ending (secret, makes, s) = left (Encrypt e) _ e.paths ending s refl
@@ -343,213 +341,3 @@ module _ (IsPorts : Ports → Type 0) (old new : FilesView) where
   left_of (Resume r) ending (identity, makes, p, at, s) = left (Resume r) _ r.decrypting.paths ending s refl
       (p, at, stops_of r.decrypting identity (Some (p, r.old.now)) ending makes s) (found_of r.decrypting identity (Some (p, r.old.now)) ending s).lacks
   left_of other ending s = tt
-
--- ---- A run.
-
-no_usage : (f : FileFault) (how : Result (Unit {0}) FileFault) → is_usage (stop_ending f how) ≡ false
-no_usage f (Ok done) = refl
-no_usage f (Err second) = refl
-
--- the command line is refused
-abbrev IsUsage : Ending → Type 0
-IsUsage ending = is_usage ending ≡ true
-
-usage_no_fault : (f : FileFault) (save : Result (Unit {0}) FileFault) (e : Ending) → e ≡ stop_ending f save → IsUsage e → ⊥
-usage_no_fault f save e is usage = true≢false (sym usage ∙ (ap is_usage is ∙ no_usage f save))
-
--- status 2 says that the words are refused
-usage_by : (r : Result (Unit {0}) Ending) → status_by r ≡ 2 → IsErrAnd r IsUsage
-usage_by (Ok x) two = cc
-usage_by (Err (end.Words text)) two = refl
-usage_by (Err (end.Usage usage)) two = refl
-usage_by (Err (end.Fault fault)) two = cc
-usage_by (Err (end.Unsaved fault second)) two = cc
-
--- the same names are apart
-output_as : {from to a b : Text} {first second position old f s p o : Option Text} → from ≡ a → to ≡ b → first ≡ f → second ≡ s → position ≡ p → old ≡ o
-    → IsOutputApart from to first second position old → IsOutputApart a b f s p o
-output_as {to = to} {a = a} {b = b} {first = first} {second = second} {position = position} {old = old} {f = f} {s = s} {p = p} from_is to_is first_is second_is position_is old_is apart =
-    subst (IsOutputApart a b f s p) old_is (subst (λ (p : Option Text). IsOutputApart a b f s p old) position_is
-    (subst (λ (s : Option Text). IsOutputApart a b f s position old) second_is (subst (λ (f : Option Text). IsOutputApart a b f second position old) first_is
-    (subst (λ (b : Text). IsOutputApart a b first second position old) to_is (subst (λ (a : Text). IsOutputApart a to first second position old) from_is apart)))))
-
-save_as : {from to a b : Text} {first second old save f s o n : Option Text} → from ≡ a → to ≡ b → first ≡ f → second ≡ s → old ≡ o → save ≡ n
-    → IfSome save (IsSaveApart from to first second old) → IfSome n (IsSaveApart a b f s o)
-save_as {to = to} {a = a} {b = b} {first = first} {second = second} {old = old} {save = save} {f = f} {s = s} {o = o} from_is to_is first_is second_is old_is save_is apart =
-    subst (λ (n : Option Text). IfSome n (IsSaveApart a b f s o)) save_is (subst (λ (o : Option Text). IfSome save (IsSaveApart a b f s o)) old_is
-    (subst (λ (s : Option Text). IfSome save (IsSaveApart a b f s old)) second_is (subst (λ (f : Option Text). IfSome save (IsSaveApart a b f second old)) first_is
-    (subst (λ (b : Text). IfSome save (IsSaveApart a b first second old)) to_is (subst (λ (a : Text). IfSome save (IsSaveApart a to first second old)) from_is apart)))))
-
-both_as : (rows : List Row) (d e : Decrypting) {position old p o : Option Text} → IsDecrypting rows d → IsDecrypting rows e → position ≡ p → old ≡ o
-    → AreApart d position old → AreApart e p o
-both_as rows d e x y place earlier apart =
-    let from = same_text _ _ _ x.paths.from y.paths.from in
-    let to = same_text _ _ _ x.paths.to y.paths.to in
-    let pass = x.identity.pass ∙ sym y.identity.pass in
-    let shared = x.identity.shared ∙ sym y.identity.shared in
-    (output_as from to pass shared place earlier apart.0, save_as from to pass shared earlier (x.save ∙ sym y.save) apart.1)
-
-module _ (words : List Text) (IsPorts : Ports → Type 0) (before after : World) where
-  abbrev Obeyed : Result (Unit {0}) Ending → Type 0
-  Obeyed r = Obeys words IsPorts before after r
-
-  abbrev Wrote : Result (Unit {0}) Ending → Type 0
-  Wrote r = Spares before.files after.files ⊎ ((asked : Request) × Requests words asked
-      × IsSomeAnd (paths_of asked) (λ p. PutsFor asked p before.files after.files r))
-
-  spares_same : after.files ≡ before.files → Spares before.files after.files
-  spares_same same = (inl (ap (λ (v : FilesView). v.ended) same), subst (λ (v : FilesView). PutsOnly [] before.files v) (sym same) (grows_none before.files))
-
-  spares_did : Does before.files after.files → Spares before.files after.files
-  spares_did did = (inl (ap (λ (v : FilesView). v.ended) did.is), grows_by before.files after.files did)
-
-  made_of : (asked : Request) → (asked ≡ Inspect None → ⊥) → IsMadeBy words asked → Requests words asked
-  made_of asked other (inl made) = made
-  made_of asked other (inr none) = absurd (other none.1)
-
-  -- if it wasn't done
-  wrote_some : (asked : Request) (ending : Ending) → IsMadeBy words asked
-      → HasNotBegun before.files after.files ⊎ OfEngine IsPorts (CameFirst before.files after.files) (CameSince before.files after.files) asked
-      (λ engine paths. HasEngineStopped IsPorts (CameFirst before.files after.files) (CameSince before.files after.files) engine paths ending before.files after.files)
-      → DoesOther words IsPorts before after (Err ending) asked → Wrote (Err ending)
-  wrote_some asked ending made (inl unbegun) other = inl (unbegun.spared, unbegun.none)
-  wrote_some (Encrypt e) ending made (inr stops) other = inr (
-    Encrypt e,
-    made_of (Encrypt e) (λ no. let is = no in cc) made,
-    left_of IsPorts before.files after.files (Encrypt e) ending stops,
-  )
-  wrote_some (Decrypt d) ending made (inr stops) other = inr (
-    Decrypt d,
-    made_of (Decrypt d) (λ no. let is = no in cc) made,
-    left_of IsPorts before.files after.files (Decrypt d) ending stops,
-  )
-  wrote_some (Resume r) ending made (inr stops) other = inr (
-    Resume r,
-    made_of (Resume r) (λ no. let is = no in cc) made,
-    left_of IsPorts before.files after.files (Resume r) ending stops,
-  )
-  wrote_some (Inspect None) ending made (inr stops) other = inl (spares_same other.0)
-  wrote_some (Inspect (Some name)) ending made (inr stops) other = inl (spares_did other.0)
-  wrote_some (Drill d) ending made (inr stops) other = inl (spares_did other)
-
-  -- if it was
-  wrote_all : (asked : Request) → IsMadeBy words asked → Acts IsPorts asked before.files after.files (Ok tt)
-      → DoesOther words IsPorts before after (Ok tt) asked → Wrote (Ok tt)
-  wrote_all (Encrypt e) made acts other = inr (
-    Encrypt e,
-    made_of (Encrypt e) (λ no. let is = no in cc) made,
-    (acts.done.2.leaves.run.out.took, acts.done.2.puts),
-  )
-  wrote_all (Decrypt d) made acts other = inr (
-    Decrypt d,
-    made_of (Decrypt d) (λ no. let is = no in cc) made,
-    (acts.done.2.leaves.run.out.took, acts.done.2.puts),
-  )
-  wrote_all (Resume r) made acts other = inr (
-    Resume r,
-    made_of (Resume r) (λ no. let is = no in cc) made,
-    (acts.done.4.leaves.run.out.took, acts.done.4.puts),
-  )
-  wrote_all (Inspect None) made acts other = inl (spares_same other.0)
-  wrote_all (Inspect (Some name)) made acts other = inl (spares_did other.0)
-  wrote_all (Drill d) made acts other = inl (spares_did other)
-
-  wrote : (r : Result (Unit {0}) Ending) → Obeyed r → Wrote r
-  wrote (Ok tt) (inl o) = wrote_all o.asked o.made o.acts o.answers
-  wrote (Err ending) (inl o) = wrote_some o.asked ending o.made o.acts.stopped o.answers
-  wrote r (inr o) = inl (spares_same o.untouched)
-
-  refused : (r : Result (Unit {0}) Ending) → Obeyed r → IsErrAnd r IsUsage → Spares before.files after.files
-  refused r (inr o) usage = spares_same o.untouched
-  refused (Ok x) (inl o) usage = absurd usage
-  refused (Err ending) (inl o) usage = ⊎_elim (λ unbegun. (unbegun.spared, unbegun.none)) (λ stops. none o.asked stops o.answers) o.acts.stopped where
-    none : (asked : Request) → OfEngine IsPorts (CameFirst before.files after.files) (CameSince before.files after.files) asked
-        (λ engine paths. HasEngineStopped IsPorts (CameFirst before.files after.files) (CameSince before.files after.files) engine paths ending before.files after.files)
-        → DoesOther words IsPorts before after (Err ending) asked → Spares before.files after.files
-    none (Encrypt e) stops other = absurd (usage_no_fault stops.2.fault stops.2.save ending stops.2.reported usage)
-    none (Decrypt d) stops other = absurd (usage_no_fault stops.2.fault stops.2.save ending stops.2.reported usage)
-    none (Resume r) stops other = absurd (usage_no_fault stops.4.fault stops.4.save ending stops.4.reported usage)
-    none (Inspect None) stops other = spares_same other.0
-    none (Inspect (Some name)) stops other = spares_did other.0
-    none (Drill d) stops other = spares_did other
-
-  -- what came of a run that put nothing came before anything was put
-  read_first : Does before.files after.files → (o : Outcome) → CameSince before.files after.files o → CameFirst before.files after.files o
-  read_first did = first_came [] before.files after.files after.files (grows_by before.files after.files did) (grows_none after.files)
-
-  file_first : Does before.files after.files → (name : Text) → PrintsReport (ReportsFile (CameSince before.files after.files) name) before.output after.output
-      → PrintsReport (ReportsFile (CameFirst before.files after.files) name) before.output after.output
-  file_first did name (r, of, wrote, sent) = (
-    r,
-    record {
-      first = of.first;
-      last = of.last;
-      reading = record { unread = of.reading.unread; size = of.reading.size; found = read_first did _ of.reading.found; over = read_first did _ of.reading.over; named = of.reading.named };
-      whole = of.whole;
-      reports = of.reports;
-    },
-    wrote,
-    sent,
-  )
-
-  reports_for : (asked : Request) → DoesOther words IsPorts before after (Ok tt) asked → ReportsFor before after asked
-  reports_for (Inspect None) other = other.1
-  reports_for (Inspect (Some name)) other = file_first other.0 name.now other.1
-  reports_for asked other = tt
-
-  reports : (r : Result (Unit {0}) Ending) → Obeyed r → OnOk r ((words ≡ []) ⊎ (IsForHelp words
-      ⊎ ((asked : Request) × Requests words asked × ReportsFor before after asked)))
-  reports (Ok tt) (inl o) = ⊎_elim (λ made. inr (inr (o.asked, made, reports_for o.asked o.answers))) (λ none. inl none.0) o.made
-  reports (Ok tt) (inr o) = inr (inl o.done.1)
-  reports (Err e) obeys = tt
-
-  report : (r : Result (Unit {0}) Ending) → Obeyed r → words ≡ [] → OnOk r (Reports before after None)
-  report (Ok tt) (inl o) none = ⊎_elim (λ made. absurd (no_command words made.0 made.1 none made.2))
-      (λ its. let did : DoesOther words IsPorts before after (Ok tt) (Inspect None) =
-      subst (λ (asked : Request). DoesOther words IsPorts before after (Ok tt) asked) its.1 o.answers in did.1) o.made
-  report (Ok tt) (inr o) none = absurd (o.done.0 none)
-  report (Err e) obeys none = tt
-
-  -- the request that is obeyed is of the same command
-  quiet_of : (r : Result (Unit {0}) Ending) (name : Text) (rows : List Row) (mine asked : Request) → IsRequest name rows mine → IsRequest name rows asked
-      → DoesOther words IsPorts before after r mine → IfSome (paths_of asked) (λ p. IsQuiet before after)
-  quiet_of r name rows (Encrypt e) (Encrypt a) x y quiet = quiet
-  quiet_of r name rows (Decrypt e) (Decrypt a) x y quiet = quiet
-  quiet_of r name rows (Resume e) (Resume a) x y quiet = quiet
-  quiet_of r name rows mine (Inspect file) x y quiet = tt
-  quiet_of r name rows mine (Drill d) x y quiet = tt
-  quiet_of r name rows mine asked x y quiet = absurd (differs _ _ name x.0 y.0 refl refl)
-
-  quiet : (r : Result (Unit {0}) Ending) → Obeyed r → (asked : Request) → Requests words asked → IfSome (paths_of asked) (λ p. IsQuiet before after)
-  quiet r (inl o) asked (name, rows, asks, is) = quiet_of r name rows o.asked asked (rows_of words o.asked name rows asks o.made) is o.answers
-  quiet r (inr o) asked (name, rows, asks, is) = all (paths_of asked) where
-    all : (paths : Option Paths) → IfSome paths (λ p. IsQuiet before after)
-    all None = tt
-    all (Some p) = o.quiet (not_help words asks.taken)
-
-  -- the request that is obeyed has the same names
-  apart_of : (name : Text) (rows : List Row) (mine asked : Request) → IsRequest name rows mine → IsRequest name rows asked → IsApart mine → IsApart asked
-  apart_of name rows (Encrypt e) (Encrypt a) x y apart = output_as (same_text _ _ _ x.1.paths.from y.1.paths.from)
-      (same_text _ _ _ x.1.paths.to y.1.paths.to) (x.1.pass ∙ sym y.1.pass) (x.1.random ∙ sym y.1.random) refl refl apart
-  apart_of name rows (Decrypt d) (Decrypt a) x y apart = both_as rows d a x.1 y.1 refl refl apart
-  apart_of name rows (Resume r) (Resume a) x y apart =
-      both_as rows r.decrypting a.decrypting x.1.decrypting y.1.decrypting (x.1.position ∙ sym y.1.position) (x.1.old ∙ sym y.1.old) apart
-  apart_of name rows mine (Inspect file) x y apart = tt
-  apart_of name rows mine (Drill d) x y apart = tt
-  apart_of name rows mine asked x y apart = absurd (differs _ _ name x.0 y.0 refl refl)
-
-  apart : (r : Result (Unit {0}) Ending) → Obeyed r → (asked : Request) → Requests words asked → IsApart asked ⊎ (OnOk r ⊥ × (after.files ≡ before.files))
-  apart r (inl o) asked (name, rows, asks, is) = inl (apart_of name rows o.asked asked (rows_of words o.asked name rows asks o.made) is o.apart)
-  apart (Ok x) (inr o) asked (name, rows, asks, is) = absurd (not_help words asks.taken o.done.1)
-  apart (Err e) (inr o) asked (name, rows, asks, is) = inr (tt, o.untouched)
-
-  pub runs : (r : Result (Unit {0}) Ending) → Obeyed r → Runs words before after r
-  runs r obeys = record {
-    zero = zero_leaves words IsPorts before after r obeys;
-    report = report r obeys;
-    reports = reports r obeys;
-    refused = λ two. refused r obeys (usage_by r two);
-    apart = apart r obeys;
-    wrote = wrote r obeys;
-    quiet = quiet r obeys;
-  }

@@ -1,0 +1,47 @@
+//! Why a run of the program failed.
+
+ghost use Rattle.std.specs.Prelude.{◌≡◌};
+ghost use Rattle.age_command.specs.declared.ending.Ending.TheVariants.{Fault};
+ghost use Rattle.age_cli.specs.declared.error.RunError.TheVariants.{Ended};
+
+use age_command::Ending;
+use age_fault::FileFault;
+use age_io::Unsent;
+use clap::Error;
+
+/// Why a run failed.
+#[derive(Drop)]
+pub enum RunError<'w> {
+    /// The parser of command lines refuses the words.
+    Words(Error),
+    /// The parser takes the words, but no request could be read from them.
+    Unread,
+    /// What the words ask for isn't done.
+    Ended(Ending<'w>),
+}
+
+impl<'w> From<Ending<'w>> for RunError<'w> {
+    ghost from_gives = { λ e r. r ≡ Ended e };
+
+    fn from(ending: Ending<'w>) -> RunError<'w> {
+        RunError::Ended(ending)
+    }
+}
+
+impl<'w> From<FileFault> for RunError<'w> {
+    ghost from_gives = { λ f r. r ≡ Ended (Fault f) };
+
+    fn from(fault: FileFault) -> RunError<'w> {
+        RunError::Ended(Ending::from(fault))
+    }
+}
+
+impl<'w> From<Unsent> for RunError<'w> {
+    ghost use Rattle.age_fault.specs.declared.fault.FileFault.TheVariants.{Write};
+
+    ghost from_gives = { λ _ r. r ≡ Ended (Fault Write) };
+
+    fn from(e: Unsent) -> RunError<'w> {
+        RunError::Ended(Ending::from(e))
+    }
+}
