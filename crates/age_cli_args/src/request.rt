@@ -6,7 +6,7 @@ use age_options::{ClobberOption, Durability};
 pub(crate) const MOST_WORK: u32 = 22;
 
 /// Whether progress is shown while IN is read.
-#[derive(Clone, Copy, Debug, PartialEq, Eq)]
+#[derive(Clone, Copy, PartialEq, Eq)]
 pub enum ProgressOption {
     /// It is shown how much of IN was read.
     Shown,

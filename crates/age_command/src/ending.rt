@@ -12,7 +12,7 @@ use age_position::Position;
 use std::marker::Model;
 
 /// What is wrong with a command line that the parser of command lines accepts.
-#[derive(Clone, Copy, Debug, PartialEq, Eq)]
+#[derive(Clone, Copy, PartialEq, Eq)]
 pub enum Usage {
     /// Not exactly one of `--pass`, `--file-key` and `--shared` is given.
     GiveOneIdentity,

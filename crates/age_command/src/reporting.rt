@@ -12,7 +12,7 @@ use itoa::Buffer;
 
 /// A line on the stack, so that it goes out in one put and lines of several runs don't mix. The
 /// longest has 54 bytes.
-#[derive(Debug, Drop)]
+#[derive(Drop)]
 struct FaultLine {
     bytes: ArrayVec<u8, 128>,
     failures: Failures,

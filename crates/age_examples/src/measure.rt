@@ -5,7 +5,7 @@ ghost use Rattle.std.specs.Prelude.{◌≡◌, [], None, true, false};
 use age_file::{Failed, Sink, Tape};
 
 /// A sink that counts what it takes and keeps none of it, to learn how long something will be.
-#[derive(Debug, Drop)]
+#[derive(Drop)]
 pub struct Measure {
     pub count: u64,
     took: Tape,

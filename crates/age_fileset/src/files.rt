@@ -13,7 +13,7 @@ use age_options::{ClobberOption, Durability, ErrorContext};
 use std::alloc::Global;
 
 /// Why a file could not be opened, prepared or created.
-#[derive(Clone, Copy, Debug, PartialEq, Eq)]
+#[derive(Clone, Copy, PartialEq, Eq)]
 pub enum OpenFault {
     /// It is one of the files that were opened, prepared or created before, under whatever name,
     /// and can't be used twice.
@@ -23,7 +23,7 @@ pub enum OpenFault {
 }
 
 /// What a name stands for that has no file.
-#[derive(Clone, Copy, Debug, PartialEq, Eq)]
+#[derive(Clone, Copy, PartialEq, Eq)]
 pub enum Missing {
     /// Nothing: it is refused with `Read` (26).
     Fails,

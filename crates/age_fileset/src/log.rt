@@ -57,7 +57,7 @@ impl Shows<AllDone> for Note<'_, '_> {
 }
 
 /// What came of a set of files, in order, for contracts alone. It has no bytes at run time.
-#[derive(Debug, Drop)]
+#[derive(Drop)]
 pub struct Log {
     seen: Seen<AllDone>,
 }

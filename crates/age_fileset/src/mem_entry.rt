@@ -8,7 +8,7 @@ use std::alloc::{AllocError, Global};
 use std::marker::Model;
 
 /// A file's name. A contract sees its bytes.
-#[derive(Debug, Drop)]
+#[derive(Drop)]
 pub(crate) struct Name {
     text: String,
 }
@@ -38,7 +38,7 @@ impl Name {
 }
 
 /// A file over memory.
-#[derive(Debug, Drop)]
+#[derive(Drop)]
 pub(crate) struct MemEntry {
     pub(crate) name: Name,
     pub(crate) bytes: Bytes,

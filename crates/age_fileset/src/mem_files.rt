@@ -23,7 +23,7 @@ use std::marker::Model;
 
 /// Files over memory, whose names and bytes contracts see: the list of them, the names that can't
 /// be written, and how many bytes a file that is written can hold.
-#[derive(Debug, Drop)]
+#[derive(Drop)]
 pub struct MemFiles {
     entries: Vec<MemEntry>,
     refused: Vec<Name>,
@@ -33,7 +33,7 @@ pub struct MemFiles {
 }
 
 /// A file over memory that was ended, for contracts alone.
-#[derive(Debug, Drop)]
+#[derive(Drop)]
 struct MemEnded {
     took: Tape,
     is_closed: bool,
@@ -72,7 +72,7 @@ impl Model for MemFiles {
 }
 
 /// A file over memory that is read. A contract sees its name and its source.
-#[derive(Debug, Drop)]
+#[derive(Drop)]
 pub struct MemIn {
     name: Name,
     source: MemSource,
@@ -106,7 +106,7 @@ impl Source for MemIn {
 }
 
 /// A file over memory that is written. A contract sees its name and its sink.
-#[derive(Debug, Drop)]
+#[derive(Drop)]
 pub struct MemOut {
     name: Name,
     sink: MemSink,

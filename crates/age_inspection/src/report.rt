@@ -3,7 +3,7 @@
 use age_io::{Bytes, List};
 
 /// A stanza in a report.
-#[derive(Debug, Drop)]
+#[derive(Drop)]
 pub struct StanzaReport {
     /// Its type, the first argument.
     pub kind: Bytes,
@@ -17,7 +17,7 @@ pub struct StanzaReport {
 pub type StanzaReports = List<StanzaReport>;
 
 /// The report on a file.
-#[derive(Debug, Drop)]
+#[derive(Drop)]
 pub struct Report {
     /// The header's length in bytes.
     pub header: u64,

@@ -6,7 +6,7 @@ ghost use Rattle.age_io.specs.{one_more};
 use crate::failed::Failed;
 
 /// How many calls of a source or a sink have failed, and whether the last one did.
-#[derive(Clone, Copy, Debug, PartialEq, Eq)]
+#[derive(Clone, Copy, PartialEq, Eq)]
 pub struct Failures {
     /// How many have failed. It stays at 2^64 - 1 once it is that.
     pub count: u64,

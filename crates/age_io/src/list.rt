@@ -8,7 +8,7 @@ use std::marker::Model;
 
 /// Some elements in their order. An empty list allocates nothing. A contract sees the list of the
 /// elements.
-#[derive(Debug, Drop)]
+#[derive(Drop)]
 pub struct List<T> {
     items: Vec<T>,
 }

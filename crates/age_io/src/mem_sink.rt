@@ -13,7 +13,7 @@ use std::marker::Model;
 /// A sink over memory. A contract sees what it holds, how much it holds at most, how much a put
 /// takes at most, which call fails, how many calls were made and have failed, whether the last one
 /// did, and whether a flush came after the last put.
-#[derive(Debug, Drop)]
+#[derive(Drop)]
 pub struct MemSink {
     held: Vec<u8>,
     room: usize,

@@ -11,7 +11,7 @@ use std::marker::Model;
 /// A source over memory. A contract sees what it gave and what is still to come, how much a pull
 /// gives at most, which pull fails, how many pulls were made and have failed, and whether the last
 /// one did.
-#[derive(Debug, Drop)]
+#[derive(Drop)]
 pub struct MemSource {
     bytes: Vec<u8>,
     at: usize,

@@ -3,7 +3,6 @@
 ghost use Rattle.std.specs.Prelude.{◌≡◌};
 ghost use Rattle.std.specs.Borrow.{ftrue};
 
-use std::fmt;
 use std::marker::{Model, PhantomData};
 
 /// What shows contracts a value of another type.
@@ -30,11 +29,5 @@ impl<T> Seen<T> {
         ensures { result.value ≡ N.shows _note.now }
     {
         Seen { of: PhantomData }
-    }
-}
-
-impl<T> fmt::Debug for Seen<T> {
-    fn fmt<W: fmt::Write>(&self, f: &mut fmt::Formatter<W>) -> fmt::Result {
-        f.write_str("Seen")
     }
 }

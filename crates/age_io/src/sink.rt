@@ -49,7 +49,7 @@ pub trait Sink {
 /// writer shows that it holds, which for a file, a pipe or a terminal is nothing. A writer that
 /// takes none of the bytes that it is given counts as failed. A contract also sees the writer, how
 /// many puts and flushes have failed, and whether the last of them did.
-#[derive(Debug, Drop)]
+#[derive(Drop)]
 pub struct Writing<W: Write> {
     inner: W,
     failures: Failures,

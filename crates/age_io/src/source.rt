@@ -51,7 +51,7 @@ pub trait Source {
 /// to come that the reader shows, which for a file, a pipe or a terminal are none. A contract also
 /// sees the reader, how many pulls have failed, whether the last one did, and whether one found the
 /// end.
-#[derive(Debug, Drop)]
+#[derive(Drop)]
 pub struct Reading<R: Read> {
     inner: R,
     failures: Failures,

@@ -28,7 +28,7 @@ impl Shows<Bytes> for Piece<'_, '_> {
 }
 
 /// The bytes that went by, in order, for contracts alone. It has no bytes at run time.
-#[derive(Debug, Drop)]
+#[derive(Drop)]
 pub struct Tape {
     bytes: Seen<Bytes>,
 }

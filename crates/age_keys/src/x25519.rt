@@ -8,7 +8,7 @@ use age_fault::KeyFault;
 use age_stanza::{Stanza, read_base64};
 
 /// An X25519 stanza (<https://c2sp.org/age#x25519-recipient-stanza>): `-> X25519 SHARE` and a body.
-#[derive(Clone, Copy, Debug, PartialEq, Eq)]
+#[derive(Clone, Copy, PartialEq, Eq)]
 pub struct X25519Stanza {
     /// The ephemeral share.
     pub share: [u8; 32],

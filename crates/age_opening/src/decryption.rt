@@ -20,7 +20,7 @@ use std::alloc::Global;
 use thiserror::Error;
 
 /// A file was decrypted to its end, into this many bytes.
-#[derive(Clone, Copy, Debug, PartialEq, Eq)]
+#[derive(Clone, Copy, PartialEq, Eq)]
 pub struct Done {
     /// How many bytes were written.
     pub written: u128,

@@ -7,7 +7,7 @@ mod error_context;
 pub use error_context::{Action, ErrorContext, Failure, FirstBytes, ReadSummary};
 
 /// When a file that was written reaches the disk.
-#[derive(Clone, Copy, Debug, PartialEq, Eq)]
+#[derive(Clone, Copy, PartialEq, Eq)]
 pub enum Durability {
     /// Before the call that ends it returns, so that a power failure undoes none of it.
     Synced,
@@ -16,7 +16,7 @@ pub enum Durability {
 }
 
 /// What becomes of an existing file.
-#[derive(Clone, Copy, Debug, PartialEq, Eq)]
+#[derive(Clone, Copy, PartialEq, Eq)]
 pub enum ClobberOption {
     /// It is overwritten.
     Allowed,

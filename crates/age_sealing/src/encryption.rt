@@ -20,7 +20,7 @@ use std::alloc::Global;
 use std::marker::Model;
 
 /// How many bytes were read, and how many written.
-#[derive(Clone, Copy, Debug, PartialEq, Eq)]
+#[derive(Clone, Copy, PartialEq, Eq)]
 pub struct Written {
     /// The length of the plaintext in bytes.
     pub plain: u128,

@@ -8,7 +8,7 @@ use std::alloc::{AllocError, Global};
 use std::marker::Model;
 
 /// Where the bytes of an argument lie.
-#[derive(Debug, Drop)]
+#[derive(Drop)]
 enum Letters {
     /// In the value itself.
     Short(ArrayVec<u8, 8>),
@@ -19,7 +19,7 @@ enum Letters {
 /// An argument of a stanza (<https://c2sp.org/age#header>). The value takes 24 bytes, and up to 8
 /// bytes of the argument lie in the value itself. So a header of many short arguments needs no
 /// allocation for each. A contract sees the list of the argument's bytes.
-#[derive(Debug, Drop)]
+#[derive(Drop)]
 pub struct Argument {
     letters: Letters,
 }

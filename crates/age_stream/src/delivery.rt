@@ -1,7 +1,7 @@
 //! What may come to a reader.
 
 /// A step of a transfer.
-#[derive(Clone, Copy, Debug)]
+#[derive(Clone, Copy)]
 pub enum Delivery<'a> {
     /// Bytes of the payload, or whatever came in their place.
     Piece(&'a [u8]),

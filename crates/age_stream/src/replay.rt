@@ -13,7 +13,7 @@ use std::alloc::Global;
 use std::marker::Model;
 
 /// What is held after a list of deliveries.
-#[derive(Debug, Drop)]
+#[derive(Drop)]
 pub struct Drill {
     /// The plaintext that is held.
     pub text: Vec<u8>,

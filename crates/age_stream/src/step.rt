@@ -3,7 +3,7 @@
 use age_chunk::StreamFault;
 
 /// Where an opener stands.
-#[derive(Clone, Copy, Debug, PartialEq, Eq)]
+#[derive(Clone, Copy, PartialEq, Eq)]
 pub enum Status {
     /// Blocks are still to come.
     Open,
@@ -17,7 +17,7 @@ pub enum Status {
 
 /// How many bytes of a piece a call took, where that led, and what it lends until the next call: a
 /// sealer's block or an opener's plaintext, if one came.
-#[derive(Debug, Drop)]
+#[derive(Drop)]
 pub struct Step<'a> {
     /// How many bytes of the piece were taken, from its beginning.
     pub taken: usize,
