@@ -31,3 +31,12 @@ returns-clause-written g c =
     let right = written g.B.ChunkBox.sealing g.B.ChunkBox.opening m key r (g.met.B.ChunkBox.valid key) positive c.loop-event.invariant.0 _ c.loop-event.invariant.1 in
     rw (c.into_drill.ensures.text, c.into_drill.ensures.status)
     (subst (λ (ds : List Delivery). HoldsWritten (g.B.ChunkBox.sealing key) (g.B.ChunkBox.opening key) m ds r.text r.opener.status) all right)
+
+pub new-replay-requires : goal.new-replay-requires
+new-replay-requires g c = grind arith
+
+pub take-requires : goal.take-requires
+take-requires g c = grind arith
+
+pub into_drill-requires : goal.into_drill-requires
+into_drill-requires g c = grind arith

@@ -31,3 +31,6 @@ returns-in-None g c =
     let at = c.loop-at.at in
     bytes_on g.B.ChunkBox.opening c.args.self.now c.loop-at.self c.feed_once.new.self (take at piece) _ piece c.loop-at.invariant.goes c.in-None.ensures.refused
     (ap (λ (ys : List ℕ). take at piece ++ ys) (take_rest piece at) ∙ take-append-drop at piece)
+
+pub feed_once-requires : goal.feed_once-requires
+feed_once-requires g c = grind arith
