@@ -27,7 +27,7 @@ CHECKS = {
     "refusals": (["file"], ["file"]), "misuse": (["3000"], ["150"]), "work": ([], None), "places": ([], None), "seek": ([], ["5"]),
     "stream": ([], ["1"]), "sequences": (["600", "1"], ["10", "2"]), "header": ([], []),
     "seal_key": ([TOP / "bindings" / "tests" / "age" / "one.age"], None),
-    "objects": ([], None), "given_up": ([], []), "lacking": ([], None), "undamaged": ([], []), "limit": ([], []),
+    "objects": ([], None), "given_up": ([], []), "lacking": ([], None), "undamaged": ([], []), "limit": ([], []), "derived": ([], None),
 }
 # The C files over the proved calls, which the sanitizers see only if they compile them.
 INNER = [SOURCES / f"{it}.c" for it in ("agefile", "once", "look")]

@@ -457,6 +457,9 @@ class SavingTest(FilesCase):
                 if now == held and self.is_there("out") and self.path("out").stat().st_size:
                     printed = b"to save the position elsewhere: " in ended.advice or b"no position was saved" in ended.advice or b"27 Write" in ended.stderr
                     self.see(f"{failing}, {held}: said", printed, ended)
+        self.remove("out")
+        ended = self.tool(*"decrypt --pass pass --save saved cut out".split(), env=shim.loaded(FSYNC=errno.ENOSPC, ONLY="f"))
+        self.see("the room for a position is waited for before OUT is made", b"27 Write" in ended.stderr and not self.is_there("out"), ended)
 
     # ---- where no position can be saved
 

@@ -34,7 +34,7 @@ use Rattle.age_cli.proofs.RunLemmas.{failed_by}
 use Rattle.age_cli.proofs.WordLemmas.{differs, not_help, rows_of, same_identity, same_names, same_text}
 use Rattle.age_cli.specs.{FileBegins, FileHolds, PrintsReport, Reports, ReportsEntry, ReportsFor}
 use Rattle.age_cli.specs.{World, PutsFor, out_of, status_by}
-use Rattle.age_cli.specs.Runs.{Runs, WritesNone}
+use Rattle.age_cli.specs.Runs.{Prints, Runs, WritesNone}
 use Rattle.age_cli.specs.declared.error.RunError.{RunError}
 use Rattle.age_cli.specs.declared.error.RunError.TheVariants as run
 
@@ -254,9 +254,10 @@ module _ (words : List Text) (before after : World) (was is : List MemEntry) (ke
 
     pub reports : ReportsEntry words olds before after (status_by r)
     reports file (name, rows, asks, is_asked) zero = by r zero runs.reports where
-      by : (r : Result (Unit {0}) RunError) → status_by r ≡ 0 → OnOk r ((words ≡ []) ⊎ (IsForHelp words ⊎ ((mine : Request) × Requests words mine × ReportsFor before after mine)))
+      by : (r : Result (Unit {0}) RunError) → status_by r ≡ 0 → OnOk r ((words ≡ []) ⊎ ((IsForHelp words × Prints before.output after.output)
+          ⊎ ((mine : Request) × Requests words mine × ReportsFor before after mine)))
           → (bytes : List ℕ) × FileHolds olds file.now bytes × PrintsReport (IsReport bytes) before.output after.output
       by (Ok done) zero (inl none) = absurd (no_command words name rows none asks)
-      by (Ok done) zero (inr (inl help)) = absurd (not_help words asks.taken help)
+      by (Ok done) zero (inr (inl help)) = absurd (not_help words asks.taken help.0)
       by (Ok done) zero (inr (inr (mine, made, did))) = reports_entry file name rows mine is_asked (rows_of words mine name rows asks (inl made)) did
       by (Err e) zero none = absurd (failed_by (Err e) zero)

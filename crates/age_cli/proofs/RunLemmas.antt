@@ -22,7 +22,7 @@ use Rattle.age_outputs.specs.Left.{stop_ending, Left, Spares}
 use Rattle.age_cli.proofs.WordLemmas.{differs, not_help, rows_of, same_text}
 use Rattle.age_cli.specs.{World, IsMadeBy, PrintsReport, ReportsFile, status_by}
 use Rattle.age_cli.specs.Runs.{AreApart, IsApart, IsOutputApart, IsSaveApart, Reports, ReportsFor, Runs}
-use Rattle.age_cli.specs.Runs.{PutsFor, IsCausedBy, WritesNone, ZeroLeaves}
+use Rattle.age_cli.specs.Runs.{PutsFor, IsCausedBy, Prints, WritesNone, ZeroLeaves}
 use Rattle.age_cli.specs.declared.error.RunError.{RunError}
 use Rattle.age_cli.specs.declared.error.RunError.TheVariants as run
 use Rattle.age_cli.specs.inner.{DoesOther, IsQuiet, Obeys}
@@ -174,10 +174,10 @@ module _ (words : List Text) (before after : World) where
   reports_for (Inspect (Some name)) other = file_first other.0 name.now other.1
   reports_for asked other = tt
 
-  reports : (r : Result (Unit {0}) RunError) → Obeyed r → OnOk r ((words ≡ []) ⊎ (IsForHelp words
+  reports : (r : Result (Unit {0}) RunError) → Obeyed r → OnOk r ((words ≡ []) ⊎ ((IsForHelp words × Prints before.output after.output)
       ⊎ ((asked : Request) × Requests words asked × ReportsFor before after asked)))
   reports (Ok tt) (inl o) = ⊎_elim (λ made. inr (inr (o.asked, made, reports_for o.asked o.answers))) (λ none. inl none.0) o.made
-  reports (Ok tt) (inr o) = inr (inl o.done.1)
+  reports (Ok tt) (inr o) = inr (inl (o.done.1, o.done.2))
   reports (Err e) obeys = tt
 
   report : (r : Result (Unit {0}) RunError) → Obeyed r → words ≡ [] → OnOk r (Reports before after None)

@@ -1,11 +1,12 @@
 -- What a run of the program does: read this first, and then what a command leaves, in `age_outputs`.
 use Rattle.std.specs.Prelude.{◌≡◌, ◌⊎◌, ℕ, List, [], ◌∷◌, Some, ◌≢◌, Option, None, IfSome, IsSomeAnd, Result}
-use Rattle.std.specs.Prelude.{Ok, Err, OnOk, if◌then◌else◌, IfOk, IfErr, IfNone}
+use Rattle.std.specs.Prelude.{Ok, Err, OnOk, if◌then◌else◌, IfOk, IfErr, IfNone, true}
 use Rattle.clap.specs.Kinds.{IsAmong}
 use Rattle.clap.specs.Values.{kind_of}
 use Rattle.clap.specs.Words.{Text, HasKind}
 use Rattle.clap.specs.declared.error.Error.{Error}
 use Rattle.age_io.specs.{SourceView, SinkView}
+use Rattle.age_io.specs.Taken.{Appends}
 use Rattle.age_inspection.specs.{Inspects}
 use Rattle.age_fileset.specs.{FilesView, HasGiven, HasGivenAll, PutsOnly, entry, Does}
 use Rattle.age_cli_args.specs.{IsForHelp, option_text, refusals}
@@ -80,6 +81,10 @@ IsApart other = Unit {0}
 
 -- ---- What a run did.
 
+-- some text was written, and sent on
+abbrev pub Prints : (old new : SinkView) → Type 0
+Prints old new = (text : List ℕ) × (text ≢ []) × Appends old.taken new.taken text × (new.flushed ≡ true)
+
 -- a report was written: of the input, which was read to its end, or of the file of a name
 abbrev pub Reports : (before after : World) → Option Text → Type 0
 Reports before after None =
@@ -114,7 +119,7 @@ pub record Runs (words : List Text) (before after : World) (ended : Result (Unit
   pub zero : ZeroLeaves words before.files after.files (status_by ended)
   -- and of the others: no words ask for a report of the input
   pub report : words ≡ [] → OnOk ended (Reports before after None)
-  pub reports : OnOk ended ((words ≡ []) ⊎ (IsForHelp words
+  pub reports : OnOk ended ((words ≡ []) ⊎ ((IsForHelp words × Prints before.output after.output)
       ⊎ ((asked : Request) × Requests words asked × ReportsFor before after asked)))
   -- words that ask for something are understood
   pub cause : IfErr ended (IsCausedBy words)

@@ -1,15 +1,13 @@
 -- What only private code cites: how a part of the program ended, what a report of an input says, and what is
 -- done of a request.
-use Rattle.std.specs.Prelude.{◌≡◌, ◌≢◌, ◌⊎◌, ℕ, true, List, [], Option, Some, None, Result, Ok, Err, OnOk}
+use Rattle.std.specs.Prelude.{◌≡◌, ◌≢◌, ◌⊎◌, ℕ, List, [], Option, Some, None, Result, Ok, Err, OnOk}
 use Rattle.std.specs.Prelude.{IfSome, length, IfErr}
 use Rattle.clap.specs.Values.{kind_of}
 use Rattle.clap.specs.Words.{Text}
 use Rattle.clap.specs.declared.error.Error.{Error}
 use Rattle.clap.specs.declared.error.kind.ErrorKind.{ErrorKind}
 use Rattle.clap.specs.declared.error.kind.ErrorKind.TheVariants.{DisplayHelp, DisplayVersion, OutOfMemory}
-use Rattle.age_io.specs.{SinkView}
 use Rattle.age_io.specs.Supply.{Supply}
-use Rattle.age_io.specs.Taken.{Appends}
 use Rattle.age_inspection.specs.{Inspects, IsReport}
 use Rattle.age_inspection.specs.declared.report.Report.{Report}
 use Rattle.age_fileset.specs.{CameSince, Does}
@@ -21,7 +19,7 @@ use Rattle.age_outputs.specs.Acts.{Acts}
 use Rattle.age_outputs.specs.declared.interruption.Unfinished.{Unfinished}
 use Rattle.age_outputs.specs.declared.interruption.Unfinished.TheVariants.{Ended}
 use Rattle.age_cli.specs.Printing.{PrintsReport, ReportsAs, ReportsFile}
-use Rattle.age_cli.specs.Runs.{IsApart, IsMadeBy, IsCausedBy, World}
+use Rattle.age_cli.specs.Runs.{IsApart, IsMadeBy, IsCausedBy, Prints, World}
 use Rattle.age_cli.specs.declared.error.RunError.{RunError}
 use Rattle.age_cli.specs.declared.error.RunError.TheVariants.{Words, Unread, Ended as RanSo}
 
@@ -41,10 +39,6 @@ pub record IsInspected (size : Option ℕ) (old new : Supply) (r : Report) : Typ
       → IsReport bytes r
 
 -- ---- What a run does of what its words ask for.
-
--- a text was written, and sent on
-abbrev pub Prints : (old new : SinkView) → Type 0
-Prints old new = (text : List ℕ) × Appends old.taken new.taken text × (new.flushed ≡ true)
 
 -- the input and the output are as they were
 abbrev pub IsQuiet : (before after : World) → Type 0

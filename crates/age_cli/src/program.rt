@@ -6,8 +6,8 @@ ghost use Rattle.clap.specs.Walk.{texts};
 ghost use Rattle.age_outputs.specs.Acts.{Finally};
 ghost use Rattle.age_cli.specs.declared.error.RunError.{RunError};
 ghost use Rattle.age_cli.specs.declared.error.RunError.TheVariants.{Ended};
-ghost use Rattle.age_cli.specs.Runs.{IsApart, IsMadeBy, IsReadOf, Runs, status_by};
-ghost use Rattle.age_cli.specs.inner.{DoesRequest, IsForOutput, IsRefusedBy, Obeys, Prints, ended_so};
+ghost use Rattle.age_cli.specs.Runs.{IsApart, IsMadeBy, IsReadOf, Prints, Runs, status_by};
+ghost use Rattle.age_cli.specs.inner.{DoesRequest, IsForOutput, IsRefusedBy, Obeys, ended_so};
 
 use crate::error::RunError;
 use crate::inspect_command::{report, report_file};
@@ -36,6 +36,9 @@ fn answer<'w, O: Sink>(alloc: Global, error: Error, output: &mut O) -> Result<()
             let Ok(text) = error.to_string(alloc) else {
                 return Err(RunError::from(FileFault::Memory));
             };
+            if text.is_empty() {
+                return Err(RunError::Words(error));
+            }
             put_bytes(output, text.as_bytes())?;
             Ok(flush_all(output)?)
         }

@@ -1,6 +1,6 @@
 //! A decryption in memory.
 
-ghost use Rattle.std.specs.Prelude.{◌≡◌, ℕ, List, [], MatchResult};
+ghost use Rattle.std.specs.Prelude.{◌≡◌, ℕ, List, [], MatchResult, false};
 ghost use Rattle.age_io.specs.{memory_supply};
 ghost use Rattle.age_file.specs.{IsUndamagedFile, StopsOutside};
 
@@ -20,7 +20,7 @@ const STEP: usize = 65_536;
 pub fn text_of<U: Unlock>(alloc: Global, unlock: &U, file: Vec<u8>) -> Result<Vec<u8>, FileFault>
     ensures undamaged { (text : List ℕ)
         → IsUndamagedFile (U.allows unlock.now) (U.refuses unlock.now)
-        (memory_supply [] file.items) text
+        (memory_supply [] file.items false) text
         → MatchResult result (λ v. v.items ≡ text) StopsOutside }
 {
     undamaged_is_written::<U>();

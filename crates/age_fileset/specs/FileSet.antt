@@ -20,8 +20,8 @@ use Rattle.age_fileset.specs.declared.mem_entry.MemEntry.{MemEntry}
 
 -- ---- What came of what was done with a set of files.
 
--- what a file gave that was opened under this name, once its reading is over; and whether a pull found
--- its end
+-- what a file gave that was opened under this name, once its reading is over; and whether the last pull
+-- that didn't fail found its end
 pub record Reading : Type 0 where
   pub name : List ℕ
   pub given : List ℕ
@@ -251,7 +251,7 @@ pub record AreTrue (entries : List MemEntry) (outcomes : List Outcome) : Type 0 
 -- a file over memory that is read, by its name and its source
 abbrev pub shown_in : List ℕ × Feeding → SourceView
 shown_in file = record {
-  supply = memory_supply file.1.given file.1.left;
+  supply = memory_supply file.1.given file.1.left file.1.is_at_end;
   failed = file.1.failures;
   failing = file.1.failing;
   label = file.0;
@@ -279,6 +279,19 @@ ended_with took is_closed = record {
   is_link = false;
   calls = [];
   failed = 0;
+}
+
+-- the source of a file of these bytes: it gives them all, and no pull fails
+abbrev pub full_with : List ℕ → Feeding
+full_with bytes = record {
+  given = [];
+  left = bytes;
+  step = 2 ^ 64 - 1;
+  fail_call = None;
+  calls = 0;
+  failures = 0;
+  failing = false;
+  is_at_end = false;
 }
 
 -- the sink of a new file that holds at most this many bytes

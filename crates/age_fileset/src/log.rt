@@ -22,7 +22,7 @@ pub enum Doing<'a> {
     /// Something had this name, or may have had it.
     Present(&'a str),
     /// The reading of a file that was opened under this name is over: it gave these bytes. Also,
-    /// whether a pull found its end.
+    /// whether the last pull that did not fail found its end.
     Gave(&'a Tape, &'a Tape, bool),
     /// An output that took these bytes holds so many of them for certain: on the disk, if that was
     /// asked for.

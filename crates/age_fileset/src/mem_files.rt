@@ -5,7 +5,8 @@ ghost use Rattle.std.specs.Prelude.{OnErr, IfOk, IsErrOf, IsOk, IfErr, IsOkUnles
 ghost use Rattle.std.specs.Prelude.{option_map, length, false};
 ghost use Rattle.age_io.specs.Taken.{WriteAppends, Keeps};
 ghost use Rattle.age_io.specs.{Puts, Pulls, Flushes, holds, memory_supply, ReadConsumes};
-ghost use Rattle.age_fileset.specs.{entry_of, empty_with, PutsEntry, IsMemoryOr, held_by, Found, Gave};
+ghost use Rattle.age_fileset.specs.{entry_of, empty_with, full_with, PutsEntry, IsMemoryOr, held_by};
+ghost use Rattle.age_fileset.specs.{Found, Gave};
 ghost use Rattle.age_fileset.specs.{Settled, ended_with, opened_as, looked_as, made_as, put_as, size_in};
 ghost use Rattle.age_fileset.specs.{shown_in, shown_out, seen_in, reading_of, MemFails, AreTrue};
 ghost use Rattle.age_fileset.specs.declared.files.OpenFault.TheVariants.{Fault};
@@ -92,8 +93,9 @@ impl Source for MemIn {
 
     fn pull(&mut self, into: &mut [u8]) -> Result<usize, Failed>
         ensures bound { IfOk result (λ n. n ≤ length into.new) }
-        ensures bytes { ReadConsumes (memory_supply self.old.1.given self.old.1.left)
-            (memory_supply self.new.1.given self.new.1.left) result into.new }
+        ensures bytes { ReadConsumes
+            (memory_supply self.old.1.given self.old.1.left self.old.1.is_at_end)
+            (memory_supply self.new.1.given self.new.1.left self.new.1.is_at_end) result into.new }
         ensures named { self.new.0 ≡ self.old.0 }
         ensures plan { Pulls self.old.1 (length into.new) result self.new.1 }
     {
@@ -220,8 +222,8 @@ impl MemFiles {
         let (mut name, mut given) = (Tape::new(), Tape::new());
         name.note(source.name.as_str().as_bytes());
         given.note(source.source.given());
-        let is_at_end = source.source.remaining() == 0;
-        self.log.note(Doing::Gave(&name, &given, is_at_end));
+        self.log
+            .note(Doing::Gave(&name, &given, source.source.is_at_end()));
     }
 
     /// Refuses each later attempt to create or replace a file of this name. If memory runs out,
@@ -291,8 +293,7 @@ fn is_kept(entries: &[MemEntry], name: &str, clobber: ClobberOption) -> bool
 
 /// A copy of a file's bytes, to be read.
 fn source_of(alloc: Global, bytes: &[u8]) -> Result<MemSource, FileFault>
-    ensures bytes { IfOk result (λ s. s.left ≡ bytes.now) }
-    ensures begun { IfOk result (λ s. s.given ≡ []) }
+    ensures made { IfOk result (λ s. s ≡ full_with bytes.now) }
     ensures memory { OnErr result (result ≡ Err FileFault.Memory) }
 {
     Ok(MemSource::new(bytes.to_vec(alloc)?, usize::MAX, None))
@@ -300,8 +301,7 @@ fn source_of(alloc: Global, bytes: &[u8]) -> Result<MemSource, FileFault>
 
 /// The same, under this name.
 fn new_in(alloc: Global, name: &str, bytes: &[u8]) -> Result<MemIn, FileFault>
-    ensures bytes { IfOk result (λ s. s.1.left ≡ bytes.now) }
-    ensures begun { IfOk result (λ s. (s.0 ≡ name.now) × (s.1.given ≡ [])) }
+    ensures made { IfOk result (λ s. s ≡ (name.now, full_with bytes.now)) }
     ensures memory { OnErr result (result ≡ Err FileFault.Memory) }
 {
     let name = Name::new(alloc, name)?;
@@ -381,9 +381,8 @@ impl<'w> FileSet<'w> for MemFiles {
         ensures kept { self.new ≡ record self.old {
           outcomes = self.old.outcomes ++ opened_as shown_in size_in missing name.now result;
         } }
-        ensures found { IfOk result
-            (λ s. held_by missing (entry_of self.old.entries name.now) ≡ Some s.1.left) }
-        ensures begun { IfOk result (λ s. (s.0 ≡ name.now) × (s.1.given ≡ [])) }
+        ensures found { IfOk result (λ s. (s ≡ (name.now, full_with s.1.left))
+            × (held_by missing (entry_of self.old.entries name.now) ≡ Some s.1.left)) }
         ensures missing { IsErrOf result (Fault FileFault.Read)
             ↔ (held_by missing (entry_of self.old.entries name.now) ≡ None) }
         ensures faults { IfErr result (MemFails FileFault.Read) }

@@ -9,7 +9,7 @@ pub record InputView : Type 0 where
   -- how many pulls have failed, and whether the last one did
   pub failed : ℕ
   pub failing : Bool
-  -- the bytes that it gave or skipped, and whether a pull found the end
+  -- the bytes that it gave or skipped, and whether the last pull that didn't fail found the end
   pub given : List ℕ
   pub is_at_end : Bool
   -- how many it still has to give, by its length when it was opened, if it is a regular file

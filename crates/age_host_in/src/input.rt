@@ -73,7 +73,7 @@ impl Handle {
             Handle::Nothing => 0,
         };
         given.note(&into[..n]);
-        *is_at_end = *is_at_end || (n == 0 && !into.is_empty());
+        *is_at_end = n == 0 && !into.is_empty();
         Ok(n)
     }
 
@@ -136,9 +136,9 @@ fn length_of(metadata: &Metadata) -> Option<u64> {
 }
 
 /// A file of the machine that is read, or standard input, under its name on the command line. A
-/// contract sees the bytes that it gave or skipped, and none that are to come; whether a pull found
-/// the end; how many pulls have failed, and whether the last one did; and which file it is. What it
-/// gave and why it failed are kept for what people are told.
+/// contract sees the bytes that it gave or skipped, and none that are to come; how many pulls have
+/// failed, whether the last one did, and whether the last that did not found the end; and which file
+/// it is. What it gave and why it failed are kept for what people are told.
 #[derive(Drop)]
 pub struct HostIn<'w> {
     rt: HostRuntime,

@@ -162,6 +162,7 @@ pub passes_then : {x y z : ReaderView} (p q : List ℕ) → Passes x y p → Pas
 passes_then {x} {y} {z} p q f g = record {
   uses = uses_then x y z p q (p ++ q) refl f.uses g.uses;
   unfailed = g.unfailed ∙ f.unfailed;
+  goes_on = λ so. g.goes_on (f.goes_on so);
 }
 
 -- no more bytes

@@ -1,6 +1,6 @@
 -- What pulls into the intake did, and what was read of a header.
 use Rattle.std.specs.Prelude.{◌≡◌, ℕ, ◌+◌, ◌*◌, ◌^◌, ◌<◌, ◌≤◌, List, [], ◌++◌, length, Result, Ok}
-use Rattle.std.specs.Prelude.{Err, Bool, true, false}
+use Rattle.std.specs.Prelude.{Err, Bool, true, false, not}
 use Rattle.age_io.specs.Supply.{Supply}
 use Rattle.age_io.specs.{Consumes, IsAtEnd, SourceView, HasFailed}
 use Rattle.sha2.specs.Hashers.{Holds256}
@@ -64,9 +64,15 @@ Refilled old new (Ok false) = (new.unread.bytes ≡ []) × (new.unread.pulls ≡
 Refilled old new (Err fault) = (new.unread.bytes ≡ []) × (new.unread.pulls ≡ old.unread.pulls)
     × PullFails old new fault
 
+-- a pull found the end if it gave no bytes; one that failed found nothing
+abbrev pub FindsEnd : Supply → Supply → Result Bool FileFault → Type 0
+FindsEnd old new (Ok more) = new.is_at_end ≡ not more
+FindsEnd old new (Err fault) = new.is_at_end ≡ old.is_at_end
+
 -- one pull, if no byte was left: what was pulled from any start is now that and the fresh bytes
 pub record Refills (old new : ReaderView) (result : Result Bool FileFault) : Type 0 where
   pub answered : Refilled old new result
+  pub end : FindsEnd old.source.supply new.source.supply result
   pub pulled : (start : Start) (bytes : List ℕ)
       → Pulled start old.source.supply old.unread.pulls bytes
       → Pulled start new.source.supply new.unread.pulls (bytes ++ new.unread.bytes)
@@ -82,6 +88,7 @@ pub record ReadsHead (old : SourceView) (new : ReaderView) (head : Head) : Type 
       (front ++ new.unread.bytes)
   pub last : StopsAtHeader old.supply new.source.supply
   pub unfailed : new.source.failed ≡ old.failed
+  pub goes_on : new.source.supply.is_at_end ≡ false
 
 -- ---- What was read up to a payload.
 
@@ -91,7 +98,8 @@ Uses old new bytes = (start : Start) (used : List ℕ)
     → Pulled start old.source.supply old.unread.pulls (used ++ old.unread.bytes)
     → Pulled start new.source.supply new.unread.pulls (used ++ (bytes ++ new.unread.bytes))
 
--- these bytes of a source were used, and no pull failed
+-- these bytes of a source were used, and no pull failed or found the end
 pub record Passes (old new : ReaderView) (bytes : List ℕ) : Type 0 where
   pub uses : Uses old new bytes
   pub unfailed : new.source.failed ≡ old.source.failed
+  pub goes_on : old.source.supply.is_at_end ≡ false → new.source.supply.is_at_end ≡ false

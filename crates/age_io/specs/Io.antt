@@ -1,7 +1,7 @@
 -- What contracts see of sources and sinks, and what those over memory do.
 use Rattle.std.specs.Prelude.{ℕ, List, Option, Bool, ◌+◌, ◌-◌, ◌^◌, min, Result, Ok, Err, ◌≡◌, []}
 use Rattle.std.specs.Prelude.{◌++◌, Some, ◌≢◌, ◌⊎◌, length, take, drop, true, false}
-use Rattle.std.specs.Prelude.{nat_eq, ◌<◌, MatchResult, OnErr}
+use Rattle.std.specs.Prelude.{nat_eq, nat_lt, ◌&&◌, ◌<◌, MatchResult, OnErr}
 use Rattle.age_io.specs.Supply.{Supply}
 use Rattle.age_io.specs.Taken.{Taken, Appends}
 use Rattle.age_io.specs.declared.failed.Failed.{Failed}
@@ -58,16 +58,16 @@ pub record Writes {E : Type 0} (old new : SinkView) (written_old written_new : �
 -- ---- Sources and sinks over memory: what each call returns and leaves, by their plan of failures.
 
 -- the bytes of a source over memory
-abbrev pub memory_supply : List ℕ → List ℕ → Supply
-memory_supply given left = record { given = given; left = Some left; is_at_end = nat_eq (length left) 0 }
+abbrev pub memory_supply : List ℕ → List ℕ → Bool → Supply
+memory_supply given left is_at_end = record { given = given; left = Some left; is_at_end = is_at_end }
 
 -- the bytes of a sink over memory
 abbrev pub holds : List ℕ → Taken
 holds held = record { bytes = held; contents = Some held; label = [] }
 
 -- a source over memory: what it gave and what is still to come, how much a pull gives at most, the
--- number of the pull that fails, how many pulls were made and have failed, and whether the last one
--- did
+-- number of the pull that fails, how many pulls were made and have failed, whether the last one did,
+-- and whether the last that did not found the end
 pub record Feeding : Type 0 where
   pub given : List ℕ
   pub left : List ℕ
@@ -76,6 +76,7 @@ pub record Feeding : Type 0 where
   pub calls : ℕ
   pub failures : ℕ
   pub failing : Bool
+  pub is_at_end : Bool
 
 -- a pull into a slice of this many bytes
 abbrev pub Pulls : Feeding → ℕ → Result ℕ Failed → Feeding → Type 0
@@ -86,6 +87,7 @@ Pulls old room (Ok n) new = (old.fail_call ≢ Some old.calls)
       left = drop n old.left;
       calls = one_more old.calls;
       failing = false;
+      is_at_end = nat_eq n 0 && nat_lt 0 room;
     })
 Pulls old room (Err failed) new = (old.fail_call ≡ Some old.calls)
     × (new ≡ record old {

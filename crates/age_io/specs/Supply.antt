@@ -1,9 +1,10 @@
 -- What a source gave, whatever it is over.
-use Rattle.std.specs.Prelude.{◌≡◌, ℕ, List, ◌++◌, ◌<◌, Option, Bool, true, Result, MatchResult, length, take}
+use Rattle.std.specs.Prelude.{◌≡◌, ℕ, List, ◌++◌, ◌<◌, Option, Bool, true, false, Result, MatchResult}
+use Rattle.std.specs.Prelude.{length, take}
 use Rattle.std.specs.Io.KnownBytes as known
 
 -- the bytes of a source: those that it gave or passed over so far, those that are still to come if
--- they are shown, and whether a pull found that none are
+-- they are shown, and whether the last pull that didn't fail found that none are
 pub record Supply : Type 0 where
   pub given : List ℕ
   pub left : Option (List ℕ)
@@ -18,6 +19,7 @@ pub record Consumes (old new : Supply) (bytes : List ℕ) : Type 0 where
 -- was to come is shown
 abbrev pub Skips : Supply → Supply → ℕ → Type 0
 Skips old new n = (bytes : List ℕ) × (length bytes ≡ n) × Consumes old new bytes
+    × (new.is_at_end ≡ old.is_at_end)
 
 -- a source gave nothing
 pub record Keeps (old new : Supply) : Type 0 where
@@ -25,13 +27,14 @@ pub record Keeps (old new : Supply) : Type 0 where
   pub left : known.Keeps old.left new.left
   pub is_at_end : new.is_at_end ≡ old.is_at_end
 
--- a pull found that no bytes are left
+-- the last pull that didn't fail found that no bytes are left
 abbrev pub IsAtEnd : Supply → Type 0
 IsAtEnd supply = (supply.is_at_end ≡ true) × known.IsAtEnd supply.left
 
 -- a pull gave the bytes at the beginning of a slice, none only at the end or if the slice is empty,
--- or it failed and gave nothing
+-- and some only before the end; or it failed and gave nothing
 abbrev pub ReadConsumes : {E : Type 0} → Supply → Supply → Result ℕ E → List ℕ → Type 0
 ReadConsumes old new result into = MatchResult result
-    (λ n. Consumes old new (take n into) × (n ≡ 0 → 0 < length into → IsAtEnd new))
+    (λ n. Consumes old new (take n into) × (n ≡ 0 → 0 < length into → IsAtEnd new)
+    × (0 < n → new.is_at_end ≡ false))
     (λ _. Keeps old new)

@@ -9,8 +9,8 @@ use crate::source::Source;
 use std::marker::Model;
 
 /// A source over memory. A contract sees what it gave and what is still to come, how much a pull
-/// gives at most, which pull fails, how many pulls were made and have failed, and whether the last
-/// one did.
+/// gives at most, which pull fails, how many pulls were made and have failed, whether the last one
+/// did, and whether the last that did not found the end.
 #[derive(Drop)]
 pub struct MemSource {
     bytes: Vec<u8>,
@@ -19,6 +19,7 @@ pub struct MemSource {
     fail_call: Option<u64>,
     calls: u64,
     failures: Failures,
+    is_at_end: bool,
 }
 
 impl Model for MemSource {
@@ -32,6 +33,7 @@ impl Model for MemSource {
       calls = s.calls;
       failures = s.failures.count;
       failing = s.failures.last;
+      is_at_end = s.is_at_end;
     } };
 
     ghost invariant = { λ s. (s.at ≤ length s.bytes.items) × (0 < s.step) };
@@ -50,6 +52,7 @@ impl MemSource {
           calls = 0;
           failures = 0;
           failing = false;
+          is_at_end = false;
         } }
     {
         MemSource {
@@ -59,6 +62,7 @@ impl MemSource {
             fail_call,
             calls: 0,
             failures: Failures::none(),
+            is_at_end: false,
         }
     }
 
@@ -74,6 +78,13 @@ impl MemSource {
         ensures { result ≡ self.now.failing }
     {
         self.failures.last
+    }
+
+    /// Whether the last pull that did not fail found the end.
+    pub fn is_at_end(&self) -> bool
+        ensures { result ≡ self.now.is_at_end }
+    {
+        self.is_at_end
     }
 
     /// How many bytes are still to come.
@@ -95,7 +106,7 @@ fn copy_front(from: &[u8], into: &mut [u8], n: usize)
 
 impl Source for MemSource {
     ghost view = { λ s. record {
-      supply = memory_supply s.given s.left;
+      supply = memory_supply s.given s.left s.is_at_end;
       failed = s.failures;
       failing = s.failing;
       label = [];
@@ -104,8 +115,9 @@ impl Source for MemSource {
     /// Leaves the slice unchanged past the bytes that it gives, or entirely if it fails.
     fn pull(&mut self, into: &mut [u8]) -> Result<usize, Failed>
         ensures bound { IfOk result (λ n. n ≤ length into.new) }
-        ensures bytes { ReadConsumes (memory_supply self.old.given self.old.left)
-            (memory_supply self.new.given self.new.left) result into.new }
+        ensures bytes { ReadConsumes
+            (memory_supply self.old.given self.old.left self.old.is_at_end)
+            (memory_supply self.new.given self.new.left self.new.is_at_end) result into.new }
         ensures rest { MatchResult result (λ n. drop n into.new ≡ drop n into.old)
             (λ _. into.new ≡ into.old) }
         ensures plan { Pulls self.old (length into.new) result self.new }
@@ -119,6 +131,7 @@ impl Source for MemSource {
         let end = self.at + n;
         copy_front(&self.bytes[self.at..], into, n);
         self.at = end;
+        self.is_at_end = n == 0 && !into.is_empty();
         self.failures.note(Ok(n))
     }
 

@@ -49,8 +49,8 @@ pub trait Source {
 
 /// A source over one of the machine's readers. It shows contracts the bytes that it gave, and those
 /// to come that the reader shows, which for a file, a pipe or a terminal are none. A contract also
-/// sees the reader, how many pulls have failed, whether the last one did, and whether one found the
-/// end.
+/// sees the reader, how many pulls have failed, whether the last one did, and whether the last that
+/// did not found the end.
 #[derive(Drop)]
 pub struct Reading<R: Read> {
     inner: R,
@@ -105,9 +105,7 @@ impl<R: Read> Source for Reading<R> {
         let read = self.inner.read(into);
         if let Ok(n) = &read {
             self.tape.note(&into[..*n]);
-            if *n == 0 && !into.is_empty() {
-                self.is_at_end = true;
-            }
+            self.is_at_end = *n == 0 && !into.is_empty();
         }
         self.failures.note(read.map_err(|_| Failed))
     }

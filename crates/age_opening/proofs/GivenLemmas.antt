@@ -425,7 +425,7 @@ module _ (keep : PositionPolicy) (Allows : Header → List ℕ → Type 0) (Refu
             parts = ap (λ (t : List ℕ). front ++ t) payload_is;
           };
           opens = is.reads.opens;
-          at_end = is.at_end d.1.ended;
+          at_end = is.at_end.0 d.1.ended;
         },
         (is.wrote, is.count),
       )
@@ -455,7 +455,7 @@ module _ (keep : PositionPolicy) (Allows : Header → List ℕ → Type 0) (Refu
             few = rest.0;
             below = subst (λ (k : ℕ). k < chunk_count chunk_length (held r)) from.index rest.1.below;
             read = rw bytes at is.reads;
-            at_end = is.at_end d.1.ended;
+            at_end = is.at_end.0 d.1.ended;
           },
         ),
         (is.wrote, is.count),

@@ -1,7 +1,7 @@
 -- Decrypting a payload, call by call.
 use Rattle.std.proofs.lemmas.Grind.{common_steps}
 use Rattle.std.proofs.Common.{◌≡◌, ℕ, ◌+◌, ◌*◌, ◌^◌, ◌<◌, ◌≤◌, sym, ap, subst, ◌∙◌, List, [], ◌++◌, length, Option, append-nil}
-use Rattle.std.proofs.Common.{append_assoc, Bool, false, true, arith, refl}
+use Rattle.std.proofs.Common.{append_assoc, Bool, false, true, true≢false, arith, refl}
 use Rattle.std.specs.Prelude.{Result, Ok, Err, ◌⊎◌, MatchResult, OnOk}
 use Rattle.std.proofs.lemmas.List.{length-append}
 use Rattle.age_chunk.specs.{IsChunkBox}
@@ -54,6 +54,7 @@ module _ {B : Type 0} (opening : B → List ℕ → List ℕ → Option (List �
     pub same : NoneFailed (ports_at old) (ports_at new)
     pub room : length o.held + new.writer.tally.written + length new.reader.unread.bytes ≤ 2 ^ 64 + pull_room * new.reader.unread.pulls
     pub most : new.reader.unread.pulls ≤ 2 ^ 63
+    pub goes_on : new.reader.source.supply.is_at_end ≡ false
 
   -- all that the source gave was fed, up to its end
   pub record Ends (o : OpenerView B) (old new : Stage) : Type 0 where
@@ -68,11 +69,13 @@ module _ {B : Type 0} (opening : B → List ℕ → List ℕ → Option (List �
     pub unwritten : List ℕ
     pub flows : Flows o old new left unwritten
     pub why : FlowFails o old new left unwritten fault
+    pub goes_on : new.reader.source.supply.is_at_end ≡ false
 
   pub begins : (o : OpenerView B) (old : Stage) → length o.held + old.writer.tally.written + length old.reader.unread.bytes
       ≤ 2 ^ 64 + pull_room * old.reader.unread.pulls → old.reader.unread.pulls ≤ 2 ^ 63 → has_failed o.status ≡ false
-      → HasReleased opening n key old.writer o old.writer (segment k [] false) [] → GoesOn o old old
-  begins o old room most sound released = grind (arith, common_steps, append-nil)
+      → HasReleased opening n key old.writer o old.writer (segment k [] false) [] → old.reader.source.supply.is_at_end ≡ false
+      → GoesOn o old old
+  begins o old room most sound released goes_on = grind (arith, common_steps, append-nil)
 
   module _ {b : OpenerView B} (c : OpenerView B) {old : Stage} {source : SourceView} {u : Unread} (v : Unread) {was : WriterView} (now : WriterView)
       {piece : List ℕ} (is : piece ≡ u.bytes) (pulls : v.pulls ≡ u.pulls) (p : GoesOn b old (stage (reader_view source u) was)) where
@@ -93,6 +96,7 @@ module _ {B : Type 0} (opening : B → List ℕ → List ℕ → Option (List �
           same = (p.same.0, goes.1 ∙ p.same.1);
           room = omega (arith, p.room, goes.0, pulls, ap length used, ap length is);
           most = omega (arith, p.most, pulls);
+          goes_on = p.goes_on;
         }
 
     feed_fails : (left unwritten : List ℕ) (fault : FileFault) → FeedFails opening n c was now left unwritten fault
@@ -108,6 +112,7 @@ module _ {B : Type 0} (opening : B → List ℕ → List ℕ → Option (List �
           unwritten = t.unwritten;
           flows = fed_on t.fed t.left t.unwritten t.parts t.released;
           why = feed_fails t.left t.unwritten fault t.why;
+          goes_on = p.goes_on;
         }
 
   -- if all was fed, the next piece is pulled
@@ -135,6 +140,7 @@ module _ {B : Type 0} (opening : B → List ℕ → List ℕ → Option (List �
           same = (h.4 ∙ p.same.0, p.same.1);
           room = omega (arith, p.room, h.1, h.3, ap length used);
           most = h.2;
+          goes_on = r.end;
         }
 
     pub pulled_none : Refills x z (Ok false) → Ends b old (stage z now)
@@ -150,6 +156,7 @@ module _ {B : Type 0} (opening : B → List ℕ → List ℕ → Option (List �
           unwritten = [];
           flows = pulled_on (Err fault) r;
           why = flow_fails fault r.answered.0 r.answered.2;
+          goes_on = r.end ∙ p.goes_on;
         }
 
 -- ---- From what an opener did to the segment that it was given.
@@ -214,7 +221,7 @@ module _ {B : Type 0} (sealing : B → List ℕ → List ℕ → List ℕ) (open
           fresh = f.fresh;
           parts = f.parts;
           pulled = f.pulled;
-          at_end = λ x. cc;
+          at_end = (λ x. cc, λ e. absurd (true≢false (sym e.0 ∙ t.goes_on)));
           wrote = f.released.wrote;
           counts = counted t.left (segment k (f.fed ++ t.left) false) refl f.released;
           prefix = prefix_of (opening K) n k f.fed t.left f.released.out t.unwritten f.released.text;
@@ -244,7 +251,7 @@ module _ {B : Type 0} (sealing : B → List ℕ → List ℕ → List ℕ) (open
           fresh = f.fresh;
           parts = f.parts ∙ append-nil f.fed;
           pulled = f.pulled;
-          at_end = λ x. t.at_end;
+          at_end = (λ x. t.at_end, λ e. refl);
           wrote = all.wrote;
           counts = counted [] (segment k f.fed true) (piece_nil (segment k f.fed true)) all;
           prefix = (end.unwritten, sym all.text);

@@ -89,6 +89,7 @@ module _ (Allows : Header → List ℕ → Type 0) (Refused : Header → KeyFaul
       pulled = subst (λ (t : List ℕ). Pulled (start_at a.supply) z.source.supply z.unread.pulls t)
           (sym (append_assoc head.front u.nonce z.unread.bytes)) (takes.passes.uses (start_at a.supply) head.front head.pulled);
       unfailed = takes.passes.unfailed ∙ head.unfailed;
+      goes_on = takes.passes.goes_on head.goes_on;
     }
 
 -- ---- What was passed over, one step after another.
@@ -98,7 +99,11 @@ pub passes_on : {x y : ReaderView} {source : SourceView} {u v : Unread} {p : Lis
     → HasSome y (reader_view source u) → v.pulls ≡ u.pulls → piece ≡ u.bytes → v.bytes ≡ drop n u.bytes
     → Passes x (reader_view source v) (p ++ take n piece)
 passes_on {x} {y} {source} {u} {v} {p} piece n f some pulls is rest =
-    passes_then p (take n piece) (passes_same f some.passes) (record { uses = uses_front source u v piece n pulls is rest; unfailed = refl })
+    passes_then p (take n piece) (passes_same f some.passes) (record {
+      uses = uses_front source u v piece n pulls is rest;
+      unfailed = refl;
+      goes_on = λ so. so;
+    })
 
 -- no more came, after pulls none of which failed
 pub no_more_since : (at_end : FileFault) (old mid new : ReaderView) (fault : FileFault) → mid.source.failed ≡ old.source.failed

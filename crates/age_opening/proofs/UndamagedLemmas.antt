@@ -207,7 +207,7 @@ module _ (one : OneHeader) {Allows : Header → List ℕ → Type 0} {Refused : 
   pub run_opens : (fault : StreamFault) → IsRun Allows old new written r → (run_outcome r).status ≡ Failed fault → ⊥
   run_opens fault is failed =
       no_stream_fault one u r.first below (own_authentic u.key u.nonce text u.few closed r.first below)
-      new.source.supply r.file r.skipped r.bytes r.ended fault (opened_as one u is.reads) is.skipped_size is.at_end failed
+      new.source.supply r.file r.skipped r.bytes r.ended fault (opened_as one u is.reads) is.skipped_size is.at_end.0 failed
 
   -- so it has no fault
   pub payload_undamaged : (never : Type 0) (fault : FileFault) → IsRun Allows old new written r
@@ -224,7 +224,7 @@ module _ (one : OneHeader) {Allows : Header → List ℕ → Type 0} {Refused : 
   run_writes old_text d =
       let is = d.is in
       let o = opened_as one u is.reads in
-      let none = none_left new.source.supply o.left o.left_is (is.at_end d.ended) in
+      let none = none_left new.source.supply o.left o.left_is (is.at_end.0 d.ended) in
       let rest : List ℕ = drop (r.first * block_length) (payload (box u.key u.nonce) chunk_length text) in
       let after : r.bytes ++ o.left ≡ rest = sym (drop_at r.skipped (r.bytes ++ o.left) (r.first * block_length) is.skipped_size)
       ∙ ap (drop (r.first * block_length)) (sym (append_assoc r.skipped r.bytes o.left) ∙ o.payload_is) in

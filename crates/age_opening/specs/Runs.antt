@@ -1,5 +1,5 @@
 -- What a run read and wrote, where a reader may continue after it, and how it ended.
-use Rattle.std.specs.Prelude.{◌≡◌, ◌⊎◌, ◌*◌, ◌/◌, ◌<◌, ◌≤◌, ℕ, min, List, [], ◌++◌, length, take}
+use Rattle.std.specs.Prelude.{◌≡◌, ◌⊎◌, ◌↔◌, ◌*◌, ◌/◌, ◌<◌, ◌≤◌, ℕ, min, List, [], ◌++◌, length, take}
 use Rattle.std.specs.Prelude.{Option, Some, None, IsSomeAnd, Bool, true, false}
 use Rattle.age_io.specs.Taken.{Appends}
 use Rattle.age_io.specs.Supply.{Supply}
@@ -77,7 +77,7 @@ pub record IsRun (Allows : Header → List ℕ → Type 0) (old new : Ports) (wr
   pub reads : Reads Allows old.source.supply new.source.supply r.file (r.skipped ++ r.bytes)
   pub copied_size : length r.copied ≡ r.first * chunk_length
   pub skipped_size : length r.skipped ≡ r.first * block_length
-  pub at_end : r.ended ≡ true → IsAtEnd new.source.supply
+  pub at_end : r.ended ≡ true ↔ IsAtEnd new.source.supply
   pub wrote : Appends old.sink.taken new.sink.taken (held r)
   pub count : written ≡ length (held r)
   pub prefix : IsPrefixOf r.out (run_text r)

@@ -1,7 +1,7 @@
 -- What private functions do, step by step. No public contract cites this module.
 use Rattle.std.specs.Prelude.{◌≡◌, ℕ, ◌+◌, ◌*◌, ◌^◌, ◌<◌, ◌≤◌, List, [], ◌++◌, length, Option}
 use Rattle.std.specs.Prelude.{Result, Ok, Err, Bool, true, false, ◌⊎◌, Some, None, ◌/◌, ◌≢◌, IsSome}
-use Rattle.std.specs.Prelude.{MatchResult, ◌-◌, min, OnOk, IsSomeAnd}
+use Rattle.std.specs.Prelude.{MatchResult, ◌-◌, min, OnOk, IsSomeAnd, ◌↔◌}
 use Rattle.age_io.specs.Supply.{Supply}
 use Rattle.age_io.specs.{IsAtEnd, SourceView, SinkView, HasFailed}
 use Rattle.age_stanza.specs.{HeadText}
@@ -103,6 +103,7 @@ pub record StartsAt (Allows : Header → List ℕ → Type 0) (old : SourceView)
   pub pulled : Pulled (start_at old.supply) new.source.supply new.unread.pulls
       ((front ++ unlocked.nonce) ++ new.unread.bytes)
   pub unfailed : new.source.failed ≡ old.failed
+  pub goes_on : new.source.supply.is_at_end ≡ false
 
 -- ---- What of a source was passed over, and what of an earlier output was copied.
 
@@ -270,7 +271,7 @@ module _ (opening : List ℕ → List ℕ → Option (List ℕ)) (n : ℕ) where
     pub pulled : (from : Start) (all : List ℕ)
         → Pulled from old.reader.source.supply old.reader.unread.pulls all
         → Pulled from new.reader.source.supply new.reader.unread.pulls (all ++ fresh)
-    pub at_end : ended ≡ true → IsAtEnd new.reader.source.supply
+    pub at_end : ended ≡ true ↔ IsAtEnd new.reader.source.supply
     pub wrote : Wrote old.writer new.writer out
     pub prefix : IsPrefixOf out (released opening n (segment start bytes ended))
     pub counts : (keep : PositionPolicy) (base : List ℕ) → length base ≡ start * n

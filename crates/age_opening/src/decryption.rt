@@ -1,6 +1,6 @@
 //! Decrypts a file.
 
-ghost use Rattle.std.specs.Prelude.{◌≡◌, ◌<◌, None};
+ghost use Rattle.std.specs.Prelude.{◌≡◌, ◌<◌, None, false};
 ghost use Rattle.age_chunk.specs.{chunk_limit};
 ghost use Rattle.age_intake.specs.{ports, SameReader};
 ghost use Rattle.age_position.specs.declared.position.PositionPolicy.TheVariants.{Kept};
@@ -110,6 +110,7 @@ pub(crate) fn open_payload<S: Source, O: Sink>(
 ) -> Result<Done, Stopped>
     requires limit { index < chunk_limit }
     requires room { HasPlace (stage_of S.view O.view reader.old writer.old) }
+    requires goes_on { (S.view reader.old.source.now).supply.is_at_end ≡ false }
     ensures opened { OpensPayload unlocked.now index
         (stage_of S.view O.view reader.old writer.old)
         (stage_of S.view O.view reader.new writer.new) result }

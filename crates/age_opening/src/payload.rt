@@ -73,6 +73,7 @@ pub(crate) fn decrypt_payload<S: Source, O: Sink>(
 ) -> Result<(), FileFault>
     requires limit { index < chunk_limit }
     requires room { HasPlace (stage_of S.view O.view reader.old writer.old) }
+    requires goes_on { (S.view reader.old.source.now).supply.is_at_end ≡ false }
     ensures decrypts { DecryptsPayload (opens key.now) chunk_length index
         (stage_of S.view O.view reader.old writer.old)
         (stage_of S.view O.view reader.new writer.new) result }

@@ -1,6 +1,6 @@
 //! Continues a decryption that stopped.
 
-ghost use Rattle.std.specs.Prelude.{◌≡◌, ◌<◌, [], IfOk, IfErr};
+ghost use Rattle.std.specs.Prelude.{◌≡◌, ◌<◌, [], IfOk, IfErr, false};
 ghost use Rattle.age_chunk.specs.{chunk_limit};
 ghost use Rattle.age_opening.specs.inner.{VerdictOn, StartsFor, StartForFails, HasRoomAfter};
 ghost use Rattle.age_opening.specs.inner.{ResumesRest, stage_of, CopiesOld};
@@ -99,6 +99,7 @@ fn resume_rest<S: Source, O: Sink>(
 ) -> Result<Result<Done, Stopped>, FileFault>
     requires limit { index < chunk_limit }
     requires room { HasRoomAfter index (stage_of S.view O.view reader.old writer.old) }
+    requires goes_on { (S.view reader.old.source.now).supply.is_at_end ≡ false }
     ensures resumes { ResumesRest unlocked.now index
         (stage_of S.view O.view reader.old writer.old)
         (stage_of S.view O.view reader.new writer.new) result }

@@ -57,6 +57,7 @@ returns-in-Some-clause-found g c =
           bytes ends.taken ends.pulls refl ends.rest all;
       last = stops_at old.supply new.supply kept.held bytes r.1 kept.front.inside all.consumed;
       unfailed = r.4 ∙ kept.unfailed;
+      goes_on = rw c.if-branch.true at c.in_ok-refill.ensures.refills.end;
     })
 
 pub pieces-preserved : goal.pieces-preserved

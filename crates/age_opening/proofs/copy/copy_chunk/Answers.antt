@@ -16,7 +16,7 @@ parts-init g c =
       same_writer = refl;
       copied = [];
       size = omega arith;
-      passes = record { uses = λ start used h. h; unfailed = refl };
+      passes = record { uses = λ start used h. h; unfailed = refl; goes_on = λ so. so };
       wrote = wrote_none _;
       failures = refl;
       index = refl;

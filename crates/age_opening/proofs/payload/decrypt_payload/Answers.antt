@@ -17,7 +17,8 @@ turns-init g c =
       goes = begins opens chunk_length c.args.key.now c.args.index c.at-opener.result old
           (omega (arith, ap (λ o. length o.held) c.at-opener.ensures.view, c.requires.room.0)) c.requires.room.1
           (ap (λ o. has_failed o.status) c.at-opener.ensures.view) (released_none seals opens box_valid
-          chunk_length (omega arith) old.writer c.args.index (ap (λ o. o.key) c.at-opener.ensures.view) c.at-opener.ensures.stands);
+          chunk_length (omega arith) old.writer c.args.index (ap (λ o. o.key) c.at-opener.ensures.view) c.at-opener.ensures.stands)
+          c.requires.goes_on;
     }
 
 pub returns-in_err-feed_piece-clause-decrypts : goal.returns-in_err-feed_piece-clause-decrypts

@@ -50,6 +50,9 @@ resume_rest-requires-clause-room g c =
     place_after c.args.positions (g.U.Unlock.allows c.args.unlock) (g.U.Unlock.refuses c.args.unlock) c.args.position.now
     s1 c.in-Ok.ensures.found c.new-tally.ensures.written b b.copied.answered.0 b.copied.answered.1
 
+pub resume_rest-requires-clause-goes_on : goal.resume_rest-requires-clause-goes_on
+resume_rest-requires-clause-goes_on g c = c.in-Ok.ensures.found.starts.goes_on
+
 -- not all of the blocks before the position were passed over
 pub returns-clause-resumes : goal.returns-clause-resumes
 returns-clause-resumes g c =

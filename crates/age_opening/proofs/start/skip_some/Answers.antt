@@ -13,6 +13,7 @@ returns-then-n-most-clause-skipped g c =
         uses = uses_front (g.S.Source.view c.args.reader.now.source.now) c.args.reader.now.intake.now c.use_front.new.self piece n
             c.use_front.ensures.pulls c.bytes.ensures.bytes c.use_front.ensures.bytes;
         unfailed = refl;
+        goes_on = λ so. so;
       },
     )
 
@@ -27,5 +28,6 @@ returns-clause-skipped g c =
         uses = uses_front (g.S.Source.view c.args.reader.now.source.now) c.args.reader.now.intake.now c.use_front.new.self piece n
             c.use_front.ensures.pulls c.bytes.ensures.bytes c.use_front.ensures.bytes;
         unfailed = refl;
+        goes_on = λ so. so;
       }) skipped.2,
     )

@@ -17,4 +17,5 @@ returns-clause-bytes c =
         left = rw (came, ← drop-drop n at items) (sym (take-append-drop n (drop at items)));
       },
       λ zero some. grind (arith, common_steps),
+      λ some. grind (arith, common_steps),
     )
