@@ -29,14 +29,18 @@ def release(folder, is_lighter=False):
     """A release in a folder: bin and share, as an archive has them. The path of its agefile."""
     top = pathlib.Path(folder)
     (top / "bin").mkdir(parents=True)
-    shutil.copytree(MODULE, top / "share" / "age_tool" / "agefile", ignore=shutil.ignore_patterns("__pycache__"))
+    module = top / "share" / "age_tool" / "agefile"
+    shutil.copytree(MODULE, module, ignore=shutil.ignore_patterns("__pycache__", "age_tool"))
     shutil.copy(workspace.program(), top / "bin" / ("proved" if is_lighter else "age_tool"))
     if is_lighter:
         (top / "bin" / "age_tool").write_text(LIGHTER)
     for it in (top / "bin").iterdir():
         it.chmod(0o755)
-    (top / "share" / "age_tool" / "agefile" / "__main__.py").chmod(0o755)
-    (top / "bin" / "agefile").symlink_to("../share/age_tool/agefile/__main__.py")
+    runs = module / "program" / "run_age_tool.py"
+    runs.write_text(runs.read_text().replace("(not a release)", "(of 0123456789)"))
+    (module / "program" / "__main__.py").chmod(0o755)
+    (module / "program" / "age_tool").symlink_to("../../../../bin/age_tool")
+    (top / "bin" / "agefile").symlink_to("../share/age_tool/agefile/program/__main__.py")
     return top / "bin" / "agefile"
 
 

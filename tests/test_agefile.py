@@ -6,6 +6,7 @@ import signal
 import subprocess
 import time
 import unittest
+import zipapp
 
 from tests.agefile_program import MODULE, AgefileCase, form
 from tests.bindings import setUpModule  # noqa: F401
@@ -117,6 +118,44 @@ class ProgramTest(AgefileCase):
             self.ends(f"agefile {words}", self.run_agefile(*words.split()), 2, form(said))
         self.see("no file was made", not self.is_there("new"))
 
+    def test_help(self):
+        """Each command is marked by what carries it out, and two lines say what is proved."""
+        said = self.run_agefile("--help").stdout.decode()
+        *_, marked = re.split(r"^Commands, .*\n", said.partition("\n\nThe proved program is age_tool, which a checker proved")[0], flags=re.M)
+        found = {it.split()[0]: re.findall("proved program|tested module", it) for it in re.split(r"^  (?=\w)", marked, flags=re.M)[1:]}
+        both, proved, tested = (["proved program", "tested module"], ["proved program"], ["tested module"])
+        wanted = {**dict.fromkeys(("decrypt", "test", "restore", "resume", "inspect", "drill", "help"), proved), "encrypt": both, "salvage": tested}
+        self.see("the marks", found == wanted, found)
+        for command in wanted.keys() - {"help"}:
+            run = self.run_agefile(command, "--help")
+            self.see(f"{command} is explained", run.returncode == 0 and run.stdout.startswith((b"Usage: ", b"usage: ")) or command in ("inspect", "drill"), run)
+
+    def test_pasted(self):
+        """The command that is shown after a stop can be pasted, whether the passphrase has a file or was typed."""
+        self.write("cut", self.age[:150_000])
+        words = "decrypt --save position cut part".split()
+        for what, run in (("a file", lambda: self.run_agefile(*words, "--pass", "pass")), ("typed", lambda: self.at_terminal(*words, answers=[b"correct horse\n"]))):
+            ended = run()
+            command = ended.stderr.decode().rpartition("to go on from there: ")[2].partition("\n")[0].replace(" NEW", " whole").replace(" PASS ", " pass ")
+            self.see(f"{what}: the command", command.startswith("age_tool resume --position position --old part --pass pass "), ended.stderr)
+            self.write("cut", self.age)
+            env = {**os.environ, "PATH": f"{self.agefile.parent}:{os.environ['PATH']}"}
+            run = subprocess.run(["bash", "-c", command], cwd=self.room, env=env, capture_output=True)
+            self.see(f"{what}: pasted", run.returncode == 0 and self.read("whole") == self.plain, command, run)
+            self.write("cut", self.age[:150_000])
+            self.remove("whole", "part", "position")
+
+    def test_to_a_terminal(self):
+        """No age file is shown at a terminal."""
+        ended = self.at_terminal(*"encrypt --pass pass --log 2 plain /dev/tty".split())
+        self.ends("encrypt", ended, 2, b"age_tool: the output is a terminal\n")
+        ended = self.at_terminal(*"restore --pass pass age /dev/tty".split())
+        self.ends("restore", ended, 2, b"agefile: restore writes a regular file, which /dev/tty isn't\n")
+        self.write("words", b"some words\n")
+        self.tool(*"encrypt --pass pass --log 2 words words.age".split(), check=True)
+        ended = self.at_terminal(*"decrypt --pass pass words.age /dev/tty".split())
+        self.see("a text is", (ended.returncode, ended.shown) == (0, b"some words\r\n"), vars(ended))
+
     def test_typed(self):
         """A passphrase that is typed: twice to encrypt, and never shown."""
         secret = "pass\u00e9 wort"
@@ -139,6 +178,7 @@ class ProgramTest(AgefileCase):
         self.see("no file was made", not self.is_there("none"))
         said = form("age_tool: 13 WrongKey\nage_tool: age: the passphrase doesn't open it: .*")
         self.ends("a wrong one", self.at_terminal("decrypt", "age", "none", answers=[b"wrong\n"]), 1, said)
+        self.ends("with a carriage return", self.at_terminal("decrypt", "age", "-", answers=[b"correct horse\r\n"]), 0, out=self.plain)
         ended = self.at_terminal("decrypt", "age", "pass", answers=[])
         self.see("none is asked for if OUT is refused", ended.returncode == 1 and ended.shown == b"", ended.shown)
         for name in ("none", "plain", "pass", "."):
@@ -188,11 +228,11 @@ class ProgramTest(AgefileCase):
             kept.replace(beside)
 
     def test_alone(self):
-        """The one file beside an age_tool is agefile without keys, which loads no module of ours."""
+        """An archive of the program beside an age_tool is agefile without keys, which loads no module of the library."""
         alone = self.path("alone")
         alone.mkdir()
         shutil.copy(self.agefile.parent / "age_tool", alone)
-        shutil.copy(MODULE / "__main__.py", alone / "agefile")
+        zipapp.create_archive(MODULE / "program", alone / "agefile", "/usr/bin/env python3", filter=lambda it: it.suffix == ".py")
         (alone / "agefile").chmod(0o755)
         self.write("decrypt.py", b"raise SystemExit(9)")
         (alone / "getpass.py").write_text("raise SystemExit(9)")
@@ -202,13 +242,13 @@ class ProgramTest(AgefileCase):
             with open(self.path("age"), "rb") as age:
                 self.ends("typed", self.at_terminal("decrypt", "-", "-", answers=[b"correct horse\n"], stdin=age), 0, out=self.plain)
             self.ends("restore", self.run_agefile(*"restore --pass pass age new".split()), 0)
-            said = form("agefile: keys need the Python module agefile: pip install 'agefile\\[keys\\]', or .*")
+            said = form("agefile: this needs the Python module agefile: pip install 'agefile\\[keys\\]', or .*")
             self.ends("keys", self.run_agefile(*"decrypt --identity pass age -".split(), env={**os.environ, "PYTHONPATH": ""}), 1, said)
         finally:
             self.agefile = kept
         env = {**self.env, "PYTHONPROFILEIMPORTTIME": "1"}
         loaded = self.run_agefile(*"decrypt --pass pass age new2".split(), env=env).stderr
-        self.see("no module of ours is loaded", b"agefile" not in loaded and b" os\n" in loaded and b"ctypes" not in loaded, loaded[-500:])
+        self.see("no module of the library is loaded", b"agefile" not in loaded and b"command_line" in loaded and b" os\n" in loaded and b"ctypes" not in loaded, loaded[-500:])
 
     def test_as_a_module(self):
         """python3 -m agefile is the same program."""

@@ -14,6 +14,7 @@ from tools import shim
 
 CHUNK, BLOCK = 65_536, 65_552
 KEPT = "agefile: what was decrypted is kept in .*/out.restore: the same command goes on from there\n"
+KEPT_FILES = ["position", "text"]
 COMMAND = ("restore", "--pass", "pass", "-", "out")
 
 
@@ -33,12 +34,12 @@ class RestoreTest(AgefileCase):
         more = {"stdin": subprocess.PIPE, "stderr": subprocess.PIPE, "cwd": self.room, "env": self.env} | more
         return subprocess.Popen([self.agefile, *(words or COMMAND)], **more)
 
-    def feed(self, run, count, part):
-        """Gives it so many bytes, and waits until a part has all chunks that are whole in these."""
+    def feed(self, run, count):
+        """Gives it so many bytes, and waits until its text has all chunks that are whole in these."""
         run.stdin.write(self.age[:count])
         run.stdin.flush()
         chunks = (count - (len(self.age) - len(self.plain) - 16 * 12)) // BLOCK
-        path, until = self.path(f"out.restore/part-{part}"), time.monotonic() + SECONDS
+        path, until = self.path("out.restore/new-text"), time.monotonic() + SECONDS
         while not (path.exists() and path.stat().st_size >= chunks * CHUNK) and time.monotonic() < until:
             time.sleep(0.01)
 
@@ -74,29 +75,29 @@ class RestoreTest(AgefileCase):
     def test_signals(self):
         """Each signal that ends a run leaves what it has, and the same command goes on; the run ends as by that signal."""
         fed = 0
-        for part, number in enumerate((signal.SIGINT, signal.SIGTERM, signal.SIGHUP), 1):
+        for number in (signal.SIGINT, signal.SIGTERM, signal.SIGHUP):
             run = self.begin()
             fed += 3 * BLOCK
-            self.feed(run, fed + 10_000, part)
+            self.feed(run, fed + 10_000)
             run.send_signal(number)
             said = self.end(run)
             fits = form(f"agefile: stopped by {number.name}\n{KEPT}").fullmatch(said)
-            self.see(f"{number.name}", run.returncode == -number and fits and self.kept() == [f"part-{part}", f"position-{part}"], run.returncode, said, self.kept())
+            self.see(f"{number.name}", run.returncode == -number and fits and self.kept() == KEPT_FILES, run.returncode, said, self.kept())
             self.see(f"OUT after {number.name}", not self.is_there("out"))
         self.is_through("the same command", self.run_agefile(*COMMAND, input=self.age))
 
     def test_group(self):
         """A signal for the whole group, as of a terminal, is kept from age_tool."""
         run = self.begin(start_new_session=True)
-        self.feed(run, 4 * BLOCK, 1)
+        self.feed(run, 4 * BLOCK)
         os.killpg(run.pid, signal.SIGINT)
         said = self.end(run)
-        self.see("it is kept", run.returncode == -signal.SIGINT and self.kept() == ["part-1", "position-1"], run.returncode, said)
+        self.see("it is kept", run.returncode == -signal.SIGINT and self.kept() == KEPT_FILES, run.returncode, said)
 
     def test_killed(self):
         """A run that is killed leaves age_tool a cut input, which saves a position; the next run waits for that."""
         run = self.begin()
-        self.feed(run, 6 * BLOCK, 1)
+        self.feed(run, 6 * BLOCK)
         run.kill()
         run.wait(SECONDS)
         self.is_through("the same command", self.run_agefile(*COMMAND, input=self.age))
@@ -109,9 +110,9 @@ class RestoreTest(AgefileCase):
             run = self.run_agefile(*COMMAND, input=self.age[:count])
             self.ends(f"cut after {count}", run, 1, form(r"age_tool: \d+ \w.*\nage_tool: .*\n" + KEPT))
             self.see(f"cut after {count}: no words of age_tool to go on", b"age_tool resume" not in run.stderr, run.stderr)
-            sizes = [it.stat().st_size for it in self.path("out.restore").glob("part-*")]
-            self.see(f"cut after {count}: kept", len(self.kept()) == 2 and len(sizes) == 1 and sizes[0] >= most > -1, self.kept(), sizes, most)
-            most = max(sizes)
+            size = self.path("out.restore/text").stat().st_size
+            self.see(f"cut after {count}: kept", self.kept() == KEPT_FILES and size >= most, self.kept(), size, most)
+            most = size
         self.is_through("whole", self.run_agefile(*"restore --pass pass age out".split()))
 
     def test_nothing_kept(self):
@@ -136,16 +137,16 @@ class RestoreTest(AgefileCase):
         self.tool(*"encrypt --pass pass --log 1 --no-sync plain other".split(), check=True)
         unfit = "agefile: .*/out.restore is of another IN or key: remove it to begin anew\n"
         self.ends("another file", self.run_agefile(*"restore --pass pass other out".split()), 1, form("age_tool: 24 OtherFile\nage_tool: .*\n" + unfit))
-        self.path("out.restore/part-1").write_bytes(bytes(5 * CHUNK))
+        self.path("out.restore/text").write_bytes(bytes(5 * CHUNK))
         self.ends("another part", self.run_agefile(*"restore --pass pass age out".split()), 1, form("age_tool: 31 OldTextDiffers\nage_tool: .*\n" + unfit))
-        self.path("out.restore/part-1").unlink()
-        self.ends("no part", self.run_agefile(*"restore --pass pass age out".split()), 1, form("age_tool: 2[56] \\w+\nage_tool: .*\n.*"))
-        self.see("the position is still there", self.kept() == ["position-1"], self.kept())
+        self.path("out.restore/text").unlink()
+        self.ends("no text", self.run_agefile(*"restore --pass pass age out".split()), 1, form("age_tool: 2[56] \\w+\nage_tool: .*\n.*"))
+        self.see("the position is still there", self.kept() == ["position"], self.kept())
 
     def test_two(self):
         """Of two at once the second is refused."""
         run = self.begin()
-        self.feed(run, 2 * BLOCK, 1)
+        self.feed(run, 2 * BLOCK)
         self.ends("the second", self.run_agefile(*"restore --pass pass age out".split()), 1, form("agefile: another restore of .*/out is running\n"))
         run.stdin.write(self.age[2 * BLOCK:])
         run.stdin.close()
@@ -156,24 +157,28 @@ class RestoreTest(AgefileCase):
         """A disk that fills up is told by age_tool, and the same command goes on once there is room."""
         line = f'ulimit -f 400; exec "{self.agefile}" restore --pass pass age out'
         run = subprocess.run(["bash", "-c", line], cwd=self.room, env=self.env, capture_output=True)
-        self.ends("full", run, 1, form("age_tool: 27 Write\nage_tool: can't write .*/out.restore/part-1: File too large\n" + KEPT))
+        self.ends("full", run, 1, form("age_tool: 27 Write\nage_tool: can't write .*/out.restore/new-text: File too large\n" + KEPT))
         self.is_through("the same command", self.run_agefile(*"restore --pass pass age out".split()))
 
     def test_leftovers(self):
-        """What a run left that was killed between two steps: a part without a position, an older number, or parts after OUT got its name."""
+        """What a run left that was killed between two steps: a text without a position, a new text beside the old position, or all of it after OUT got
+        its name."""
         self.run_agefile(*COMMAND, input=self.age[:5 * BLOCK])
         folder = self.path("out.restore")
-        for name in ("part-2", "position-3", "position-1.new", "x"):
-            (folder / name).write_bytes(b"" if name == "position-3" else b"x")
+        for name in ("new-text", "new-position", "new-position.new", "x"):
+            (folder / name).write_bytes(b"" if name == "new-position" else b"x")
+        early = self.read("out.restore/position")
         self.run_agefile(*COMMAND, input=self.age[:8 * BLOCK])
-        self.see("they are gone", self.kept() == ["part-2", "position-2"], self.kept())
-        self.is_through("through", self.run_agefile(*COMMAND, input=self.age))
+        self.see("they are gone", self.kept() == KEPT_FILES, self.kept())
+        self.see("the position is a later one", self.read("out.restore/position") != early)
+        self.write("out.restore/position", early)
+        self.is_through("with a text that is longer than its position says", self.run_agefile(*COMMAND, input=self.age))
         folder.mkdir(mode=0o700)
-        os.link(self.path("out"), folder / "part-3")
-        (folder / "position-2").write_bytes(b"x")
+        os.link(self.path("out"), folder / "new-text")
+        (folder / "position").write_bytes(b"x")
         self.is_through("after OUT got its name", self.run_agefile(*COMMAND, input=self.age))
         folder.mkdir(mode=0o700)
-        (folder / "part-1").write_bytes(b"x")
+        (folder / "new-text").write_bytes(b"x")
         self.ends("OUT is another file", self.run_agefile(*COMMAND, input=self.age), 1, form("agefile: 27 Write\nagefile: out exists; .*"))
         self.see("what wasn't decrypted is gone", not folder.exists())
 
@@ -199,7 +204,7 @@ class RestoreTest(AgefileCase):
         self.write("synced", b"")
         run = self.run_agefile(*"restore --pass pass age out".split(), env={**self.env, **shim.loaded(SYNCED=self.path("synced"))})
         synced = [os.path.basename(it) for it in self.read("synced").decode().split()]
-        self.see("synced", run.returncode == 0 and synced[-2:] in ([self.room.name, "out.restore"],) and "part-1" in "".join(synced), synced, run.stderr)
+        self.see("synced", run.returncode == 0 and synced[-1] == self.room.name and "new-text" in synced, synced, run.stderr)
 
     def test_random_interrupts(self):
         """Interrupts at random places of a run: each loses nothing that was there, and in the end OUT is whole."""

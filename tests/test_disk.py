@@ -575,7 +575,7 @@ class DiskTest(FilesCase):
         self.expect(0, b"", "encrypt --pass pass --log 4 plain age")
         self.fused("broken", READ=errno.EIO, FROM=3 << 20)
         self.write("broken-held/age", self.read("age"))
-        salvage = b"; without another copy, a release's Python module saves what still opens: python3 -m agefile salvage\n"
+        salvage = b"; without another copy, agefile salvage saves what still opens\n"
         said = b"age_tool: 26 Read\n" + reason("read broken/age", errno.EIO)[:-1] + salvage
         self.expect(1, said, "decrypt --pass pass --save saved broken/age out", "a source that breaks")
         chunks = self.path("out").stat().st_size >> 16

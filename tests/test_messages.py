@@ -21,7 +21,7 @@ UNMADE = ((22, "too long (more than 2^48 chunks): split the plaintext", "they ha
           (28, f"out of memory: {NEEDS}", "without a passphrase a run takes less memory than the limit with which the others are made"),
           (29, "read 2^63 times without ending: supply an input that ends", "at a million reads a second these take 292,000 years"))
 RETRY = "if you trust the file, retry with "
-KEYS = "age_tool inspect shows its stanzas; a key file is for age -d -i, or for a release's Python module: python3 -m agefile decrypt --identity"
+KEYS = "age_tool inspect shows its stanzas; a key file is for age -d -i, or for agefile decrypt --identity"
 NO_LINE = "this may not be an age file: its first line has no newline"
 LIMIT = ("work factor {0}: a passphrase takes {1} of memory; " + RETRY + "--max-log {0}").format
 MEMORY = "out of memory: work factor {}: a passphrase takes {} of memory".format
@@ -75,7 +75,7 @@ ROWS = (
 )
 
 # What the system answered. Each: the number, the words, and what is said.
-SALVAGE = "without another copy, a release's Python module saves what still opens: python3 -m agefile salvage"
+SALVAGE = "without another copy, agefile salvage saves what still opens"
 MISSING, FOLDER = "No such file or directory", "Is a directory"
 MACHINE = (
     (26, "encrypt --pass none plain back", f"can't open none: {MISSING}; --pass takes the name of a file that holds the passphrase"),

@@ -257,12 +257,12 @@ class ProgramTest(Case):
     def test_options_of_others(self):
         """A refused option of `age` or `gpg` gets a hint that is true, and no other tip."""
         for words, hint in (
-            ("decrypt -i key.txt plain.age back", "for a key file (a release's Python module): python3 -m agefile decrypt --identity FILE IN OUT"),
-            ("decrypt --identity=key.txt plain.age back", "for a key file (a release's Python module): python3 -m agefile decrypt --identity FILE IN OUT"),
+            ("decrypt -i key.txt plain.age back", "for a key file: agefile decrypt --identity FILE IN OUT"),
+            ("decrypt --identity=key.txt plain.age back", "for a key file: agefile decrypt --identity FILE IN OUT"),
             ("-d -o back plain.age", "age_tool decrypt --pass FILE IN OUT decrypts"), ("-c plain", "age_tool encrypt --pass FILE IN OUT encrypts"),
             ("encrypt -p -o back plain", "the passphrase is read from a file: --pass FILE"), ("encrypt --pass pass -o back plain", "OUT is the last word, without an option"),
-            ("encrypt -r age1 plain back", "for a recipient (a release's Python module): python3 -m agefile encrypt --recipient KEY IN OUT"),
-            ("encrypt -R all plain back", "for recipients (a release's Python module): python3 -m agefile encrypt --recipients-file FILE IN OUT"),
+            ("encrypt -r age1 plain back", "for a recipient: agefile encrypt --recipient KEY IN OUT"),
+            ("encrypt -R all plain back", "for recipients: agefile encrypt --recipients-file FILE IN OUT"),
             ("encrypt --armor plain back", "age_tool doesn't do armor: leave it out"), ("encrypt -f plain back", "without --no-clobber an existing OUT is overwritten"),
             ("-v", "--progress shows how far a run is, and age_tool --version the version"), ("decrypt --pass pass plain.age cut.age back", "a command takes one IN and one OUT at a time"),
             ("encrypt --log -1 plain back", "no such option: age_tool encrypt --help lists them"), ("decrypt --passs pass plain.age back", "a similar option exists: '--pass'"),

@@ -222,8 +222,11 @@ class PythonTest(BindingsCase):
 
     @needs("mypy")
     def test_types(self):
-        run = subprocess.run(["mypy", "--strict", "--cache-dir", os.devnull, "agefile"], cwd=PYTHON, capture_output=True, text=True)
-        self.assertEqual(run.returncode, 0, run.stdout)
+        program = PYTHON / "agefile" / "program"
+        for words, folder, path in ((("--exclude", "/program/", "agefile"), PYTHON, ""), (("--no-namespace-packages", *program.glob("*.py")), program, PYTHON)):
+            run = subprocess.run(["mypy", "--strict", "--cache-dir", os.devnull, *words], cwd=folder, env={**os.environ, "MYPYPATH": str(path)},
+                                 capture_output=True, text=True)
+            self.assertEqual(run.returncode, 0, run.stdout)
 
     def test_places(self):
         """The Python module finds the library next to it, and in the folders of a release. AGE_C_LIBRARY goes first."""

@@ -69,7 +69,7 @@ class ReleaseTest(Case):
         said = run(alone, "--version").stdout
         self.see("the program names its commit", said == f"age_tool 1.3.0 (of {commit})\n", said)
         self.see("the notices are", f"{names[0]}/share/doc/age_tool/NOTICES" in names, names)
-        ends = ("linux.tar.gz", "source.tar.gz", ".whl", "agefile-1.3.0.py", "-static", "-static.o", "age_tool.spdx.json", "NOTICES", "SHA256SUMS", *4 * ["amd64.deb"])
+        ends = ("linux.tar.gz", "source.tar.gz", ".whl", "agefile-1.3.0.pyz", "-static", "-static.o", "age_tool.spdx.json", "NOTICES", "SHA256SUMS", *4 * ["amd64.deb"])
         self.see("all files of a release", sorted(self.held("first")) == sorted(it for it in self.held("first") if it.endswith(ends))
                  and len(self.held("first")) == len(ends), *self.held("first"))
         self.see("its sums aren't signed", "SHA256SUMS.sig" not in self.held("first"))
@@ -115,9 +115,10 @@ class ReleaseTest(Case):
         with tarfile.open(archive) as tar:
             tar.extractall(self.room)
         [top], [wheel], [alone] = self.room.glob("age_tool-*-linux"), self.path("out").glob("*.whl"), self.path("out").glob("*-static")
+        [front] = self.path("out").glob("*.pyz")
         env = {**os.environ, "PATH": f"{top}/bin:{os.environ['PATH']}", "PKG_CONFIG_PATH": f"{top}/lib/pkgconfig", "CMAKE_PREFIX_PATH": str(top),
-               "LD_LIBRARY_PATH": f"{top}/lib", "MANPATH": f"{top}/share/man", "WHEEL": str(wheel), "STATIC": str(alone), "AGE_C_LIBRARY": ""}
-        for what, tool in (("program", "age_tool"), ("alone", "age_tool"), ("manual", "man"), ("completion", "bash"), ("shared", "pkg-config"),
+               "LD_LIBRARY_PATH": f"{top}/lib", "MANPATH": f"{top}/share/man", "WHEEL": str(wheel), "STATIC": str(alone), "FRONT": str(front), "AGE_C_LIBRARY": ""}
+        for what, tool in (("program", "age_tool"), ("alone", "age_tool"), ("front", "agefile"), ("front_alone", "python3"), ("manual", "man"), ("completion", "bash"), ("shared", "pkg-config"),
                            ("static", "cc"), ("by_cmake", "cmake"), ("python", "python3"), ("wheel", "python3")):
             if not shutil.which(tool, path=env["PATH"]):
                 self.leave_out(what, f"needs {tool}")

@@ -142,8 +142,7 @@ fn more_of_failure(failure: Failure<'_>, asked: &Request<'_>) -> &'static str {
         Action::CreateNewOverEmpty => { "; it is empty: a run that was killed may have left it" }
         Action::Read if arguments.input == name => match *asked {
             Request::Decrypt(_) | Request::Resume(_) => {
-                "; without another copy, a release's Python module saves what still opens: \
-                 python3 -m agefile salvage"
+                "; without another copy, agefile salvage saves what still opens"
             }
             _ => "",
         },

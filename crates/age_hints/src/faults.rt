@@ -72,8 +72,8 @@ The file isn't encrypted with a passphrase (for --pass), or to an X25519
 recipient (for --shared).
 OUT: unchanged.
 What to do: age_tool inspect shows its stanzas; a key file is for age -d -i, or
-for a release's Python module: python3 -m agefile decrypt --identity. --pass
-opens scrypt, --shared X25519, and --file-key any file."),
+for agefile decrypt --identity. --pass opens scrypt, --shared X25519, and
+--file-key any file."),
         13 => ("WrongKey", "13 WrongKey
 The passphrase, or the shared secret, doesn't open the stanza; or the stanza is
 damaged.
@@ -100,8 +100,7 @@ This chunk isn't what the writer wrote there, or the file ends inside it (most
 cut downloads show up as 17), or something was appended to it.
 OUT: the chunks before it; unchanged, if this is chunk 0.
 What to do: fetch it again; age_tool resume continues from a position that
---save saved. Without another copy, a release's Python module saves what still
-opens: python3 -m agefile salvage."),
+--save saved. Without another copy, agefile salvage saves what still opens."),
         18 => ("ChunkCut", "18 ChunkCut
 The file ends in the first 15 bytes of this chunk.
 OUT: the chunks before it; unchanged, if this is chunk 0.
@@ -148,9 +147,9 @@ fault if the position is at chunk 0. Files are opened in this order: --pass,
 --shared, --random, --position, --old, the drill's script, IN.
 OUT: what was written so far; unchanged if nothing was.
 What to do: check the names and the disk; decrypt again, or resume, if a
-position was saved. If IN can't be read, then without another copy, a release's
-Python module saves what still opens: python3 -m agefile salvage. --pass and
---shared take the name of a file."),
+position was saved. If IN can't be read, then without another copy,
+agefile salvage saves what still opens. --pass and --shared take the name of a
+file."),
         27 => ("Write", "27 Write
 A file couldn't be created, written or synced to disk; or another program holds
 its lock; or it was removed or got another length meanwhile (FAULTS.md says

@@ -29,9 +29,9 @@ pub(crate) fn find_sentence(fault: FileFault, by_pass: bool) -> Option<Sentence>
 fn sentence_of_key(number: u8, by_pass: bool) -> Sentence {
     match number {
         12 if by_pass => ("it isn't encrypted with a passphrase", "age_tool inspect shows its stanzas; a key \
-            file is for age -d -i, or for a release's Python module: python3 -m agefile decrypt --identity"),
+            file is for age -d -i, or for agefile decrypt --identity"),
         12 => ("it isn't encrypted to an X25519 recipient", "age_tool inspect shows its stanzas; a key \
-            file is for age -d -i, or for a release's Python module: python3 -m agefile decrypt --identity"),
+            file is for age -d -i, or for agefile decrypt --identity"),
         _ if by_pass => ("the passphrase doesn't open it", "check the passphrase, whose file may end with \
             one newline, not two, and has no carriage return or BOM"),
         _ => ("the shared secret doesn't open it", "check the shared secret"),

@@ -26,12 +26,9 @@ const OPTION_TIPS: Tips = &[
     (&["-e", "--encrypt", "-c", "--symmetric"], "age_tool encrypt --pass FILE IN OUT encrypts"),
     (&["-p", "--passphrase"], "the passphrase is read from a file: --pass FILE"),
     (&["-o", "--output"], "OUT is the last word, without an option"),
-    (&["-i", "--identity"], "for a key file (a release's Python module): \
-        python3 -m agefile decrypt --identity FILE IN OUT"),
-    (&["-r", "--recipient"], "for a recipient (a release's Python module): \
-        python3 -m agefile encrypt --recipient KEY IN OUT"),
-    (&["-R", "--recipients-file"], "for recipients (a release's Python module): \
-        python3 -m agefile encrypt --recipients-file FILE IN OUT"),
+    (&["-i", "--identity"], "for a key file: agefile decrypt --identity FILE IN OUT"),
+    (&["-r", "--recipient"], "for a recipient: agefile encrypt --recipient KEY IN OUT"),
+    (&["-R", "--recipients-file"], "for recipients: agefile encrypt --recipients-file FILE IN OUT"),
     (&["-a", "--armor"], "age_tool doesn't do armor: leave it out"),
     (&["-f", "--force", "--overwrite", "--yes"], "without --no-clobber an existing OUT is overwritten"),
     (&["-v", "--verbose"], "--progress shows how far a run is, and age_tool --version the version"),
