@@ -27,7 +27,7 @@ CHECKS = {
     "refusals": (["file"], ["file"]), "misuse": (["3000"], ["150"]), "work": ([], None), "places": ([], None), "seek": ([], ["5"]),
     "stream": ([], ["1"]), "sequences": (["600", "1"], ["10", "2"]), "header": ([], []),
     "seal_key": ([TOP / "bindings" / "tests" / "age" / "one.age"], None),
-    "objects": ([], None), "given_up": ([], []), "lacking": ([], None), "undamaged": ([], []), "limit": ([], []), "derived": ([], None),
+    "objects": ([], None), "given_up": ([], []), "lacking": ([], None), "undamaged": ([], []), "limit": ([], []), "derived": ([], None), "programs": ([], []),
 }
 # The C files over the proved calls, which the sanitizers see only if they compile them.
 INNER = [SOURCES / f"{it}.c" for it in ("agefile", "once", "look")]
@@ -361,6 +361,14 @@ class CTest(ProgramsCase):
             kinds = {name: {int(it[0]) for it in printed if it[2] == str(kind) and it[1] != "Unknown"} for kind, name in enumerate(KINDS)}
             self.see("the kinds of the faults", kinds == KINDS, kinds)
             self.see("a sentence of each", all(it[3] for it in printed) and len({it[3] for it in printed if it[1] != "Unknown"}) > 20, printed)
+        # What was forgotten once, and sealed one file's text into the next, can't be written: what an encoder holds isn't shown.
+        forgotten = '#include "agefile.h"\n#include <string.h>\nvoid f(agefile_encoder *e, agefile_decoder *d) {{ {} }}\n'
+        for what, line, status in (
+            ("a field", "e->held = 0;", 1), ("a field of a decoder", "d->reader.state = 1;", 1), ("a copy", "agefile_encoder other = *e; (void)other;", 1),
+            ("an object of the caller's", "memset(e, 0, sizeof *e);", 1), ("calls", "agefile_encoder_free(e), agefile_decoder_free(d);", 0),
+        ):
+            run = subprocess.run([*words[:-1], "/dev/null", "-c"], input=forgotten.format(line), capture_output=True, text=True)
+            self.see(f"a program that uses {what}", run.returncode == status and (status == 0 or "incomplete" in run.stderr), run.stderr)
         ignored = '#include "agefile.h"\nvoid f(agefile_encoder *e, void *b, size_t *w) {{ {0}agefile_encode_end(e, b, 0, w){1}; }}\n'
         for what, how, status in (("ignored", ("", ""), 1), ("looked at", ("if (", ") {}"), 0)):
             run = subprocess.run([*words[:-1], "/dev/null", "-c"], input=ignored.format(*how), capture_output=True, text=True)

@@ -14,7 +14,7 @@ import unittest.mock
 
 from tests import counted, test_runs
 from tests.case import SECONDS, Case
-from tools import older_kit, promises, sources
+from tools import older_kit, promises, sources, version
 from tools.workspace import TOP, loaded
 
 EMPTY = "import unittest\n\nclass EmptyTest(unittest.TestCase):\n    pass\n"
@@ -234,6 +234,20 @@ check.main()"""
                     path.parent.mkdir(parents=True)
                     path.write_text(f"{line}\nfn spoil() {{\n    {line}\n}}\n")
                     self.assertNotEqual([*check.unnoted([sources.Source(path, pathlib.Path(room))])], [])
+
+    def test_version(self):
+        """A version is written wherever another stands, in each form, and nothing else is changed."""
+        for text, new in (("1.3.0 v1.3.0, (10300)", "12.10.9 v1.3.0, (121009)"), ("1_03_00 10_300u 10300u", "12_10_09 121_009u 121009u"),
+                          ("11.3.0 1.3.0.1 1.3.01 103000 10300_1", "11.3.0 1.3.0.1 1.3.01 103000 10300_1"), ("tool-1.3.0-x.tar", "tool-12.10.9-x.tar")):
+            self.assertEqual(version.replaced(text, "1.3.0", "12.10.9"), new)
+        old, changed = version.version_of_program(), 0
+        for it in version.files():
+            text = it.read_text()
+            new = version.replaced(text, old, "98.76.54")
+            changed += new != text
+            self.assertEqual(version.replaced(new, "98.76.54", old), text)
+        self.assertGreater(changed, 5)
+        self.assertRegex(version.version(), r"^\d+\.\d+\.\d+$")
 
     def test_claims(self):
         """A number that a page has and the tests don't is noticed."""

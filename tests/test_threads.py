@@ -63,7 +63,7 @@ class ThreadsOfTheirOwnTest(Case):
     @needs("cc")
     def test_c(self):
         made, words = self.path("threads"), ["-std=c11", "-g", "-O1", f"-I{TOP / 'include'}", "-pthread"]
-        source = [TOP / "bindings" / "c" / "tests" / "threads.c", LIBRARY / "libage_c.a"]
+        source = [TOP / "bindings" / "c" / "tests" / "threads.c", LIBRARY / "libagefile.a"]
         if subprocess.run(["cc", *words, "-fsanitize=thread", "-o", made, *source], capture_output=True).returncode != 0:
             self.skipTest("needs the sanitizers")
         # (a kernel may draw addresses that it can't do with, and a container may refuse to let it draw none)

@@ -67,8 +67,8 @@ static int put(agefile_encoder *it, const void *text, size_t len, bool ended, ui
     if (room < (ended ? agefile_encode_end_room(it) : agefile_encode_room(it, len))) return AGEFILE_NO_ROOM;
     front = copy(out, it->front, it->front_len);
     forget_front(it);
-    int answer = (int)(ended ? age_c_finish_text(&it->core, out + front, room - front, written)
-        : age_c_encode_piece(&it->core, text, len, &taken, out + front, room - front, written));
+    int answer = (int)(ended ? age_c_finish_text(&it->core, core_after(out, front), room - front, written)
+        : age_c_encode_piece(&it->core, text, len, &taken, core_after(out, front), room - front, written));
     *written += front;
     return answer;
 }

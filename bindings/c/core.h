@@ -40,6 +40,10 @@ enum { PASS = 1, FILE_KEY = 2, SHARED = 3, FRONT = 256, STANZA = 98, FRONT_MAX =
 
 /* Memory for an object, set to zeros; NULL if it doesn't serve. */
 void *core_cleared(void *memory, size_t len, size_t size);
+/* The place after so many bytes; NULL, which may be given for none, stays NULL. */
+static inline uint8_t *core_after(void *at, size_t n) {
+    return n ? (uint8_t *)at + n : at;
+}
 /* 0 if a key can be used, else the answer that says why not. */
 int core_fit(const agefile_key *);
 /* agefile_decode, with room for the plaintext alone. */

@@ -8,7 +8,7 @@ int agefile_encrypt(agefile_key key, const void *text, size_t len, void *out, si
     size_t n = *written = 0;
     int answer = agefile_encoder_new(&it, key);
     if (!answer) answer = agefile_encode(it, text, len, out, room, &n);
-    if (!answer) answer = agefile_encode_end(it, (uint8_t *)out + n, room - n, written);
+    if (!answer) answer = agefile_encode_end(it, core_after(out, n), room - n, written);
     if (!answer) *written += n;
     else if (n) explicit_bzero(out, n);
     agefile_encoder_free(it);
@@ -19,7 +19,7 @@ int agefile_decrypt(agefile_key key, const void *file, size_t len, void *out, si
     size_t n = *written = 0;
     int answer = agefile_decoder_new(&it, key);
     if (!answer) answer = core_decode(it, file, len, out, room, &n);
-    if (!answer) answer = agefile_decode_end(it, (uint8_t *)out + n, room - n, written);
+    if (!answer) answer = agefile_decode_end(it, core_after(out, n), room - n, written);
     if (!answer) *written += n;
     else if (n) explicit_bzero(out, n);
     agefile_decoder_free(it);

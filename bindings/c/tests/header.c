@@ -1,6 +1,6 @@
-/* Looks at headers that are made here of known stanzas, at each of their cuts, at faulty ones, and at one of many stanzas, by age_c_header
- * and age_c_stanzas. */
-#include "age_c.h"
+/* Looks at headers that are made here of known stanzas, at each of their cuts, at faulty ones, and at one of many stanzas, by agefile_header
+ * and agefile_stanzas. */
+#include "agefile.h"
 
 #include <stdio.h>
 #include <stdlib.h>
@@ -10,6 +10,7 @@
 #define SALT "AAAAAAAAAAAAAAAAAAAAAA"
 #define SHARE "Y4OC5dPKQNGTlZbR6ZAEl/zzlXpPdeDUc++aVmZwUho"
 #define MANY ((size_t)20000)
+#define FRONT_MAX 1048592
 
 struct stanza {
     const char *args;
@@ -17,8 +18,8 @@ struct stanza {
 };
 
 static int failed;
-static uint8_t front[AGE_C_FRONT_MAX], out[AGE_C_FRONT_MAX];
-static age_c_stanza places[MANY];
+static uint8_t front[FRONT_MAX], out[FRONT_MAX];
+static agefile_stanza places[MANY];
 static const size_t looked = 16 * sizeof *places; /* bytes of them, more than the small headers have */
 static size_t len;
 
@@ -54,28 +55,29 @@ static void make(const struct stanza *stanzas, size_t count) {
 }
 
 /* what a call answers about the first `have` bytes, which told nothing */
-static uint32_t refused(size_t have) {
+static int refused(size_t have) {
     size_t header_len = 77, count = 77, told = 77, written = 77;
-    uint32_t work = 77, answer = age_c_header(have ? front : NULL, have, &header_len, &count, &work);
+    uint32_t work = 77;
+    int answer = agefile_header(have ? front : NULL, have, &header_len, &count, &work);
     see(answer != 0 && header_len == 0 && count == 0 && work == 0, "a refusal tells nothing");
-    see(age_c_stanzas(have ? front : NULL, have, places, MANY, &told, out, sizeof out, &written) == answer && told == 0 && written == 0,
+    see(agefile_stanzas(have ? front : NULL, have, places, MANY, &told, out, sizeof out, &written) == answer && told == 0 && written == 0,
         "the stanzas are refused as the header is");
     return answer;
 }
 
-static void is_stanza(const struct stanza *stanza, const age_c_stanza *it) {
+static void is_stanza(const struct stanza *stanza, const agefile_stanza *it) {
     see(it->args_len == strlen(stanza->args) && memcmp(front + it->args_at, stanza->args, it->args_len) == 0, "its arguments");
     see(memcmp(front + it->args_at - 3, "-> ", 3) == 0 && front[it->args_at + it->args_len] == '\n', "where they stand");
     see(it->body_len == stanza->body_len, "how long its body is");
     for (size_t i = 0; i < it->body_len; i++) see(out[it->body_at + i] == (i + 1) % 256, "its body");
 }
 
-/* what an answer of 255 leaves: `room` bytes, and places */
-static void is_misused(size_t more, size_t most, size_t room) {
+/* what too little room leaves: `room` bytes, and places */
+static void has_no_room(size_t more, size_t most, size_t room) {
     size_t told = 77, written = 77;
     memset(places, 99, looked);
     memset(out, 99, room);
-    see(age_c_stanzas(front, more, places, most, &told, out, room, &written) == AGE_C_MISUSED && told == 0 && written == 0, "too little room");
+    see(agefile_stanzas(front, more, places, most, &told, out, room, &written) == AGEFILE_NO_ROOM && told == 0 && written == 0, "too little room");
     for (size_t i = 0; i < looked; i++) see(((uint8_t *)places)[i] == 99, "no place is told");
     for (size_t i = 0; i < room; i++) see(out[i] == 99, "no body is told");
 }
@@ -86,20 +88,21 @@ static void is_told(const struct stanza *stanzas, size_t count, uint32_t work) {
     make(stanzas, count);
     for (size_t i = 0; i < count; i++) bodies += stanzas[i].body_len;
     for (more = len; more < len + 20; more += 19) {
-        see(age_c_header(front, more, &header_len, &told, &told_work) == 0 && header_len == len && told == count, "a header is told");
+        see(agefile_header(front, more, &header_len, &told, &told_work) == 0 && header_len == len && told == count, "a header is told");
         if (told_work != work) printf("%s: work %u, not %u\n", stanzas[0].args, told_work, work), failed = 1;
         for (size_t most = count; most < count + 2; most++) {
             memset(places, 99, looked);
             memset(out, 99, more);
-            see(age_c_stanzas(front, more, places, most, &told, out, more, &written) == 0 && told == count, "all stanzas are told");
+            see(agefile_stanzas(front, more, places, most, &told, out, more, &written) == 0 && told == count, "all stanzas are told");
             for (size_t i = 0; i < count; i++) is_stanza(&stanzas[i], &places[i]);
             for (size_t i = count * sizeof *places; i < looked; i++) see(((uint8_t *)places)[i] == 99, "a place past the last");
             see(written == bodies, "how long all bodies are");
             for (size_t i = written; i < more; i++) see(out[i] == 99, "a byte past the bodies");
         }
-        is_misused(more, count - 1, more);
-        is_misused(more, 0, more);
-        is_misused(more, count, more - 1);
+        has_no_room(more, count - 1, more);
+        has_no_room(more, 0, more);
+        has_no_room(more, count, len - 1);
+        has_no_room(more, count, 0);
     }
 }
 
@@ -128,7 +131,7 @@ static void many(void) {
     for (size_t i = 0; i < MANY; i++) stanzas[i] = kinds[i % 3];
     make(stanzas, MANY);
     begin = clock();
-    see(age_c_stanzas(front, len, places, MANY, &told, out, len, &written) == 0 && told == MANY, "many stanzas are told");
+    see(agefile_stanzas(front, len, places, MANY, &told, out, len, &written) == 0 && told == MANY, "many stanzas are told");
     see(clock() - begin < 20 * CLOCKS_PER_SEC, "they are told in a moment");
     for (size_t i = 0; i < MANY; i++) is_stanza(&stanzas[i], &places[i]);
 }
@@ -140,16 +143,16 @@ int main(void) {
     };
     work_factors();
     for (size_t count = 1; count <= sizeof all / sizeof *all; count++) is_told(all, count, 0);
-    for (size_t have = 0; have < len; have++) see(refused(have) == AGE_C_MORE, "a header that is cut");
+    for (size_t have = 0; have < len; have++) see(refused(have) == AGEFILE_CUT_IN_HEADER, "a header that is cut");
     make(all, 1);
     front[len - 2] = 'B'; /* a bit that the base64 leaves unused */
-    see(refused(len) == AGE_C_BAD_END_LINE, "an end line that is faulty");
+    see(refused(len) == AGEFILE_BAD_END_LINE, "an end line that is faulty");
     make(all, 0);
-    see(refused(len) == AGE_C_NO_STANZA, "no stanza");
+    see(refused(len) == AGEFILE_NO_STANZA, "no stanza");
     make(&(const struct stanza){"a  b", 0}, 1);
-    see(refused(len) == AGE_C_BAD_STANZA_LINE, "two spaces");
+    see(refused(len) == AGEFILE_BAD_STANZA_LINE, "two spaces");
     front[0] = 'b';
-    see(refused(len) == AGE_C_NOT_AGE, "no age file");
+    see(refused(len) == AGEFILE_NOT_AGE, "no age file");
     many();
     printf("%s\n", failed ? "failed" : "passed");
     return failed;

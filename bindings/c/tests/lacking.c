@@ -65,10 +65,10 @@ static void without_random(void) {
     agefile_encoder_free(kept);
 }
 static void without_memory(void) {
-    static uint8_t file[300000], out[300000], text[100000], share[32] = {9}, lines[400];
+    static uint8_t file[300000], out[300000], text[100000], share[32] = {9}, lines[6000];
     size_t n = 1, got = 1, most = 0;
     agefile_key shared = agefile_shared(share, share, share), keys[] = {pass(), agefile_wrapped(text, lines, sizeof lines), shared};
-    for (size_t i = 0; i < 4; i++) memcpy(lines + 100 * i, "-> some of the arguments that a stanza may have, which is one of four here so that some is\nAAAAAAAA\n", 100);
+    for (size_t i = 0; i < sizeof lines / 100; i++) memcpy(lines + 100 * i, "-> some of the arguments that a stanza may have, which is one of many here so that some is\nAAAAAAAA\n", 100);
     for (size_t k = 0; k < 3; k++) {
         for (long nth = 1, done = 0; !done; nth++) {
             left = nth;
@@ -80,6 +80,41 @@ static void without_memory(void) {
         }
     }
     printf("%zu allocations failed in turn\n", most);
+}
+/* An object that was refused memory in the midst is as new once it is begun again. */
+static void begun_again(void) {
+    static uint8_t file[200000], out[200000], text[100000];
+    agefile_encoder *e;
+    agefile_decoder *d;
+    size_t n, m, len = 0, got = 0;
+    CHECK(agefile_encrypt(pass(), text, sizeof text, file, sizeof file, &len) == 0);
+    CHECK(agefile_encoder_new(&e, pass()) == 0 && agefile_decoder_new(&d, pass()) == 0);
+    for (long nth = 1, done = 0; !done; nth++) {
+        CHECK(agefile_encoder_begin(e, pass()) == 0 && agefile_encode(e, text, 70000, out, sizeof out, &n) == 0);
+        left = nth;
+        int a = agefile_encoder_begin(e, pass());
+        done = left > 0, left = 0;
+        CHECK(a == (done ? 0 : AGEFILE_MEMORY) && agefile_encode(e, text, 5, out, sizeof out, &n) == (done ? 0 : AGEFILE_MISUSED) && (done || n == 0));
+    }
+    CHECK(agefile_encode_end(e, out + n, sizeof out - n, &m) == 0 && agefile_decrypt(pass(), out, n + m, file + len, 5, &got) == 0 && got == 5);
+    for (long nth = 1, done = 0; !done; nth++) {
+        CHECK(agefile_decoder_begin(d, pass()) == 0 && agefile_decode(d, file, 40, NULL, 0, &n) == 0);
+        left = nth;
+        int a = agefile_decoder_begin(d, pass());
+        if (!a) a = agefile_decode(d, file, len, out, sizeof out, &n);
+        done = left > 0, left = 0;
+        CHECK(a == (done ? 0 : AGEFILE_MEMORY) && (done || agefile_decode(d, file, len, out, sizeof out, &n) == a));
+    }
+    CHECK(n == 65536 && agefile_decode_end(d, out, sizeof out, &n) == 0 && n == sizeof text - 65536);
+    for (long nth = 1, done = 0; !done; nth++) {
+        size_t count;
+        agefile_stanza it;
+        left = nth;
+        int a = agefile_stanzas(file, len, &it, 1, &count, out, sizeof out, &n);
+        done = left > 0, left = 0;
+        CHECK(a == (done ? 0 : AGEFILE_MEMORY) && (done ? count == 1 && n == 32 : !count && !n));
+    }
+    agefile_encoder_free(e), agefile_decoder_free(d);
 }
 int main(void) {
     static uint8_t file[1000];
@@ -94,5 +129,6 @@ int main(void) {
     interrupts = 3;
     CHECK(agefile_encrypt(pass(), "text", 4, file, sizeof file, &n) == 0 && n > 0);
     without_memory();
+    begun_again();
     return failed != 0;
 }

@@ -285,6 +285,73 @@ static void looks(size_t len) {
     CHECK(agefile_stanzas(file, len, &it, 1, &made, out, header_len, &n) == 0 && made == 1 && n == 32 && it.body_len == 32 && !memcmp(file + it.args_at, "scrypt ", 7));
     CHECK(agefile_header(file, header_len - 1, &n, &stanzas, &work) == AGEFILE_CUT_IN_HEADER && n == 0);
 }
+/* NULL for no bytes and no room, wherever bytes or a room may be. */
+static void nothings(agefile_encoder *e, agefile_decoder *d, size_t len) {
+    size_t n = 9, m = 9, count = 9;
+    uint32_t work = 9;
+    uint64_t at;
+    int last = 9;
+    CHECK(agefile_header(NULL, 0, &n, &m, &work) == AGEFILE_CUT_IN_HEADER && !n && !m && !work);
+    CHECK(agefile_stanzas(NULL, 0, NULL, 0, &count, NULL, 0, &n) == AGEFILE_CUT_IN_HEADER && !count && !n);
+    CHECK(agefile_stanzas(file, len, NULL, 0, &count, out, ROOM, &n) == AGEFILE_NO_ROOM && !count && !n);
+    CHECK(agefile_decoder_begin(d, pass("pw")) == 0 && agefile_decode_end(d, NULL, 0, &n) == AGEFILE_CUT_IN_HEADER && !n);
+    CHECK(agefile_decoder_begin(d, pass("pw")) == 0 && agefile_open_at(d, 0, NULL, 0, out, ROOM, &n, &last) == AGEFILE_MISUSED && !n && !last);
+    CHECK(agefile_decode_seek(d, 0, len, &at) == AGEFILE_MISUSED && !at && agefile_size(d, len, &at) == AGEFILE_MISUSED && !at && agefile_payload_at(d) == 0);
+    CHECK(agefile_decode(d, file, len, out, ROOM, &n) == 0);
+    CHECK(agefile_open_at(d, 0, NULL, 0, NULL, 0, &n, &last) == AGEFILE_NO_ROOM && agefile_open_at(d, 0, NULL, 0, out, ROOM, &n, &last) == AGEFILE_TRUNCATED && !n && !last);
+    CHECK(agefile_encoder_begin(e, agefile_passphrase(NULL, 0)) == AGEFILE_MISUSED && agefile_encoder_begin(e, agefile_wrapped(bytes, NULL, 0)) == AGEFILE_MISUSED);
+    CHECK(agefile_encoder_begin(e, agefile_file_key(bytes)) == AGEFILE_MISUSED && agefile_encoder_begin(e, agefile_shared(bytes, NULL, bytes)) == AGEFILE_MISUSED);
+    CHECK(agefile_decoder_begin(d, agefile_passphrase(NULL, 0)) == AGEFILE_MISUSED && agefile_decoder_begin(d, agefile_file_key(NULL)) == AGEFILE_MISUSED);
+    CHECK(agefile_encrypt(pass("pw"), NULL, 0, other, ROOM, &n) == 0 && agefile_decrypt(pass("pw"), other, n, NULL, 0, &m) == 0 && !m);
+    CHECK(agefile_decrypt(pass("pw"), NULL, 0, NULL, 0, &m) == AGEFILE_CUT_IN_HEADER && !m);
+    CHECK(agefile_encrypt(pass("pw"), NULL, 0, NULL, 0, &n) == AGEFILE_NO_ROOM && !n && agefile_encrypt(pass(""), text, 5, out, ROOM, &n) == AGEFILE_MISUSED && !n);
+}
+/* What a key may be. */
+static void limits(agefile_encoder *e, agefile_decoder *d) {
+    size_t n, m;
+    agefile_key most = agefile_passphrase(text, 65536), longer = agefile_passphrase(text, 65537), hard = pass("pw"), shared = agefile_shared(bytes, bytes + 9, bytes + 16);
+    most.work = 1, longer.work = 1, hard.work = 23;
+    CHECK(agefile_encrypt(most, text, 5, other, ROOM, &n) == 0 && agefile_decrypt(most, other, n, out, 5, &m) == 0 && m == 5);
+    CHECK(agefile_encoder_begin(e, longer) == AGEFILE_MISUSED && agefile_decoder_begin(d, longer) == AGEFILE_MISUSED);
+    CHECK(agefile_encoder_begin(e, hard) == AGEFILE_MISUSED && agefile_decoder_begin(d, hard) == AGEFILE_MISUSED);
+    hard.work = 2;
+    CHECK(agefile_encrypt(hard, text, 5, other, ROOM, &n) == 0 && agefile_decrypt(pass("pw"), other, n, out, 5, &m) == AGEFILE_WORK_TOO_HIGH && !m);
+    hard.work = 22;
+    CHECK(agefile_decrypt(hard, other, n, out, 5, &m) == 0 && agefile_decrypt(agefile_passphrase("pw", 2), other, n, out, 5, &m) == 0 && m == 5);
+    CHECK(agefile_encrypt(shared, text, 5, other, agefile_sealed_len(shared, 5), &n) == 0 && agefile_decrypt(shared, other, n, out, 5, &m) == 0 && m == 5);
+    CHECK(agefile_decrypt(agefile_shared(bytes, NULL, bytes + 16), other, n, out, 5, &m) == 0 && agefile_decrypt(agefile_shared(bytes + 1, NULL, bytes + 16), other, n, out, 5, &m) == AGEFILE_WRONG_KEY);
+    CHECK(agefile_sealed_len(pass("pw"), SIZE_MAX) == SIZE_MAX && agefile_sealed_len(pass("pw"), SIZE_MAX - 100) == SIZE_MAX);
+}
+/* Stanzas of the caller's: which a header may have, and that the file key opens the file. */
+static void stanzas(agefile_encoder *e) {
+    static const struct {
+        const char *lines;
+        int answer;
+    } rows[] = {
+        {"-> a\n\n", 0}, {"-> a b\nAAAA\n-> c\n\n", 0}, {"-> scrypt a\n\n", 0}, {"", 3}, {"-> a\n", 3}, {"-> a\n\n\n", 3}, {"-> a  b\n\n", 3},
+        {"-> a\nAAAB\nAAAA\n", 3}, {"-> a\n\n--- AAAAAAAAAAAAAAAAAAAAAAAAAAAAAAAAAAAAAAAAAAA\n", 3}, {"-> scrypt a\n\n-> b\n\n", 9}, {"-> a\n\n-> scrypt\n\n", 9},
+    };
+    for (size_t i = 0; i < sizeof rows / sizeof *rows; i++) {
+        agefile_key key = agefile_wrapped(bytes, rows[i].lines, strlen(rows[i].lines));
+        size_t n = 9, got = 9;
+        CHECK(agefile_encoder_begin(e, key) == rows[i].answer && agefile_encrypt(key, text, 5, other, ROOM, &n) == rows[i].answer);
+        if (rows[i].answer) CHECK(n == 0 && agefile_encode_end(e, out, ROOM, &n) == AGEFILE_MISUSED);
+        else CHECK(agefile_decrypt(agefile_file_key(bytes), other, n, out, 5, &got) == 0 && got == 5 && !memcmp(out, text, 5) && !memcmp(other + 22, key.with, key.with_len));
+    }
+}
+/* A length is one of a whole file just if a text has a file of that length. */
+static void sizes_of(agefile_decoder *d, size_t len) {
+    size_t got = 0, at;
+    CHECK(agefile_decoder_begin(d, pass("pw")) == 0 && give(d, file, len, len, out, &got) == 0);
+    at = (size_t)agefile_payload_at(d);
+    for (size_t size = 0, last = at; size < MOST; size++, last++) {
+        size_t whole = at + size + (size ? (size - 1) / AGEFILE_CHUNK + 1 : 1) * 16;
+        uint64_t length = 1;
+        for (; last < whole; last++) CHECK(agefile_size(d, last, &length) != 0 && length == 0);
+        CHECK(agefile_size(d, whole, &length) == 0 && length == size);
+    }
+    CHECK(agefile_size(d, at, &(uint64_t){1}) == AGEFILE_TRUNCATED && agefile_size(d, 0, &(uint64_t){1}) == AGEFILE_TRUNCATED);
+}
 static void memories(size_t len) {
     size_t got = 0;
     uint8_t *memory = malloc(agefile_encoder_size() + agefile_decoder_size());
@@ -322,6 +389,10 @@ int main(int argc, char **argv) {
     again(e, d, len);
     rooms(e, d, len);
     headers(e, d);
+    nothings(e, d, len);
+    limits(e, d);
+    stanzas(e);
+    sizes_of(d, len);
     memories(len);
     agefile_encoder_free(e), agefile_decoder_free(d);
     printf("%lu checks, %lu failed\n", count, failed);

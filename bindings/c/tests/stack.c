@@ -1,9 +1,9 @@
-/* Makes each call in a thread with 100 KiB of stack, and prints how many bytes it used. The thread's own use counts.
+/* Makes each call in a thread with a stack of its own, and prints how many bytes it used: at most 100 KiB. The thread's own use counts.
  *
  * usage: stack FILE: an age file for the passphrase "pw", whose file key is 16 bytes 7
  */
 #define _GNU_SOURCE
-#include "age_c.h"
+#include "agefile.h"
 
 #include <pthread.h>
 #include <stdio.h>
@@ -15,36 +15,41 @@
 #define MOST ((size_t)100 << 10)
 #define CALLS 16
 
-static uint8_t file[AGE_C_FRONT_MAX], big[AGE_C_FRONT_MAX], out[AGE_C_BLOCK], key[32], noise[48];
-static age_c_stanza places[9];
+static uint8_t file[1048592], out[sizeof file + AGEFILE_CHUNK], key[32], share[32];
+static agefile_stanza places[9];
+static agefile_encoder *encoder;
+static agefile_decoder *decoder, *by_key;
 static size_t len, written, taken;
 static uint32_t work;
-static age_c_reader reader;
-static age_c_writer writer;
-static age_c_stream stream, empty;
-static age_c_write_stream write_stream;
+static uint64_t place;
+static int is_last;
 
-static volatile uint32_t answer; /* (what it is doesn't matter here) */
+static volatile int answer; /* (what it is doesn't matter here) */
 
+static agefile_key pass(void) {
+    agefile_key it = agefile_passphrase("pw", 2);
+    it.work = 1;
+    return it;
+}
 static void *call(void *which) {
-    static const uint8_t pass[2] = {'p', 'w'};
+    agefile_key shared = agefile_shared(key, share, key), wraps = agefile_wrapped(key, "-> a\n\n", 6);
     switch (*(int *)which) {
-    case 0: answer = age_c_open_passphrase(file, len, pass, sizeof pass, 22, &reader); break;
-    case 1: answer = age_c_open_key(file, len, key, 16, &reader); break;
-    case 2: answer = age_c_open_shared(file, len, key, 32, key, 32, &reader); break;
-    case 3: answer = age_c_block(&reader, file, AGE_C_BLOCK, out, sizeof out, &written); break;
-    case 4: answer = age_c_end(&reader, file, 400, out, sizeof out, &written); break;
-    case 5: answer = age_c_seal_passphrase(pass, sizeof pass, 1, noise, sizeof noise, out, sizeof out, &written, &writer); break;
-    case 6: answer = age_c_feed(&stream, file, 9, &taken, out, sizeof out, &written); break;
-    case 7: answer = age_c_feed(&empty, file, AGE_C_BLOCK, &taken, out, sizeof out, &written); break;
-    case 8: answer = age_c_feed_text(&write_stream, file, 9, &taken, out, sizeof out, &written); break;
-    case 9: answer = age_c_finish_text(&write_stream, out, sizeof out, &written); break;
-    case 10: answer = age_c_may_open(file, len, 1); break;
-    case 11: answer = age_c_open_at(&reader, 3, file, 400, out, sizeof out, &written); break;
-    case 12: answer = age_c_header(file, len, &written, &taken, &work); break;
-    case 13: answer = age_c_stanzas(file, len, places, 9, &taken, big, sizeof big, &written); break;
-    case 14: answer = age_c_seal_key((const uint8_t *)"-> a\n\n", 6, noise, 32, out, sizeof out, &written, &writer); break;
-    default: answer = age_c_finish(&stream, out, sizeof out, &written); break;
+    case 0: answer = agefile_decrypt(pass(), file, len, out, sizeof out, &written); break;
+    case 1: answer = agefile_decrypt(agefile_file_key(key), file, len, out, sizeof out, &written); break;
+    case 2: answer = agefile_decrypt(shared, file, len, out, sizeof out, &written); break;
+    case 3: answer = agefile_encrypt(pass(), file, 3 * AGEFILE_CHUNK, out, sizeof out, &written); break;
+    case 4: answer = agefile_encrypt(wraps, file, 3 * AGEFILE_CHUNK, out, sizeof out, &written); break;
+    case 5: answer = agefile_encrypt(shared, file, 3 * AGEFILE_CHUNK, out, sizeof out, &written); break;
+    case 6: answer = agefile_decode(decoder, file, len, out, sizeof out, &written); break;
+    case 7: answer = agefile_decode_end(decoder, out, sizeof out, &written); break;
+    case 8: answer = agefile_decode_seek(by_key, 70000, len, &place); break;
+    case 9: answer = agefile_open_at(by_key, 0, file, 400, out, sizeof out, &written, &is_last); break;
+    case 10: answer = agefile_size(by_key, len, &place); break;
+    case 11: answer = agefile_encode(encoder, file, 3 * AGEFILE_CHUNK, out, sizeof out, &written); break;
+    case 12: answer = agefile_encode_end(encoder, out, sizeof out, &written); break;
+    case 13: answer = agefile_header(file, len, &written, &taken, &work); break;
+    case 14: answer = agefile_stanzas(file, len, places, 9, &taken, out, sizeof out, &written); break;
+    default: answer = agefile_encoder_begin(encoder, shared); break;
     }
     return NULL;
 }
@@ -72,17 +77,12 @@ int main(int argc, char **argv) {
     len = fread(file, 1, sizeof file, in);
     fclose(in);
     memset(key, 7, sizeof key);
-    memset(&reader, 0, sizeof reader);
+    memset(share, 9, sizeof share);
+    if (agefile_encoder_new(&encoder, pass()) || agefile_decoder_new(&decoder, pass()) || agefile_decoder_new(&by_key, agefile_file_key(key))) return 2;
+    if (agefile_decode(by_key, file, len, out, sizeof out, &written)) return 2;
     for (int which = 0; which < CALLS; which++) {
-        /* a reader, an empty stream and ones whose next byte fills or seals, that can be used, whatever came before */
-        reader.state = 1;
-        stream.reader.state = 1;
-        stream.held = AGE_C_BLOCK - 1;
-        empty.reader.state = 1;
-        write_stream.writer.state = 1;
-        write_stream.held = AGE_C_CHUNK;
         size_t bytes = used(which);
-        printf("call %d: %zu bytes of stack\n", which, bytes);
+        printf("call %d: answer %d, %zu bytes of stack\n", which, answer, bytes);
         failed += bytes > MOST;
     }
     printf("%d passed, %d failed\n", CALLS - failed, failed);

@@ -1,71 +1,68 @@
-/* Threads that each write and read files of their own by states of their own, for the thread sanitizer. What is expected is the text that
+/* Threads that each write and read files of their own by objects of their own, for the thread sanitizer. What is expected is the text that
  * was put in.
  *
  * usage: threads
  */
-#include "age_c.h"
+#include "agefile.h"
 
 #include <pthread.h>
 #include <stdio.h>
 #include <stdlib.h>
 #include <string.h>
 
-enum { LENGTH = 150000, ROOM = LENGTH + 4096, THREADS = 6, TURNS = 30 };
+enum { LENGTH = 150000, PIECE = 40000, THREADS = 6, TURNS = 30 };
 
 /* What one thread has. */
 struct own {
     unsigned number;
     int right;
-    uint8_t text[LENGTH], file[ROOM], back[ROOM], block[AGE_C_BLOCK];
-    age_c_write_stream writer;
-    age_c_stream reader;
+    uint8_t text[LENGTH], file[LENGTH + 4096], back[LENGTH + AGEFILE_CHUNK];
+    agefile_encoder *encoder;
+    agefile_decoder *decoder;
 };
 
-static uint32_t seal(struct own *it, size_t *len) {
-    uint8_t random[48];
-    size_t taken, written;
-    memset(random, (int)it->number, sizeof random);
-    memset(&it->writer, 0, sizeof it->writer);
-    uint32_t answer = age_c_seal_passphrase((const uint8_t *)"pw", 2, 1, random, sizeof random, it->file, ROOM, len, &it->writer.writer);
-    for (size_t at = 0; answer == 0 && at < LENGTH; at += taken) {
-        answer = age_c_feed_text(&it->writer, it->text + at, LENGTH - at, &taken, it->block, sizeof it->block, &written);
-        memcpy(it->file + *len, it->block, written);
-        *len += written;
+static agefile_key key_of(void) {
+    agefile_key key = agefile_passphrase("pw", 2);
+    key.work = 1;
+    return key;
+}
+static int seal(struct own *it, size_t *len) {
+    size_t n = 0;
+    int answer = agefile_encoder_begin(it->encoder, key_of());
+    *len = 0;
+    for (size_t at = 0; answer == 0 && at < LENGTH; at += PIECE, *len += n) {
+        size_t size = LENGTH - at < PIECE ? LENGTH - at : PIECE;
+        answer = agefile_encode(it->encoder, it->text + at, size, it->file + *len, sizeof it->file - *len, &n);
     }
-    if (answer == 0) answer = age_c_finish_text(&it->writer, it->block, sizeof it->block, &written);
-    memcpy(it->file + *len, it->block, written);
-    *len += written;
+    if (answer == 0) answer = agefile_encode_end(it->encoder, it->file + *len, sizeof it->file - *len, &n);
+    *len += n;
     return answer;
 }
-
-static uint32_t open_file(struct own *it, size_t len, size_t *out_len) {
-    size_t taken, written;
-    memset(&it->reader, 0, sizeof it->reader);
+static int open_file(struct own *it, size_t len, size_t *out_len) {
+    size_t n = 0;
+    int answer = agefile_decoder_begin(it->decoder, key_of());
     *out_len = 0;
-    uint32_t answer = age_c_open_passphrase(it->file, len, (const uint8_t *)"pw", 2, 22, &it->reader.reader);
-    for (size_t at = (size_t)it->reader.reader.payload_at; answer == 0 && at < len; at += taken) {
-        answer = age_c_feed(&it->reader, it->file + at, len - at, &taken, it->back + *out_len, AGE_C_CHUNK, &written);
-        *out_len += written;
+    for (size_t at = 0; answer == 0 && at < len; at += PIECE, *out_len += n) {
+        size_t size = len - at < PIECE ? len - at : PIECE;
+        answer = agefile_decode(it->decoder, it->file + at, size, it->back + *out_len, sizeof it->back - *out_len, &n);
     }
-    if (answer == 0) answer = age_c_finish(&it->reader, it->back + *out_len, AGE_C_CHUNK, &written);
-    *out_len += written;
+    if (answer == 0) answer = agefile_decode_end(it->decoder, it->back + *out_len, sizeof it->back - *out_len, &n), *out_len += n;
     return answer;
 }
-
 static void *works(void *given) {
     struct own *it = given;
     size_t len, out_len;
-    it->right = 1;
-    for (unsigned turn = 0; turn < TURNS; turn++) {
+    it->right = agefile_encoder_new(&it->encoder, key_of()) == 0 && agefile_decoder_new(&it->decoder, key_of()) == 0;
+    for (unsigned turn = 0; it->right && turn < TURNS; turn++) {
         for (size_t i = 0; i < LENGTH; i++) it->text[i] = (uint8_t)(i * 2654435761u >> (13 + (it->number + turn) % 8));
-        it->right = it->right && seal(it, &len) == 0 && open_file(it, len, &out_len) == 0 && out_len == LENGTH
-            && memcmp(it->back, it->text, LENGTH) == 0;
+        it->right = seal(it, &len) == 0 && open_file(it, len, &out_len) == 0 && out_len == LENGTH && memcmp(it->back, it->text, LENGTH) == 0;
         it->file[len - 1] ^= 1;
-        it->right = it->right && open_file(it, len, &out_len) == AGE_C_CHUNK_DAMAGED && strcmp(age_c_fault_name(17), "ChunkDamaged") == 0;
+        it->right = it->right && open_file(it, len, &out_len) == AGEFILE_CHUNK_DAMAGED && strcmp(agefile_fault_name(17), "ChunkDamaged") == 0;
     }
+    agefile_encoder_free(it->encoder);
+    agefile_decoder_free(it->decoder);
     return NULL;
 }
-
 int main(void) {
     static pthread_t threads[THREADS];
     int failed = 0;

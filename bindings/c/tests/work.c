@@ -3,7 +3,7 @@
  *
  * usage: work
  */
-#include "age_c.h"
+#include "agefile.h"
 
 #include <stdio.h>
 #include <stdlib.h>
@@ -46,21 +46,23 @@ void rattle_dealloc(void *at) {
 #define ZEROS "AAAAAAAAAAAAAAAAAAAAAAAAAAAAAAAAAAAAAAAAAAA\n"
 
 static const char front[] = "age-encryption.org/v1\n-> scrypt AAAAAAAAAAAAAAAAAAAAAA 22\n" ZEROS "--- " ZEROS "sixteen bytes...";
-static const uint8_t pass[2] = {'p', 'w'};
 
-static int is_answered(uint32_t max_work, uint32_t expected) {
-    age_c_reader reader, before;
-    memset(&reader, 9, sizeof reader);
-    before = reader;
+static int is_answered(uint32_t limit, int expected) {
+    agefile_key key = agefile_passphrase("pw", 2);
+    agefile_decoder *it;
+    size_t n = 9;
+    key.work = limit;
     most = 0;
-    uint32_t answer = age_c_open_passphrase((const uint8_t *)front, sizeof front - 1, pass, sizeof pass, max_work, &reader);
-    int right = answer == expected && memcmp(&reader, &before, sizeof reader) == 0 && (most > FEW) == (expected == 28);
-    printf("limit %u: answer %u, at most %zu bytes at once\n", max_work, answer, most);
+    int answer = agefile_decoder_new(&it, key);
+    if (answer == 0) answer = agefile_decode(it, front, sizeof front - 1, NULL, 0, &n);
+    int right = answer == expected && n == 0 && (most > FEW) == (expected == AGEFILE_MEMORY);
+    printf("limit %u: answer %d, at most %zu bytes at once\n", limit, answer, most);
+    agefile_decoder_free(it);
     return right;
 }
 
 int main(void) {
-    int passed = is_answered(22, 28) + is_answered(21, 11) + is_answered(1, 11);
-    printf("%d passed, %d failed\n", passed, 3 - passed);
-    return passed != 3;
+    int passed = is_answered(0, 28) + is_answered(22, 28) + is_answered(21, 11) + is_answered(1, 11);
+    printf("%d passed, %d failed\n", passed, 4 - passed);
+    return passed != 4;
 }
