@@ -131,7 +131,7 @@ class LanguagesTest(ProgramsCase):
         env |= {"PKG_CONFIG_PATH": "", "PKG_CONFIG_LIBDIR": str(self.path("none")), "CARGO_TERM_COLOR": "never"}
         build = lambda: subprocess.run(["cargo", "build", "--offline", "--examples", "-v"], cwd=rust, env=env, capture_output=True, text=True)
         run = build()
-        words = f"warning: age-c-sys@1.3.0: libage_c isn't there ({rust}/age-c-sys/../../out/libage_c.a, "
+        words = f"warning: age-c-sys@2.0.0: libage_c isn't there ({rust}/age-c-sys/../../out/libage_c.a, "
         self.see("the library isn't there", run.returncode != 0 and words in run.stderr and "bindings/build" in run.stderr, run.stderr[-2000:])
         (self.path("bindings") / "out").mkdir()
         shutil.copy(LIBRARY / "libage_c.a", self.path("bindings") / "out")
@@ -144,7 +144,7 @@ class LanguagesTest(ProgramsCase):
         shutil.move(self.path("bindings") / "out", self.path("a folder"))
         shutil.copy(LIBRARY / "libage_c.so", self.path("a folder"))
         named = str(self.path("a folder")).replace(" ", "\\ ")
-        self.write("a folder/age_c.pc", f"Name: age_c\nDescription: it\nVersion: 1.3.0\nLibs: -L{named} -lage_c\n".encode())
+        self.write("a folder/age_c.pc", f"Name: age_c\nDescription: it\nVersion: 2.0.0\nLibs: -L{named} -lage_c\n".encode())
         env["PKG_CONFIG_PATH"] = str(self.path("a folder"))
         run = build()
         self.see("pkg-config finds it in a folder with a space", run.returncode == 0 and "warning: " not in run.stderr, run.stderr[-2000:])

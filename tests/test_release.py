@@ -67,19 +67,19 @@ class ReleaseTest(Case):
         commit = run("git", "rev-parse", "HEAD", cwd=self.top).stdout[:10]
         [alone] = self.path("first").glob("*-static")
         said = run(alone, "--version").stdout
-        self.see("the program names its commit", said == f"age_tool 1.3.0 (of {commit})\n", said)
+        self.see("the program names its commit", said == f"age_tool 2.0.0 (of {commit})\n", said)
         self.see("the notices are", f"{names[0]}/share/doc/age_tool/NOTICES" in names, names)
-        ends = ("linux.tar.gz", "source.tar.gz", ".whl", "agefile-1.3.0.pyz", "-static", "-static.o", "age_tool.spdx.json", "NOTICES", "SHA256SUMS", *4 * ["amd64.deb"])
+        ends = ("linux.tar.gz", "source.tar.gz", ".whl", "agefile-2.0.0.pyz", "-static", "-static.o", "age_tool.spdx.json", "NOTICES", "SHA256SUMS", *4 * ["amd64.deb"])
         self.see("all files of a release", sorted(self.held("first")) == sorted(it for it in self.held("first") if it.endswith(ends))
                  and len(self.held("first")) == len(ends), *self.held("first"))
         self.see("its sums aren't signed", "SHA256SUMS.sig" not in self.held("first"))
         self.see("its sums are right", run("sha256sum", "-c", "SHA256SUMS", cwd=self.path("first")).returncode == 0)
-        with tarfile.open(self.path("first/age_tool-1.3.0-source.tar.gz")) as tar:
+        with tarfile.open(self.path("first/age_tool-2.0.0-source.tar.gz")) as tar:
             tar.extractall(self.room)
         listed = run("git", "ls-files", cwd=self.top).stdout.split("\n")[:-1]
-        held = [str(it.relative_to(self.path("age_tool-1.3.0"))) for it in self.path("age_tool-1.3.0").rglob("*") if it.is_file()]
+        held = [str(it.relative_to(self.path("age_tool-2.0.0"))) for it in self.path("age_tool-2.0.0").rglob("*") if it.is_file()]
         self.see("the sources are what is committed", sorted(held) == sorted(listed), set(held) ^ set(listed))
-        made = run("release/build", self.path("second"), cwd=self.path("age_tool-1.3.0"))
+        made = run("release/build", self.path("second"), cwd=self.path("age_tool-2.0.0"))
         self.see("of the sources' archive", made.returncode == 0 and self.held("first") == self.held("second"), made.stdout)
         with open(self.top / "README.md", "a") as readme:
             readme.write("changed\n")
@@ -100,7 +100,7 @@ class ReleaseTest(Case):
         held |= {str(it): it.read_bytes() for it in self.path("root").glob("usr/share/doc/*/copyright")}
         for archive in self.path("out").glob("*.tar.gz"):
             with tarfile.open(archive) as tar:
-                held |= {it: tar.extractfile(it).read() for it in tar.getnames() if it.endswith(("/NOTICES", "1.3.0/LICENSE"))}
+                held |= {it: tar.extractfile(it).read() for it in tar.getnames() if it.endswith(("/NOTICES", "2.0.0/LICENSE"))}
         with zipfile.ZipFile(next(self.path("out").glob("*.whl"))) as wheel:
             held |= {it: wheel.read(it) for it in wheel.namelist() if it.endswith("/NOTICES")}
         self.see("the archives, the wheel and four packages", len(held) == 8, *held)
@@ -125,9 +125,9 @@ class ReleaseTest(Case):
             elif what == "wheel" and not importlib.util.find_spec("ensurepip"):
                 self.leave_out(what, "needs ensurepip")
             else:
-                ended = run(self.top / "release/installed", "1.3.0", top, what, env=env)
+                ended = run(self.top / "release/installed", "2.0.0", top, what, env=env)
                 self.see(what, ended.returncode == 0, ended.stdout[-2000:])
-        for words in (["1.2.0", top, "program"], ["1.3.0", top, "nothing"]):
+        for words in (["1.2.0", top, "program"], ["2.0.0", top, "nothing"]):
             ended = run(self.top / "release/installed", *words, env=env)
             self.see(f"{words[::2]} fails", ended.returncode != 0, ended.stdout)
 
@@ -158,11 +158,11 @@ class ReleaseTest(Case):
             packages.append(package.name.split("_")[1])
             subprocess.run(["dpkg-deb", "-x", package, self.path("root")], check=True)
             ended = run(sys.executable, "-c", program, env=env)
-            self.see(f"the module with {number}", ended.stdout.split() == [number.replace("_", ""), "1.3.0", "debian", "(of", f"{build})"], ended.stdout)
+            self.see(f"the module with {number}", ended.stdout.split() == [number.replace("_", ""), "2.0.0", "debian", "(of", f"{build})"], ended.stdout)
         self.see("the version rises", run("dpkg", "--compare-versions", packages[0], "lt", packages[1]).returncode == 0, packages)
         for it in ("1.2.0-1", "1.2.0-202611292214"):
             self.see(f"from {it} too", run("dpkg", "--compare-versions", it, "lt", packages[0]).returncode == 0, packages)
-        self.see("a distribution's own is later", run("dpkg", "--compare-versions", packages[1], "lt", "1.3.0-1").returncode == 0, packages)
+        self.see("a distribution's own is later", run("dpkg", "--compare-versions", packages[1], "lt", "2.0.0-1").returncode == 0, packages)
         for name, needs_library, is_for in (("python3-agefile", ">=", "no"), ("libagefile-dev", "=", "same"), ("libagefile2", None, "same"), ("age-tool", None, "foreign")):
             [package] = self.path("out").glob(f"{name}_*.deb")
             told = run("dpkg-deb", "--field", package, "Depends", "Multi-Arch").stdout
@@ -194,7 +194,7 @@ class ReleaseTest(Case):
             [wheel] = self.path("out").glob("*.whl")
             ended = run(*pip, "install", "--no-index", "--force-reinstall", wheel)
             self.see(f"pip installs the one of {epoch}", "Successfully installed" in ended.stdout, ended.stdout)
-            self.see("its version", "Version: 1.3.0\n" in run(*pip, "show", "agefile").stdout)
+            self.see("its version", "Version: 2.0.0\n" in run(*pip, "show", "agefile").stdout)
             tags.append(wheel.name.split("-")[2])
         self.see("the build tag rises", tags == sorted(set(tags)) and len(tags) == 2, tags)
         [info] = self.path("venv").glob("lib/python3*/site-packages/agefile-*.dist-info")
@@ -302,7 +302,7 @@ class ReleaseTest(Case):
         """The crate names a version of the one that it stands on, as a registry wants it."""
         ended = run("cargo", "metadata", "--no-deps", "--offline", "--format-version", "1", cwd=self.top / "bindings/rust")
         [it] = [it for it in json.loads(ended.stdout)["packages"] if it["name"] == "agefile"]
-        self.see("a version beside the path", [dep["req"] for dep in it["dependencies"]] == ["^1.3.0"], it["dependencies"])
+        self.see("a version beside the path", [dep["req"] for dep in it["dependencies"]] == ["^2.0.0"], it["dependencies"])
 
     def test_help(self):
         """Each script says what it does, and does nothing else."""

@@ -110,7 +110,7 @@
 extern "C" {
 #endif
 
-#define AGE_C_VERSION 10300u /* 10,000 * major + 100 * minor + patch */
+#define AGE_C_VERSION 20000u /* 10,000 * major + 100 * minor + patch */
 
 /* The bytes end inside the header or the payload's nonce: call again with more of the file. At the
  * end of a file it is a fault: the file was truncated there, or is no age file. */

@@ -6,7 +6,7 @@ import os
 import pathlib
 from typing import Any, Callable, Iterable
 
-VERSION = 1_03_00  # major, minor and patch, as AGE_C_VERSION
+VERSION = 2_00_00  # major, minor and patch, as AGE_C_VERSION
 CHUNK = 65_536
 BLOCK = 65_552
 FRONT_MAX = 1_048_592

@@ -13,9 +13,9 @@ use std::alloc::Global;
 /// The version of this library: 10,000 times the first number, 100 times the second, and the third.
 #[unsafe(no_mangle)]
 pub extern "C" fn age_c_version() -> u32
-    ensures { result ≡ 10300 }
+    ensures { result ≡ 20000 }
 {
-    10_300
+    20_000
 }
 
 /// Opens the header that `front` begins with by a passphrase of 1 to 65,536 bytes, if the work

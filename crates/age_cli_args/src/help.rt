@@ -2,7 +2,7 @@
 
 /// The version of the workspace, which `--version` prints. A release has the date of its commit in
 /// place of `not a release` (release/build).
-pub(crate) const VERSION: &str = "1.3.0 (not a release)";
+pub(crate) const VERSION: &str = "2.0.0 (not a release)";
 
 pub(crate) const PROGRAM: &str = "Encrypt, decrypt and inspect age files (age-encryption.org/v1).";
 

@@ -7,7 +7,7 @@ from command_line import Request, for_tool
 from out import is_replaced
 from telling import Fault, shown
 
-VERSION = "1.3.0"
+VERSION = "2.0.0"
 # release/build replaces it by the commit that it was made from, as in age_tool.
 BUILD = "(not a release)"
 PLACE = os.path.dirname(os.path.realpath(__file__))
