@@ -41,13 +41,10 @@ impl<'a> Decoder<'a> {
         Decoder { identities: identities.to_vec(), state: begun }
     }
 
-    /// Takes bytes of the file, and appends the plaintext that they complete. The call that completes
-    /// the header takes the time of a passphrase.
-    ///
-    /// # Errors
-    ///
-    /// The [`Fault`] of the file, before which all plaintext was appended, or an error of an
-    /// identity. Each later call fails, too.
+    /// Takes bytes of the file, and appends the plaintext that they complete. It fails with the
+    /// [`Fault`] of the file, before which all plaintext was appended, or an error of an identity;
+    /// then each later call fails, too. The call that completes the header takes the time of a
+    /// passphrase.
     pub fn update(&mut self, file: &[u8], text: &mut Vec<u8>) -> io::Result<()> {
         let mut rest = file;
         if let State::Header(front) = &mut self.state {
@@ -60,11 +57,7 @@ impl<'a> Decoder<'a> {
         self.put(Some(rest), text)
     }
 
-    /// The file ended: appends the rest of the plaintext, which is whole only if this succeeds.
-    ///
-    /// # Errors
-    ///
-    /// Those of [`Decoder::update`].
+    /// Appends the rest of the plaintext, which is whole only if this succeeds: the file ended.
     pub fn finish(mut self, text: &mut Vec<u8>) -> io::Result<()> {
         self.put(None, text)
     }
@@ -129,11 +122,8 @@ fn opened(ids: &[&dyn Identity], front: &Front, text: &mut Vec<u8>) -> io::Resul
     Err(fault.into())
 }
 
-/// The plaintext of a file: all of it, or an error.
-///
-/// # Errors
-///
-/// The [`Fault`] of the file, or an error of an identity.
+/// Returns the plaintext of a file: all of it, or the [`Fault`] of the file, or an error of an
+/// identity.
 pub fn decrypt(identities: &[&dyn Identity], file: &[u8]) -> io::Result<Vec<u8>> {
     // (a text is shorter than its file)
     let (mut decoder, mut text) = (Decoder::new(identities), Vec::with_capacity(file.len()));

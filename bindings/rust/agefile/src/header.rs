@@ -68,7 +68,8 @@ pub struct Header {
     pub stanzas: Vec<Stanza>,
 }
 
-/// Reads the header of a file, and returns what it says. More of the file may have been read.
+/// Reads the header of a file, and returns what it says, or the [`Fault`] of a header. More of the
+/// file may have been read.
 ///
 /// ```
 /// # use agefile::{encrypt, inspect, Passphrase};
@@ -77,10 +78,6 @@ pub struct Header {
 /// assert_eq!((header.work, &header.stanzas[0].tag[..]), (9, "scrypt"));
 /// # Ok::<(), std::io::Error>(())
 /// ```
-///
-/// # Errors
-///
-/// The [`Fault`] of a header, and an error of the file.
 pub fn inspect(mut file: impl Read) -> io::Result<Header> {
     let (mut front, mut piece) = (Front::new()?, vec![0; AGEFILE_CHUNK]);
     loop {

@@ -17,13 +17,10 @@ impl<'a> Decryptor<'a> {
         Decryptor(identities.to_vec())
     }
 
-    /// Opens the header, as soon as it is there, with the 16 bytes after it. The age file begins at
-    /// the source's position. (A source that doesn't block, and fails before that, loses what was
-    /// read: give its bytes to a [`Decoder`].)
-    ///
-    /// # Errors
-    ///
-    /// The [`Fault`] of the header, or an error of the source or an identity.
+    /// Opens the header, as soon as it is there, with the 16 bytes after it, or fails with its
+    /// [`Fault`], or an error of the source or an identity. The age file begins at the source's
+    /// position. (If a source that doesn't block fails before that, what was read is lost: give its
+    /// bytes to a [`Decoder`].)
     pub fn read<R: Read>(&self, mut source: R) -> io::Result<Reader<R>> {
         let (mut piece, mut text, mut offset) = (vec![0; AGEFILE_BLOCK], Vec::new(), 0);
         let mut decoder = Decoder::new(&self.0);
@@ -63,7 +60,7 @@ impl<'a> Decryptor<'a> {
 /// began.
 pub struct Reader<R> {
     source: R,
-    raw: RawDecoder,
+    pub(crate) raw: RawDecoder,
     piece: Vec<u8>,
     text: Vec<u8>,      // what was decoded last
     at: usize,          // how much of it was returned
@@ -90,10 +87,6 @@ impl<R> Reader<R> {
     /// The source, of which more may have been read than was returned as plaintext.
     pub fn into_inner(self) -> R {
         self.source
-    }
-
-    pub(crate) fn into_raw(self) -> RawDecoder {
-        self.raw
     }
 
     fn place(&self) -> u64 {
@@ -159,16 +152,13 @@ impl<R: Read> Read for Reader<R> {
 }
 
 impl<R: Read + Seek> Reader<R> {
-    /// The length of the plaintext, which its last chunk proves. The reader stays where it is.
-    ///
-    /// # Errors
-    ///
-    /// The [`Fault`] of the file's end, or an error of the source.
+    /// Returns the length of the plaintext, which its last chunk proves, or the [`Fault`] of that, or
+    /// an error of the source. The reader stays where it is.
     pub fn size(&mut self) -> io::Result<u64> {
         let begin = self.begin()?;
         let state = mem::replace(&mut self.state, State::Lost);
         let end = self.source.seek(SeekFrom::End(0)).map_err(of_source)?;
-        let size = size_of(&self.raw, &mut self.source, begin, end);
+        let size = Blocks::new(&mut self.source, begin).size(&self.raw, end);
         self.source.seek(SeekFrom::Start(begin + self.offset)).map_err(of_source)?;
         self.state = state;
         size
@@ -196,41 +186,45 @@ impl<R: Read + Seek> Reader<R> {
     }
 }
 
-/// The length of the plaintext of an age file that stands there in the source.
-fn size_of(
-    raw: &RawDecoder,
-    source: &mut (impl Read + Seek),
+/// A source in which an age file begins there, read by blocks.
+pub(crate) struct Blocks<R> {
+    source: R,
     begin: u64,
-    end: u64,
-) -> io::Result<u64> {
-    let last = raw.size(end.saturating_sub(begin))?.saturating_sub(1) / CHUNK;
-    let (mut block, mut text) = (vec![0; AGEFILE_BLOCK], Vec::new());
-    // (the end of that chunk proves the length, whatever the source says of its own)
-    match open_at(raw, source, begin, last, &mut block, &mut text)? {
-        true => Ok(last * CHUNK + text.len() as u64),
-        false => Err(Fault::new(AGEFILE_TRUNCATED, Some(last + 1)).into()),
-    }
+    block: Vec<u8>,
 }
 
-/// Puts the plaintext of a chunk into `text`. Returns whether it is the last one.
-pub(crate) fn open_at(
-    raw: &RawDecoder,
-    source: &mut (impl Read + Seek),
-    begin: u64,
-    chunk: u64,
-    block: &mut [u8],
-    text: &mut Vec<u8>,
-) -> io::Result<bool> {
-    let (at, mut have) = (begin + raw.payload_at() + chunk * AGEFILE_BLOCK as u64, 0);
-    source.seek(SeekFrom::Start(at)).map_err(of_source)?;
-    loop {
-        match read_some(source, &mut block[have..])? {
-            0 => break,
-            n => have += n,
+impl<R: Read + Seek> Blocks<R> {
+    pub(crate) fn new(source: R, begin: u64) -> Blocks<R> {
+        Blocks { source, begin, block: vec![0; AGEFILE_BLOCK] }
+    }
+
+    /// Puts the plaintext of a chunk into `text`. Returns whether it is the last one.
+    pub(crate) fn open(
+        &mut self,
+        raw: &RawDecoder,
+        chunk: u64,
+        text: &mut Vec<u8>,
+    ) -> io::Result<bool> {
+        let at = self.begin + raw.payload_at() + chunk * AGEFILE_BLOCK as u64;
+        self.source.seek(SeekFrom::Start(at)).map_err(of_source)?;
+        let (mut have, mut n) = (0, 1);
+        while n > 0 {
+            n = read_some(&mut self.source, &mut self.block[have..])?;
+            have += n;
+        }
+        text.clear();
+        Ok(raw.open_at(chunk, &self.block[..have], text)?)
+    }
+
+    /// The length of the plaintext of a file that ends there, whatever the source says of its own.
+    fn size(&mut self, raw: &RawDecoder, end: u64) -> io::Result<u64> {
+        let last = raw.size(end.saturating_sub(self.begin))?.saturating_sub(1) / CHUNK;
+        let mut text = Vec::new();
+        match self.open(raw, last, &mut text)? {
+            true => Ok(last * CHUNK + text.len() as u64),
+            false => Err(Fault::new(AGEFILE_TRUNCATED, Some(last + 1)).into()),
         }
     }
-    text.clear();
-    Ok(raw.open_at(chunk, &block[..have], text)?)
 }
 
 impl<R: Read + Seek> Seek for Reader<R> {

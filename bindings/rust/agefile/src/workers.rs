@@ -1,9 +1,9 @@
 //! One file that several threads decrypt.
 
 use crate::raw::RawDecoder;
-use crate::reader::{of_source, open_at, CHUNK};
+use crate::reader::{of_source, Blocks, CHUNK};
 use crate::{Decryptor, Fault, Identity};
-use agefile_sys::{AGEFILE_BLOCK, AGEFILE_TRUNCATED};
+use agefile_sys::AGEFILE_TRUNCATED;
 use std::io::{self, Read, Seek};
 use std::panic::resume_unwind;
 use std::sync::atomic::{AtomicU64, Ordering};
@@ -12,13 +12,14 @@ use std::thread;
 /// The greatest number of threads that [`decrypt_to`] can be asked for.
 pub const MAX_WORKERS: usize = 64;
 
-/// Decrypts a file by 1 to [`MAX_WORKERS`] threads, each a part of it, and returns the length of
-/// the plaintext. Each reads its own file, which `source` opens, and gives `out` pieces of the
-/// plaintext and their places. A `source` that calls [`File::try_clone`](std::fs::File::try_clone)
+/// Decrypts a file by 1 to [`MAX_WORKERS`] threads, and returns the length of the plaintext. Each
+/// reads its own file, which `source` opens, and gives `out` pieces of the plaintext and their
+/// places. A `source` that calls [`File::try_clone`](std::fs::File::try_clone)
 /// won't do: those files share one position, so the threads read at each other's places.
 ///
 /// `out` has all of the plaintext only if this returns `Ok`: the last chunk, which proves the
-/// length, is opened first. If parts fail, the error is that of the first one; those after it stop.
+/// length, is opened first. Else the error is that of the first chunk that has one, by its file, by
+/// `out` or by `source`, and the threads stop.
 ///
 /// ```no_run
 /// use agefile::{decrypt_to, Passphrase};
@@ -32,10 +33,6 @@ pub const MAX_WORKERS: usize = 64;
 /// std::fs::rename("backup.tar.part", "backup.tar")?;
 /// # Ok::<(), std::io::Error>(())
 /// ```
-///
-/// # Errors
-///
-/// Those of [`Decryptor::read`] and of reading, and those of `out` and `source`.
 pub fn decrypt_to<R: Read + Seek>(
     out: impl Fn(&[u8], u64) -> io::Result<()> + Sync,
     source: impl Fn() -> io::Result<R> + Sync,
@@ -47,7 +44,7 @@ pub fn decrypt_to<R: Read + Seek>(
     }
     let mut first = Decryptor::new(identities).read(source()?)?;
     let size = first.size()?;
-    let parts = Parts { raw: first.into_raw(), size, next: AtomicU64::new(0) };
+    let parts = Parts { raw: first.raw, size, next: AtomicU64::new(0) };
     let work = || source().map_err(|it| (u64::MAX, it)).and_then(|it| parts.copy(it, &out));
     thread::scope(|scope| {
         let (_stop, mut threads) = (Stop(&parts.next), Vec::new());
@@ -86,13 +83,13 @@ impl Parts {
     ) -> Result<(), (u64, io::Error)> {
         let _stop = Stop(&self.next);
         let begin = file.stream_position().map_err(|it| (u64::MAX, of_source(it)))?;
-        let (mut block, mut text) = (vec![0; AGEFILE_BLOCK], Vec::new());
+        let (mut blocks, mut text) = (Blocks::new(file, begin), Vec::new());
         loop {
             let chunk = self.next.fetch_add(1, Ordering::Relaxed);
             if chunk >= self.size.div_ceil(CHUNK) {
                 return Ok(());
             }
-            let opened = open_at(&self.raw, &mut file, begin, chunk, &mut block, &mut text);
+            let opened = blocks.open(&self.raw, chunk, &mut text);
             let done = opened.and_then(|is_last| {
                 let at = chunk * CHUNK;
                 // (who has the key can make another end, after the length was proved)

@@ -15,12 +15,8 @@ impl<'a> Encryptor<'a> {
         Encryptor(recipients.to_vec())
     }
 
-    /// Begins a file, and writes its header.
-    ///
-    /// # Errors
-    ///
-    /// A [`Fault`] if there is no recipient, or one isn't valid, and an error of a recipient or of
-    /// what is written to.
+    /// Begins a file, and writes its header. It fails with a [`Fault`] if there is no recipient, or
+    /// one isn't allowed, or an error of a recipient or of what is written to.
     pub fn wrap<W: Write>(&self, out: W) -> io::Result<Writer<W>> {
         let (raw, file) = (begun(&self.0)?, Vec::new());
         let mut writer = Writer { out, raw, file, failed: None };
@@ -87,10 +83,6 @@ impl<W: Write> Writer<W> {
     }
 
     /// Seals the last chunk, so that the file is whole, flushes what is written to, and returns it.
-    ///
-    /// # Errors
-    ///
-    /// Those of what is written to: then the file isn't whole.
     pub fn finish(mut self) -> io::Result<W> {
         self.put(None)?;
         self.see(|it| it.out.flush())?;
@@ -112,7 +104,7 @@ impl<W: Write> Writer<W> {
             let text = "the age file isn't whole, because an earlier call failed";
             return Err(io::Error::new(*kind, format!("{text}: {cause}")));
         }
-        self.failed = Some((ErrorKind::Other, "it panicked".into()));
+        self.failed = Some((ErrorKind::Other, String::new())); // (of one that panics)
         let done = does(self);
         self.failed = done.as_ref().err().map(|error| match error.kind() {
             // (who gets these tries again, which is of no use)
@@ -144,11 +136,7 @@ impl<W> fmt::Debug for Writer<W> {
     }
 }
 
-/// The file of a plaintext.
-///
-/// # Errors
-///
-/// Those of [`Encryptor::wrap`].
+/// Returns the file of a plaintext, or fails as [`Encryptor::wrap`] does.
 pub fn encrypt(recipients: &[&dyn Recipient], text: &[u8]) -> io::Result<Vec<u8>> {
     let mut raw = begun(recipients)?;
     // (room for a header, and 16 bytes for each chunk)

@@ -77,3 +77,10 @@ fn tries_all_passphrases() {
     assert_eq!(agefile::decrypt(&all, &file).unwrap(), b"a text");
     assert_eq!(number(agefile::decrypt(&all[..2], &file)), (13, None));
 }
+
+/// What comes with the header is a text, too, however long it is.
+#[test]
+fn takes_one_large_piece() {
+    let (text, key) = (text_of(3_000_000), pw());
+    assert!(agefile::decrypt(&[&key], &sealed(&text)).unwrap() == text);
+}
