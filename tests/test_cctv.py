@@ -1,4 +1,4 @@
-"""Runs C2SP's test vectors for age files through the program, the Python module and the calls of agefile.h. They stand in
+"""Runs C2SP's test vectors for age files through the program, the Python module, the calls of agefile.h and the Rust crates. They stand in
 tests/cctv.tar.gz, as in the folder age/testdata of https://github.com/C2SP/CCTV (0BSD), unless the variable CCTV names another folder.
 
 A vector has lines `NAME: VALUE`, an empty line, and an age file. What an identity of this profile can open is opened by it. What needs
@@ -9,12 +9,13 @@ import importlib.util
 import os
 import pathlib
 import shutil
+import subprocess
 import tarfile
 import zlib
 
 from tests import bindings
-from tests.case import Case, claim
-from tools.workspace import LIBRARY
+from tests.case import Case, claim, needs
+from tools.workspace import LIBRARY, TOP
 
 ARCHIVE = pathlib.Path(__file__).with_name("cctv.tar.gz")
 SUM = "29e1ddb94bef5c2932d3b7c4f42577567fed220ce833edeb38458dd320269263"
@@ -24,6 +25,23 @@ FAULTS = {
     "header failure": {*range(1, 12), 15, 254}, "no match": {12, 13}, "HMAC failure": {14}, "payload failure": {*range(17, 23)},
     "armor failure": {1, 2, 3, 8},
 }
+
+
+# Decrypts by a passphrase or a file key, and says the fault's number, or 0.
+RUST = """
+use agefile::{Decryptor, Fault, FileKey, Identity, Passphrase};
+use std::io::{self, Write};
+
+fn main() {
+    let words: Vec<String> = std::env::args().collect();
+    let byte = |at: usize| words[2].get(2 * at..2 * at + 2).and_then(|it| u8::from_str_radix(it, 16).ok()).unwrap_or(0);
+    let (word, file_key) = (Passphrase::new(&words[2]), FileKey::new(std::array::from_fn(byte)));
+    let by: &dyn Identity = if words[1] == "word" { &word } else { &file_key };
+    let done = Decryptor::new(&[by]).read(io::stdin()).and_then(|mut it| io::copy(&mut it, &mut io::stdout()));
+    io::stdout().flush().unwrap();
+    eprint!("{}", done.map_or_else(|it| Fault::of(&it).unwrap().number(), |_| 0));
+}
+"""
 
 
 class Vector:
@@ -174,3 +192,20 @@ class VectorsTest(Case):
             whole = vector.expected == "success" and not vector.is_armored
             Case.see(self, f"{vector.name} in C, at once", fault in (FAULTS["armor failure"] if vector.is_armored else FAULTS.get(vector.expected, {0}))
                      and (vector.text_is(text) if whole else text == b""), fault, len(text))
+
+    @needs("cargo")
+    def test_rust(self):
+        """By a passphrase and by the file key."""
+        bindings.module()
+        self.path("src").mkdir()
+        self.write("src/main.rs", RUST.encode())
+        self.write("Cargo.toml", f'[package]\nname = "cctv"\nversion = "0.0.0"\nedition = "2021"\n\n[dependencies]\n'
+                                 f'agefile = {{ path = "{TOP}/bindings/rust/agefile" }}\n'.encode())
+        words = ["cargo", "build", "--release", "--offline", "--quiet", "--target-dir", LIBRARY / "target"]
+        subprocess.run(words, cwd=self.room, env={**os.environ, "AGEFILE_DIR": str(LIBRARY)}, check=True)
+        for vector in self.vectors:
+            if vector.passphrase is None and vector.expected not in ("success", "payload failure", "HMAC failure") and not vector.is_armored:
+                continue
+            by = ["key", vector.key.hex()] if vector.passphrase is None else ["word", vector.passphrase]
+            ended = subprocess.run([LIBRARY / "target" / "release" / "cctv", *by], input=vector.file, capture_output=True)
+            Case.see(self, f"{vector.name} in Rust", ended.returncode == 0 and self.judge(vector, int(ended.stderr), ended.stdout), ended.stderr)

@@ -47,10 +47,10 @@ class ProcessorTest(BindingsCase):
     def on(self, processor, words, **more):
         return subprocess.run([QEMU, "-cpu", processor, *words], cwd=self.room, input=self.data, capture_output=True, **more)
 
-    def see_refused(self, what, words, status, **more):
+    def see_refused(self, what, words, status, needed=NEEDED, **more):
         for processor in OLD:
             run = self.on(processor, words, **more)
-            self.see(f"{what} on {processor}", (run.returncode, run.stdout) == (status, b"") and NEEDED in run.stderr, run.returncode, run.stderr[-500:])
+            self.see(f"{what} on {processor}", (run.returncode, run.stdout) == (status, b"") and needed in run.stderr, run.returncode, run.stderr[-500:])
         run = self.on(NEW, words, **more)
         self.see(f"{what} on {NEW}", run.returncode == 0 and run.stdout == self.text, run.returncode, run.stderr[-500:])
 
@@ -70,8 +70,8 @@ class ProcessorTest(BindingsCase):
     def test_rust(self):
         to = LIBRARY / "target"
         words = ["cargo", "build", "--release", "--examples", "--offline", "--quiet", "--target-dir", to]
-        subprocess.run(words, cwd=TOP / "bindings" / "rust", env={**os.environ, "AGE_C_DIR": str(LIBRARY)}, check=True, capture_output=True)
-        self.see_refused("Rust", [to / "release" / "examples" / "decrypt", "pw"], 1)
+        subprocess.run(words, cwd=TOP / "bindings" / "rust", env={**os.environ, "AGEFILE_DIR": str(LIBRARY)}, check=True, capture_output=True)
+        self.see_refused("Rust", [to / "release" / "examples" / "decrypt", "pw"], 1, b"isn't made for this processor (252 NoProcessor)")
 
     @needs("go")
     def test_go(self):

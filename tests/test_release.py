@@ -69,7 +69,7 @@ class ReleaseTest(Case):
         said = run(alone, "--version").stdout
         self.see("the program names its commit", said == f"age_tool 2.0.0 (of {commit})\n", said)
         self.see("the notices are", f"{names[0]}/share/doc/age_tool/NOTICES" in names, names)
-        ends = ("linux.tar.gz", "source.tar.gz", ".whl", "agefile-2.0.0.pyz", "-static", "-static.o", "age_tool.spdx.json", "NOTICES", "SHA256SUMS", *4 * ["amd64.deb"])
+        ends = ("linux.tar.gz", "source.tar.gz", ".whl", "agefile-2.0.0.pyz", "agefile-crates-2.0.0.tar.gz", "-static", "-static.o", "age_tool.spdx.json", "NOTICES", "SHA256SUMS", *4 * ["amd64.deb"])
         self.see("all files of a release", sorted(self.held("first")) == sorted(it for it in self.held("first") if it.endswith(ends))
                  and len(self.held("first")) == len(ends), *self.held("first"))
         self.see("its sums aren't signed", "SHA256SUMS.sig" not in self.held("first"))
@@ -297,12 +297,45 @@ class ReleaseTest(Case):
         self.assertEqual(run("ssh-keygen", "-Y", "sign", "-q", "-f", self.path("other"), "-n", "age_tool-release", sums).returncode, 0)
         self.see("by another key", sign.exists() and not is_signed())
 
-    @needs("cargo")
+    @needs("cargo", "dpkg-deb")
     def test_rust(self):
-        """The crate names a version of the one that it stands on, as a registry wants it."""
-        ended = run("cargo", "metadata", "--no-deps", "--offline", "--format-version", "1", cwd=self.top / "bindings/rust")
-        [it] = [it for it in json.loads(ended.stdout)["packages"] if it["name"] == "agefile"]
-        self.see("a version beside the path", [dep["req"] for dep in it["dependencies"]] == ["^2.0.0"], it["dependencies"])
+        """The packed crates have the library inside, of each processor for which one build was packed: cargo builds and runs the first
+        program of their page by a vendored folder alone, and by a path into it."""
+        self.assertEqual(self.pack("out").returncode, 0)
+        [archive] = self.path("out").glob("agefile-crates-2.0.0.tar.gz")
+        with tarfile.open(archive) as tar:
+            tar.extractall(self.path("user"))
+        (self.path("user") / "src").mkdir()
+        page = self.path("user/vendor/agefile/README.md").read_text()
+        self.write("user/src/main.rs", page.split("```rust\n")[1].split("\n```")[0].encode())
+        shutil.copy(TOP / "bindings" / "tests" / "age" / "passphrase.age", self.path("user/notes.age"))
+        whole = b'[source.crates-io]\nreplace-with = "vendor"\n\n[source.vendor]\ndirectory = "vendor"\n'
+        for name, config, depends in (("a vendored folder", whole, '"2"'), ("a path", b"", '{ path = "vendor/agefile" }')):
+            self.path("user/.cargo").mkdir(exist_ok=True)
+            self.write("user/.cargo/config.toml", config)
+            self.write("user/Cargo.toml", f'[package]\nname = "user"\nversion = "0.0.0"\nedition = "2021"\n\n[dependencies]\nagefile = {depends}\n'.encode())
+            self.remove("user/Cargo.lock")
+            ended = run("cargo", "run", "--offline", "--quiet", cwd=self.path("user"), env=self.alone())
+            self.see(f"the first program, by {name}", ended.returncode == 0 and ended.stdout == "hello, passphrase\nrase\n", ended.stdout[-2000:])
+
+    def alone(self):
+        """What cargo and a linker need, and nothing of this repository or the kit."""
+        system = run("rustc", "--print", "sysroot").stdout.strip()
+        return {"PATH": f"{system}/bin:/usr/bin:/bin", "HOME": str(self.path("home")), "CARGO_HOME": str(self.path("home"))}
+
+    def test_crates(self):
+        """What was packed of the same build for another processor stays, and of another build it goes."""
+        (self.path("share/age_tool") / "rust" / "agefile").mkdir(parents=True)
+        (self.path("share/age_tool") / "rust" / "agefile-sys").mkdir()
+        (self.path("share/doc") / "age_tool").mkdir(parents=True)
+        for name in ("share/age_tool/rust/README.md", "share/doc/age_tool/NOTICES", "library"):
+            self.write(name, name.encode())
+        for number, (target, build, held) in enumerate((("x86_64", "one", {"x86_64"}), ("aarch64", "one", {"x86_64", "aarch64"}), ("aarch64", "two", {"aarch64"}))):
+            words = ["release/crates", self.room, self.path("library"), self.path(f"made{number}"), self.path("earlier"), build]
+            ended = run(*words, cwd=self.top, env={**os.environ, "TARGET": f"{target}-unknown-linux-gnu"})
+            made = {it.parent.name for it in self.path(f"made{number}").glob("vendor/agefile-sys/lib/*/libagefile.a")}
+            self.see(f"{target} of build {build}", (ended.returncode, made) == (0, held), ended.stdout, made)
+            run("tar", "-czf", self.path("earlier"), "-C", self.path(f"made{number}"), "vendor")
 
     def test_help(self):
         """Each script says what it does, and does nothing else."""

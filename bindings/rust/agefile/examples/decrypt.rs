@@ -1,7 +1,7 @@
 //! Decrypts an age file from standard input to standard output: `decrypt PASSFILE <IN >OUT`.
 //! Only status 0 means that the output is the complete plaintext.
 
-use agefile::{AgeReader, Key};
+use agefile::{Decryptor, Passphrase};
 use std::error::Error;
 use std::io::{self, Write};
 use std::process::ExitCode;
@@ -12,9 +12,9 @@ fn decrypt() -> Result<(), Box<dyn Error>> {
     if pass.last() == Some(&b'\n') {
         pass.pop();
     }
-    let mut file = AgeReader::open(io::stdin().lock(), Key::passphrase(&pass))?;
+    let mut text = Decryptor::new(&[&Passphrase::new(pass)]).read(io::stdin().lock())?;
     let mut out = io::stdout().lock();
-    io::copy(&mut file, &mut out)?;
+    io::copy(&mut text, &mut out)?;
     out.flush()?;
     Ok(())
 }

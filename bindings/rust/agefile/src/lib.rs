@@ -1,55 +1,48 @@
-//! Age files (<https://c2sp.org/age>), read and written by proved code.
+//! Age files (<https://c2sp.org/age>), over a proved C library; this crate is tested, not proved.
 //!
-//! [`AgeReader`] reads any [`std::io::Read`] from its beginning to its end, [`AgeFile`] reads one
-//! that is [`std::io::Seek`] at any place, and [`AgeWriter`] writes. No byte is returned before its
-//! chunk has been authenticated. The end (`Ok(0)`) is reported only after the last chunk has been.
+//! An [`Encryptor`] wraps any [`std::io::Write`], and a [`Decryptor`] reads any [`std::io::Read`],
+//! at any place if that is [`std::io::Seek`]. [`encrypt`] and [`decrypt`] are for files in memory,
+//! and a [`Decoder`] for bytes as they arrive. A key is a [`Passphrase`], or what implements
+//! [`Recipient`] and [`Identity`], whose methods are those of the crate `age`.
 //!
-//! A call returns the plaintext of at most one chunk. So all of the plaintext before a damaged
-//! chunk has been returned when a call returns the fault, and that call returns no byte.
+//! ```
+//! use agefile::{Decryptor, Encryptor, Passphrase};
+//! use std::io::{self, Read, Write};
 //!
-//! When a reader or writer is dropped, its file key and what it holds of a chunk in the library's
-//! state are overwritten. Buffers of plaintext aren't, nor the stack and the freed memory that the
-//! library used.
+//! let key = Passphrase::new("correct horse");
+//! # let key = key.work(1);
+//! let mut file = Encryptor::new(&[&key]).wrap(Vec::new())?;
+//! file.write_all(b"a text of mine")?;
+//! let file = file.finish()?; // without it every reader refuses the file
 //!
-//! ```no_run
-//! use agefile::{AgeReader, Key};
-//! use std::{fs::File, io};
-//!
-//! let key = Key::passphrase(b"correct horse");
-//! let mut file = AgeReader::open(File::open("backup.tar.age")?, key)?;
-//! io::copy(&mut file, &mut File::create("backup.tar")?)?;
+//! let mut text = String::new();
+//! Decryptor::new(&[&key]).read(&file[..])?.read_to_string(&mut text)?;
+//! assert_eq!(text, "a text of mine");
 //! # Ok::<(), io::Error>(())
 //! ```
+//!
+//! No byte is returned before its chunk has been authenticated, and the end (`Ok(0)`) is reported
+//! only after the last chunk has been. All of the plaintext before a fault is returned first, and
+//! then the [`Fault`], which never looks like an end: no fault is an `UnexpectedEof`.
+//!
+//! When a reader, writer or key is dropped, its secrets are overwritten, and what the library holds
+//! of a chunk. Buffers of plaintext aren't, nor the stack and scrypt's table.
 
 #![warn(missing_docs)]
 
-mod error;
-mod file;
+mod decoder;
+mod fault;
 mod header;
-mod key;
-mod once;
+mod keys;
+mod raw;
 mod reader;
-mod recipients;
-mod salvage;
-mod state;
 mod workers;
 mod writer;
-mod x25519;
 
-pub use error::AgeError;
-pub use file::AgeFile;
-pub use header::{Header, Stanza, WholeFile};
-pub use key::Key;
-pub use once::{decrypt, encrypt};
-pub use reader::{AgeReader, Opening};
-pub use recipients::Wrap;
-pub use salvage::{salvage, Salvaged};
-pub use workers::decrypt_to;
-pub use writer::AgeWriter;
-pub use x25519::{parse_recipient, Exchange, Identity, MAX_TRIES};
-
-/// The greatest number of threads that [`decrypt_to`] can be asked for.
-pub const MAX_WORKERS: usize = 64;
-
-/// The greatest work factor.
-pub const MAX_WORK: u32 = age_c_sys::AGE_C_WORK_MAX;
+pub use decoder::{decrypt, Decoder};
+pub use fault::Fault;
+pub use header::{inspect, Header, Stanza};
+pub use keys::{FileKey, Identity, Passphrase, Recipient};
+pub use reader::{Decryptor, Reader};
+pub use workers::{decrypt_to, MAX_WORKERS};
+pub use writer::{encrypt, Encryptor, Writer};

@@ -1,209 +1,146 @@
-//! A reader from the beginning to the end.
+//! A reader.
 
-use crate::error::{of_source, see_processor};
-use crate::file::{fill, open_block};
-use crate::state::State;
-use crate::{AgeError, Key};
-use age_c_sys::{
-    age_c_may_open, AgeCReader, AGE_C_BLOCK, AGE_C_CHUNK, AGE_C_FRONT_MAX, AGE_C_MORE,
-};
-use std::fmt;
-use std::io::{self, BufRead, ErrorKind, Read};
+use crate::raw::RawDecoder;
+use crate::{Decoder, Fault, Identity};
+use agefile_sys::{AGEFILE_BLOCK, AGEFILE_CHUNK, AGEFILE_TRUNCATED};
+use std::io::{self, BufRead, ErrorKind, Read, Seek, SeekFrom};
+use std::{fmt, mem};
 
-/// Whether the header is worth a try, now that there are more than `seen` bytes.
-fn may_open(front: &[u8], seen: usize) -> bool {
-    // SAFETY: the slice is as long as it says.
-    unsafe { age_c_may_open(front.as_ptr(), front.len(), seen) == 0 }
-}
+pub(crate) const CHUNK: u64 = AGEFILE_CHUNK as u64;
 
-/// Reads and opens the header, and returns what was read after it.
-pub(crate) fn open_header<R: Read>(
-    file: &mut R,
-    key: Key,
-    reader: &mut AgeCReader,
-) -> io::Result<Vec<u8>> {
-    let mut front = Vec::new();
-    read_header(file, key, reader, &mut front, &mut false)?;
-    Ok(front)
-}
+/// Reads files that one of its identities opens.
+pub struct Decryptor<'a>(Vec<&'a dyn Identity>);
 
-/// The same, from where an earlier read stopped. What was read is kept, whatever happens. After a
-/// fault the header is decided: it is tried again as it is, since what follows is the payload.
-fn read_header<R: Read>(
-    file: &mut R,
-    key: Key,
-    reader: &mut AgeCReader,
-    front: &mut Vec<u8>,
-    decided: &mut bool,
-) -> io::Result<()> {
-    let answer = match *decided {
-        true => key.open(front, reader),
-        false => read_front(file, front, |front| key.open(front, reader))?,
-    };
-    *decided = answer != AGE_C_MORE;
-    if answer != 0 {
-        let fault = AgeError::of_header(answer, key.is_file_key());
-        return Err(fault.about(key.wrong_argument()).into());
+impl<'a> Decryptor<'a> {
+    /// A decryptor by these.
+    pub fn new(identities: &[&'a dyn Identity]) -> Decryptor<'a> {
+        Decryptor(identities.to_vec())
     }
-    front.drain(..reader.payload_at as usize);
-    Ok(())
-}
 
-/// Reads on until a call says what it makes of the header that was read, and returns that.
-pub(crate) fn read_front<R: Read>(
-    file: &mut R,
-    front: &mut Vec<u8>,
-    mut call: impl FnMut(&[u8]) -> u32,
-) -> io::Result<u32> {
-    see_processor()?;
-    let mut room = vec![0; AGE_C_CHUNK];
-    loop {
-        let most = room.len().min(AGE_C_FRONT_MAX - front.len());
-        let n = match file.read(&mut room[..most]) {
-            Err(error) if error.kind() == ErrorKind::Interrupted => continue,
-            read => read.map_err(of_source)?,
+    /// Opens the header, as soon as it is there, with the 16 bytes after it, or fails with its
+    /// [`Fault`], or an error of the source or an identity. The age file begins at the source's
+    /// position. (If a source that doesn't block fails before that, what was read is lost: give its
+    /// bytes to a [`Decoder`].)
+    pub fn read<R: Read>(&self, mut source: R) -> io::Result<Reader<R>> {
+        let (mut piece, mut text, mut offset) = (vec![0; AGEFILE_BLOCK], Vec::new(), 0);
+        let mut decoder = Decoder::new(&self.0);
+        let raw = loop {
+            let n = read_some(&mut source, &mut piece)?;
+            offset += n as u64;
+            let done = match n {
+                0 => decoder.put(None, &mut text),
+                _ => decoder.update(&piece[..n], &mut text),
+            };
+            match decoder.take_open() {
+                Some(raw) => break raw, // (what is wrong after the header, it says again)
+                None => done?,
+            }
         };
-        let seen = front.len();
-        front.extend_from_slice(&room[..n]);
-        if n > 0 && !may_open(front, seen) {
-            continue;
-        }
-        let answer = call(front);
-        if answer != AGE_C_MORE || n == 0 {
-            return Ok(answer);
-        }
+        let (at, text_at, begin, state) = (0, 0, None, State::Reading);
+        Ok(Reader { source, raw, piece, text, at, text_at, begin, offset, state })
     }
 }
 
-/// A file whose header comes in parts, from a source that doesn't block.
-pub struct Opening<'a, R> {
-    file: R,
-    key: Key<'a>,
-    front: Vec<u8>,
-    decided: bool,
+/// The plaintext of an age file: [`Read`] and [`BufRead`], and [`Seek`] if its source is.
+///
+/// ```
+/// # use agefile::{encrypt, Decryptor, Passphrase};
+/// # use std::io::{self, Cursor, Read, Seek, SeekFrom};
+/// # let key = Passphrase::new("correct horse").work(1);
+/// # let source = Cursor::new(encrypt(&[&key], b"a text of mine")?);
+/// let mut file = Decryptor::new(&[&key]).read(source)?;
+/// let mut end = String::new();
+/// file.seek(SeekFrom::End(-4))?;
+/// file.read_to_string(&mut end)?;
+/// assert_eq!(end, "mine");
+/// # Ok::<(), io::Error>(())
+/// ```
+///
+/// A fault stays, until a seek. After an error of the source the next call goes on where that read
+/// began.
+pub struct Reader<R> {
+    source: R,
+    pub(crate) raw: RawDecoder,
+    piece: Vec<u8>,
+    text: Vec<u8>,      // what was decoded last
+    at: usize,          // how much of it was returned
+    text_at: u64,       // its place in the plaintext
+    begin: Option<u64>, // where the age file begins in the source
+    offset: u64,        // of the source in the age file
+    state: State,
 }
 
-impl<'a, R: Read> Opening<'a, R> {
-    /// A file of which nothing was read.
-    pub fn new(file: R, key: Key<'a>) -> Opening<'a, R> {
-        Opening { file, key, front: Vec::new(), decided: false }
-    }
-
-    /// Reads on, and opens the header. If the file fails, as with [`ErrorKind::WouldBlock`], what
-    /// was read is in the opening that comes back with the error: try that again.
-    #[allow(clippy::result_large_err)]
-    pub fn open(mut self) -> Result<AgeReader<R>, (io::Error, Opening<'a, R>)> {
-        let mut reader = State::<AgeCReader>::default();
-        let (file, front) = (&mut self.file, &mut self.front);
-        match read_header(file, self.key, &mut reader, front, &mut self.decided) {
-            Ok(()) => Ok(AgeReader::after(self.file, reader, &self.front)),
-            Err(error) => Err((error, self)),
-        }
-    }
+#[derive(Clone, Copy, Debug, PartialEq)]
+enum State {
+    Reading,
+    Ended,
+    Failed(Fault),
+    Lost, // the source may be anywhere
 }
 
-impl<R> fmt::Debug for Opening<'_, R> {
-    /// Shows no key.
-    fn fmt(&self, f: &mut fmt::Formatter<'_>) -> fmt::Result {
-        f.debug_struct("Opening").field("read", &self.front.len()).finish_non_exhaustive()
-    }
-}
-
-/// The plaintext of an age file, from its beginning to its end.
-pub struct AgeReader<R> {
-    file: R,
-    reader: State<AgeCReader>,
-    block: Vec<u8>,
-    have: usize, // how much of the block was read
-    text: Vec<u8>,
-    at: usize,
-    len: usize,
-    fault: Option<AgeError>,
-    ended: bool,
-}
-
-impl<R: Read> AgeReader<R> {
-    /// Opens the header. It reads no more of the file than it needs, apart from what comes in the
-    /// same read. For a file that doesn't block there is [`Opening`].
-    pub fn open(file: R, key: Key) -> io::Result<AgeReader<R>> {
-        Opening::new(file, key).open().map_err(|(error, _)| error)
-    }
-
-    /// A reader after the header, if this was read of what follows: less than a block.
-    fn after(file: R, reader: State<AgeCReader>, rest: &[u8]) -> AgeReader<R> {
-        let mut block = vec![0; AGE_C_BLOCK];
-        block[..rest.len()].copy_from_slice(rest);
-        AgeReader {
-            file,
-            reader,
-            block,
-            have: rest.len(),
-            text: vec![0; AGE_C_CHUNK],
-            at: 0,
-            len: 0,
-            fault: None,
-            ended: false,
-        }
-    }
-
-    /// The file that is read.
+impl<R> Reader<R> {
+    /// The source.
     pub fn get_ref(&self) -> &R {
-        &self.file
+        &self.source
     }
 
-    /// Returns the file. More of it may have been read than was returned as plaintext.
+    /// The source, of which more may have been read than was returned as plaintext.
     pub fn into_inner(self) -> R {
-        self.file
+        self.source
     }
 
-    /// Reads the next block, or what is left at the end, and takes its plaintext. What was read of
-    /// it when the file fails is kept.
-    fn next(&mut self) -> io::Result<()> {
-        if let Some(fault) = self.fault {
-            return Err(fault.into());
-        }
-        fill(&mut self.file, &mut self.block, &mut self.have)?;
-        (self.at, self.len) = (0, 0);
-        let block = &self.block[..self.have];
-        match open_block(&mut self.reader, block, &mut self.text) {
-            Ok(len) => {
-                (self.ended, self.len) = (self.have < AGE_C_BLOCK, len);
-                self.have = 0;
-                Ok(())
-            }
-            Err(fault) => {
-                self.fault = Some(fault);
-                Err(fault.into())
-            }
-        }
+    fn place(&self) -> u64 {
+        self.text_at + self.at as u64
+    }
+
+    /// Forgets what was decoded.
+    fn forget(&mut self) {
+        (self.text_at, self.at) = (self.place(), 0);
+        self.text.clear();
     }
 }
 
-impl<R> fmt::Debug for AgeReader<R> {
-    /// Shows no key, and no plaintext.
-    fn fmt(&self, f: &mut fmt::Formatter<'_>) -> fmt::Result {
-        f.debug_struct("AgeReader")
-            .field("chunk", &self.reader.chunk)
-            .field("fault", &self.fault)
-            .field("ended", &self.ended)
-            .finish_non_exhaustive()
+impl<R: Read> Reader<R> {
+    /// Reads to the end of a block, or less if the source has less, and takes its plaintext.
+    fn fill(&mut self) -> io::Result<()> {
+        match self.state {
+            State::Reading => {}
+            State::Ended => return Ok(()),
+            State::Failed(fault) => return Err(fault.into()),
+            State::Lost => return Err(io::Error::other("a seek failed: seek again")),
+        }
+        let block = AGEFILE_BLOCK as u64;
+        let most = block - (self.offset - self.raw.payload_at()) % block;
+        let n = read_some(&mut self.source, &mut self.piece[..most as usize])?;
+        self.offset += n as u64;
+        self.forget();
+        let done = match n {
+            0 => self.raw.put(None, &mut self.text),
+            _ => self.raw.put(Some(&self.piece[..n]), &mut self.text),
+        };
+        match done {
+            Err(fault) => self.state = State::Failed(fault),
+            Ok(()) if n == 0 => self.state = State::Ended,
+            Ok(()) => {}
+        }
+        Ok(done?)
     }
 }
 
-impl<R: Read> BufRead for AgeReader<R> {
+impl<R: Read> BufRead for Reader<R> {
     fn fill_buf(&mut self) -> io::Result<&[u8]> {
-        while self.at == self.len && !self.ended {
-            self.next()?;
+        while self.at == self.text.len() && self.state != State::Ended {
+            self.fill()?;
         }
-        Ok(&self.text[self.at..self.len])
+        Ok(&self.text[self.at..])
     }
 
     fn consume(&mut self, amount: usize) {
-        self.at = self.len.min(self.at.saturating_add(amount));
+        self.at = self.text.len().min(self.at.saturating_add(amount));
     }
 }
 
-impl<R: Read> Read for AgeReader<R> {
+impl<R: Read> Read for Reader<R> {
     fn read(&mut self, into: &mut [u8]) -> io::Result<usize> {
         if into.is_empty() {
             return Ok(0);
@@ -211,5 +148,134 @@ impl<R: Read> Read for AgeReader<R> {
         let n = self.fill_buf()?.read(into)?;
         self.consume(n);
         Ok(n)
+    }
+}
+
+impl<R: Read + Seek> Reader<R> {
+    /// Returns the length of the plaintext, which its last chunk proves, or the [`Fault`] of that, or
+    /// an error of the source. The reader stays where it is.
+    pub fn size(&mut self) -> io::Result<u64> {
+        let begin = self.begin()?;
+        let state = mem::replace(&mut self.state, State::Lost);
+        let end = self.source.seek(SeekFrom::End(0)).map_err(of_source)?;
+        let size = Blocks::new(&mut self.source, begin).size(&self.raw, end);
+        self.source.seek(SeekFrom::Start(begin + self.offset)).map_err(of_source)?;
+        self.state = state;
+        size
+    }
+
+    /// Where the age file begins in the source.
+    fn begin(&mut self) -> io::Result<u64> {
+        if self.begin.is_none() {
+            let at = self.source.stream_position().map_err(of_source)?;
+            self.begin = at.checked_sub(self.offset);
+        }
+        self.begin.ok_or_else(|| io::Error::other("the source was moved"))
+    }
+
+    /// Goes to a place in the plaintext.
+    fn go_to(&mut self, place: u64) -> io::Result<()> {
+        let begin = self.begin()?;
+        self.forget();
+        self.state = State::Lost;
+        let end = self.source.seek(SeekFrom::End(0)).map_err(of_source)?;
+        let offset = self.raw.seek(place, end.saturating_sub(begin))?;
+        self.source.seek(SeekFrom::Start(begin + offset)).map_err(of_source)?;
+        (self.offset, self.text_at, self.state) = (offset, place, State::Reading);
+        Ok(())
+    }
+}
+
+/// A source in which an age file begins there, read by blocks.
+pub(crate) struct Blocks<R> {
+    source: R,
+    begin: u64,
+    block: Vec<u8>,
+}
+
+impl<R: Read + Seek> Blocks<R> {
+    pub(crate) fn new(source: R, begin: u64) -> Blocks<R> {
+        Blocks { source, begin, block: vec![0; AGEFILE_BLOCK] }
+    }
+
+    /// Puts the plaintext of a chunk into `text`. Returns whether it is the last one.
+    pub(crate) fn open(
+        &mut self,
+        raw: &RawDecoder,
+        chunk: u64,
+        text: &mut Vec<u8>,
+    ) -> io::Result<bool> {
+        let at = self.begin + raw.payload_at() + chunk * AGEFILE_BLOCK as u64;
+        self.source.seek(SeekFrom::Start(at)).map_err(of_source)?;
+        let (mut have, mut n) = (0, 1);
+        while n > 0 {
+            n = read_some(&mut self.source, &mut self.block[have..])?;
+            have += n;
+        }
+        text.clear();
+        Ok(raw.open_at(chunk, &self.block[..have], text)?)
+    }
+
+    /// The length of the plaintext of a file that ends there, whatever the source says of its own.
+    fn size(&mut self, raw: &RawDecoder, end: u64) -> io::Result<u64> {
+        let last = raw.size(end.saturating_sub(self.begin))?.saturating_sub(1) / CHUNK;
+        let mut text = Vec::new();
+        match self.open(raw, last, &mut text)? {
+            true => Ok(last * CHUNK + text.len() as u64),
+            false => Err(Fault::new(AGEFILE_TRUNCATED, Some(last + 1)).into()),
+        }
+    }
+}
+
+impl<R: Read + Seek> Seek for Reader<R> {
+    /// Goes to a place in the plaintext. It reads nothing, but the last chunk to go to a place from
+    /// the end. After the end there is nothing to read.
+    fn seek(&mut self, to: SeekFrom) -> io::Result<u64> {
+        let place = match to {
+            SeekFrom::Start(place) => Some(place),
+            SeekFrom::Current(by) => self.place().checked_add_signed(by),
+            SeekFrom::End(by) => self.size()?.checked_add_signed(by),
+        };
+        let place =
+            place.ok_or_else(|| io::Error::new(ErrorKind::InvalidInput, "negative place"))?;
+        let held = place.checked_sub(self.text_at).filter(|it| *it <= self.text.len() as u64);
+        match (self.state, held) {
+            (State::Reading | State::Ended, Some(at)) => self.at = at as usize,
+            _ => self.go_to(place)?,
+        }
+        Ok(place)
+    }
+
+    fn stream_position(&mut self) -> io::Result<u64> {
+        Ok(self.place())
+    }
+}
+
+impl<R> fmt::Debug for Reader<R> {
+    /// Shows no key, and no plaintext.
+    fn fmt(&self, f: &mut fmt::Formatter<'_>) -> fmt::Result {
+        f.debug_struct("Reader")
+            .field("place", &self.place())
+            .field("state", &self.state)
+            .finish_non_exhaustive()
+    }
+}
+
+/// The error of a source as it is passed on: a source that was cut itself doesn't say so by the kind
+/// that `read_exact` uses for the end of a file.
+pub(crate) fn of_source(error: io::Error) -> io::Error {
+    match error.kind() {
+        ErrorKind::UnexpectedEof => io::Error::new(ErrorKind::InvalidData, error),
+        _ => error,
+    }
+}
+
+/// Reads some bytes, or none at the end.
+pub(crate) fn read_some(file: &mut impl Read, room: &mut [u8]) -> io::Result<usize> {
+    loop {
+        match file.read(room) {
+            Err(error) if error.kind() == ErrorKind::Interrupted => {}
+            read => return read.map_err(of_source),
+        }
     }
 }

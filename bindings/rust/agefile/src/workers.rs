@@ -1,104 +1,104 @@
 //! One file that several threads decrypt.
 
-use crate::error::refused;
-use crate::file::CHUNK;
-use crate::{AgeError, AgeFile, Key, MAX_WORKERS};
-use std::io::{self, BufRead, Read, Seek, SeekFrom};
-use std::ops::Range;
+use crate::raw::RawDecoder;
+use crate::reader::{of_source, Blocks, CHUNK};
+use crate::{Decryptor, Fault, Identity};
+use agefile_sys::AGEFILE_TRUNCATED;
+use std::io::{self, Read, Seek};
 use std::panic::resume_unwind;
 use std::sync::atomic::{AtomicU64, Ordering};
 use std::thread;
 
-/// Decrypts a file by 1 to [`MAX_WORKERS`] threads, each a part of it, and returns the length of
-/// the plaintext. Each reads its own file, which `source` opens, and gives `out` pieces of the
-/// plaintext and their places. A `source` that calls [`File::try_clone`](std::fs::File::try_clone)
+/// The greatest number of threads that [`decrypt_to`] can be asked for.
+pub const MAX_WORKERS: usize = 64;
+
+/// Decrypts a file by 1 to [`MAX_WORKERS`] threads, and returns the length of the plaintext. Each
+/// reads its own file, which `source` opens, and gives `out` pieces of the plaintext and their
+/// places. A `source` that calls [`File::try_clone`](std::fs::File::try_clone)
 /// won't do: those files share one position, so the threads read at each other's places.
 ///
 /// `out` has all of the plaintext only if this returns `Ok`: the last chunk, which proves the
-/// length, is opened first. If parts fail, the error is that of the first one; those after it stop.
+/// length, is opened first. Else the error is that of the first chunk that has one, by its file, by
+/// `out` or by `source`, and the threads stop.
 ///
 /// ```no_run
-/// use agefile::{decrypt_to, Key};
+/// use agefile::{decrypt_to, Passphrase};
 /// use std::{fs::File, os::unix::fs::FileExt};
 ///
 /// let out = File::create("backup.tar.part")?;
-/// let key = Key::passphrase(b"correct horse");
-/// decrypt_to(|text, at| out.write_all_at(text, at), || File::open("backup.tar.age"), key, 4)?;
+/// let key = Passphrase::new("correct horse");
+/// let source = || File::open("backup.tar.age");
+/// decrypt_to(|text, at| out.write_all_at(text, at), source, &[&key], 4)?;
 /// out.sync_all()?;
 /// std::fs::rename("backup.tar.part", "backup.tar")?;
 /// # Ok::<(), std::io::Error>(())
 /// ```
-///
-/// # Errors
-///
-/// Those of [`AgeFile::open`] and of reading, and those of `out` and `source`.
 pub fn decrypt_to<R: Read + Seek>(
     out: impl Fn(&[u8], u64) -> io::Result<()> + Sync,
     source: impl Fn() -> io::Result<R> + Sync,
-    key: Key,
+    identities: &[&dyn Identity],
     workers: usize,
 ) -> io::Result<u64> {
     if !(1..=MAX_WORKERS).contains(&workers) {
-        return Err(refused(format!("workers must be 1 to {MAX_WORKERS}")));
+        return Err(Fault::Misused { argument: "workers must be 1 to 64" }.into());
     }
-    let first = AgeFile::open(source()?, key)?;
-    let (len, key) = (first.len(), first.file_key());
-    let step = len.div_ceil(CHUNK).div_ceil(workers as u64) * CHUNK;
-    let failed = AtomicU64::new(u64::MAX); // where the first part begins that failed
-    let copies = |begin: u64| {
-        let part = begin..len.min(begin + step);
-        let failing = Failing(&failed, begin);
-        let done = source().and_then(|file| AgeFile::open(file, key)).and_then(|file| {
-            copy_part(file, part, &out, || failed.load(Ordering::Relaxed) <= begin)
-        });
-        if done.is_ok() {
-            std::mem::forget(failing);
-        }
-        done
-    };
+    let mut first = Decryptor::new(identities).read(source()?)?;
+    let size = first.size()?;
+    let parts = Parts { raw: first.raw, size, next: AtomicU64::new(0) };
+    let work = || source().map_err(|it| (u64::MAX, it)).and_then(|it| parts.copy(it, &out));
     thread::scope(|scope| {
-        let (copies, mut threads, mut begin) = (&copies, Vec::new(), 0);
-        while begin < len {
-            let started = thread::Builder::new().spawn_scoped(scope, move || copies(begin));
-            threads.push(started.map_err(|error| {
-                failed.store(0, Ordering::Relaxed); // (all parts stop)
-                error
-            })?);
-            begin += step;
+        let (_stop, mut threads) = (Stop(&parts.next), Vec::new());
+        for _ in 0..workers {
+            threads.push(thread::Builder::new().spawn_scoped(scope, &work)?);
         }
-        for it in threads {
-            it.join().unwrap_or_else(|panic| resume_unwind(panic))?;
-        }
-        Ok(len)
+        let ended = threads.into_iter().map(|it| it.join().unwrap_or_else(|it| resume_unwind(it)));
+        let first = ended.filter_map(Result::err).min_by_key(|it| it.0);
+        first.map_or(Ok(size), |it| Err(it.1))
     })
 }
 
-/// Says that the part that begins here failed, when it is dropped, as by a panic.
-struct Failing<'a>(&'a AtomicU64, u64);
+/// The chunks of a file, which threads take one after the other: so when one fails, all before it
+/// were taken.
+struct Parts {
+    raw: RawDecoder,
+    size: u64,
+    next: AtomicU64,
+}
 
-impl Drop for Failing<'_> {
+/// Lets nobody take another chunk once it is dropped, as by an error or a panic.
+struct Stop<'a>(&'a AtomicU64);
+
+impl Drop for Stop<'_> {
     fn drop(&mut self) {
-        self.0.fetch_min(self.1, Ordering::Relaxed);
+        self.0.store(u64::MAX / 2, Ordering::Relaxed);
     }
 }
 
-/// Gives `out` a part of the plaintext, unless it is to stop.
-fn copy_part<R: Read + Seek>(
-    mut file: AgeFile<R>,
-    part: Range<u64>,
-    out: &impl Fn(&[u8], u64) -> io::Result<()>,
-    stops: impl Fn() -> bool,
-) -> io::Result<()> {
-    let mut at = file.seek(SeekFrom::Start(part.start))?;
-    while at < part.end && !stops() {
-        let text = file.fill_buf()?;
-        if text.is_empty() {
-            return Err(AgeError::truncated(at / CHUNK).into());
+impl Parts {
+    /// Gives `out` chunks until all are taken. An error comes with the number of its chunk.
+    fn copy<R: Read + Seek>(
+        &self,
+        mut file: R,
+        out: &impl Fn(&[u8], u64) -> io::Result<()>,
+    ) -> Result<(), (u64, io::Error)> {
+        let _stop = Stop(&self.next);
+        let begin = file.stream_position().map_err(|it| (u64::MAX, of_source(it)))?;
+        let (mut blocks, mut text) = (Blocks::new(file, begin), Vec::new());
+        loop {
+            let chunk = self.next.fetch_add(1, Ordering::Relaxed);
+            if chunk >= self.size.div_ceil(CHUNK) {
+                return Ok(());
+            }
+            let opened = blocks.open(&self.raw, chunk, &mut text);
+            let done = opened.and_then(|is_last| {
+                let at = chunk * CHUNK;
+                // (who has the key can make another end, after the length was proved)
+                match is_last == (at + text.len() as u64 == self.size) {
+                    true => out(&text, at),
+                    false => Err(Fault::new(AGEFILE_TRUNCATED, Some(chunk)).into()),
+                }
+            });
+            done.map_err(|it| (chunk, it))?;
         }
-        let n = (part.end - at).min(text.len() as u64);
-        out(&text[..n as usize], at)?;
-        file.consume(n as usize);
-        at += n;
     }
-    Ok(())
 }

@@ -1,80 +1,90 @@
-//! Keys and recipients of age-keygen, files in memory, and readers that are opened once more.
+//! Recipients and identities: keys of age-keygen, whose stanzas are made and opened here, and others.
 
-mod primitives;
+mod common;
 
-use agefile::{
-    decrypt, encrypt, parse_recipient, salvage, AgeError, AgeFile, AgeReader, AgeWriter,
-};
-use agefile::{Identity, Key, Opening, MAX_TRIES};
-use primitives::{wrap, x25519};
-use std::io::{self, Cursor, ErrorKind, Read, Seek, SeekFrom, Write};
+use agefile::{decrypt, encrypt, inspect, Decoder, Decryptor, Encryptor, Fault};
+use agefile::{FileKey, Identity, Passphrase, Recipient, Stanza};
+use common::primitives::{base64, bech32, to_base64, unwrap, wrap, x25519};
+use common::*;
+use std::io::{self, Read, Write};
 use std::process::{Command, Stdio};
-use std::sync::atomic::{AtomicUsize, Ordering};
+use std::sync::Mutex;
+
+const NINE: [u8; 32] = {
+    let mut nine = [0; 32];
+    nine[0] = 9;
+    nine
+};
+
+/// A key of age-keygen.
+struct Secret([u8; 32]);
+
+/// Whom it reads for.
+struct Public([u8; 32]);
+
+fn salt(share: &[u8; 32], recipient: &[u8; 32]) -> [u8; 64] {
+    std::array::from_fn(|at| if at < 32 { share[at] } else { recipient[at - 32] })
+}
+
+impl Identity for Secret {
+    fn unwrap_stanza(&self, stanza: &Stanza) -> Option<io::Result<FileKey>> {
+        let share = base64(stanza.args.first().filter(|_| stanza.tag == "X25519")?)?;
+        let (secret, recipient) = (x25519(&self.0, &share), x25519(&self.0, &NINE));
+        unwrap(&secret, &salt(&share, &recipient), &stanza.body).map(|it| Ok(FileKey::new(it)))
+    }
+}
+
+impl Recipient for Public {
+    fn wrap_file_key(&self, file_key: &FileKey) -> io::Result<Vec<Stanza>> {
+        let mut ephemeral = [0; 32];
+        std::fs::File::open("/dev/urandom")?.read_exact(&mut ephemeral)?;
+        let (share, secret) = (x25519(&ephemeral, &NINE), x25519(&ephemeral, &self.0));
+        let body = wrap(&secret, &salt(&share, &self.0), file_key.expose()).to_vec();
+        Ok(vec![Stanza { tag: "X25519".into(), args: vec![to_base64(&share)], body }])
+    }
+}
 
 /// What age made, beside this folder; nothing if it stands alone.
 fn of_age(name: &str) -> Option<Vec<u8>> {
     std::fs::read(format!("{}/../../tests/age/{name}", env!("CARGO_MANIFEST_DIR"))).ok()
 }
 
-fn keys() -> Option<(String, Vec<Identity>)> {
-    keys_of("key.txt")
-}
-
-fn keys_of(name: &str) -> Option<(String, Vec<Identity>)> {
+/// The key in a file of age-keygen, and the recipient that it names.
+fn keys_of(name: &str) -> Option<(Secret, Public)> {
     let text = String::from_utf8(of_age(name)?).unwrap();
-    let found = Identity::parse(&text).unwrap();
-    Some((text, found))
-}
-
-/// The recipient that a file of age-keygen names.
-fn public_of(text: &str) -> &str {
-    let after = text.split("public key: ").nth(1).unwrap();
-    after.lines().next().unwrap()
-}
-
-fn key_of(identities: &[Identity]) -> Key<'_> {
-    Key::X25519 { exchange: &x25519, identities }
-}
-
-fn bytes_of(digits: &str) -> [u8; 32] {
-    std::array::from_fn(|at| u8::from_str_radix(&digits[2 * at..2 * at + 2], 16).unwrap())
-}
-
-const SHARE: &str = "638382e5d3ca40d1939596d1e9900497fcf3957a4f75e0d473ef9a566670521a";
-
-fn number(found: io::Result<Vec<u8>>) -> u32 {
-    AgeError::of(&found.unwrap_err()).unwrap().number
+    let public = text.split("public key: ").nth(1).unwrap().lines().next().unwrap();
+    let secret = text.lines().find(|it| it.starts_with("AGE-SECRET-KEY-1")).unwrap();
+    Some((Secret(bech32(secret)), Public(bech32(public))))
 }
 
 #[test]
 fn reads_files_for_keys() {
-    let Some((text, identities)) = keys() else {
+    let (Some((mine, _)), Some((others, _))) = (keys_of("key.txt"), keys_of("other.txt")) else {
         return; // this folder stands alone
     };
-    assert_eq!(
-        parse_recipient(public_of(&text)).unwrap(),
-        bytes_of("ebaa24287c1e692527056fc5ea4806639e8c56c9257e953b6dc556e8be34d20f")
-    );
-    let (key, (_, others)) = (key_of(&identities), keys_of("other.txt").unwrap());
-    let data = of_age("one.age").unwrap();
+    let file = of_age("one.age").unwrap();
     let both = of_age("two.age").unwrap();
-    assert_eq!(decrypt(&both, key).unwrap(), b"hello, both\n");
-    assert_eq!(decrypt(&both, key_of(&others)).unwrap(), b"hello, both\n");
-    assert_eq!(decrypt(&data, key).unwrap(), b"hello, recipient\n");
-    assert_eq!(number(decrypt(&of_age("other.age").unwrap(), key)), 13);
-    assert_eq!(number(decrypt(&of_age("passphrase.age").unwrap(), key)), 12);
-    // (for a pair of numbers that anybody can guess)
-    assert_eq!(number(decrypt(&of_age("anyone.age").unwrap(), key)), 13);
-    assert_eq!(number(decrypt(&data[..90], key)), 254);
-    assert_eq!(number(decrypt(&data, key_of(&[]))), 13);
-    assert_eq!(number(decrypt(&data, key_of(&others))), 13);
-    let zero = Key::X25519 { exchange: &|_, _| [0; 32], identities: &identities };
-    assert_eq!(number(decrypt(&data, zero)), 13);
-    assert_eq!(format!("{key:?} {identities:?}"), "Key::X25519 [Identity]");
+    assert_eq!(decrypt(&[&mine], &file).unwrap(), b"hello, recipient\n");
+    assert_eq!(decrypt(&[&mine], &both).unwrap(), b"hello, both\n");
+    assert_eq!(decrypt(&[&others], &both).unwrap(), b"hello, both\n");
+    // whatever stands before it: one that doesn't fit, or a passphrase, which costs nothing here
+    assert_eq!(decrypt(&[&others, &pw(), &mine], &file).unwrap(), b"hello, recipient\n");
+    let secret = sealed(b"text");
+    assert_eq!(decrypt(&[&mine, &Passphrase::new("x"), &pw()], &secret).unwrap(), b"text");
+    let no_match = Fault::WrongKey { number: 12 };
+    let nobody: [&[&dyn Identity]; 4] = [&[], &[&others], &[&pw()], &[&pw(), &others]];
+    for identities in nobody {
+        assert_eq!(fault(decrypt(identities, &file)), no_match);
+    }
+    assert_eq!(fault(decrypt(&[&mine], &of_age("passphrase.age").unwrap())), no_match);
+    assert_eq!(number(decrypt(&[&mine], &file[..90])), (254, None));
+    let mut text = String::new();
+    Decryptor::new(&[&mine]).read(&file[..]).unwrap().read_to_string(&mut text).unwrap();
+    assert_eq!(text, "hello, recipient\n");
 }
 
 /// What age decrypts of a file by key.txt, if it is installed.
-fn by_age(data: &[u8]) -> Option<Vec<u8>> {
+fn by_age(file: &[u8]) -> Option<Vec<u8>> {
     let path = concat!(env!("CARGO_MANIFEST_DIR"), "/../../tests/age/key.txt");
     let mut age = Command::new("age")
         .args(["-d", "-i", path])
@@ -82,227 +92,133 @@ fn by_age(data: &[u8]) -> Option<Vec<u8>> {
         .stdout(Stdio::piped())
         .spawn()
         .ok()?;
-    age.stdin.take().unwrap().write_all(data).unwrap();
+    age.stdin.take().unwrap().write_all(file).unwrap();
     Some(age.wait_with_output().unwrap().stdout)
 }
 
 /// Files for one recipient and for two, which their keys open, here and in age.
 #[test]
 fn writes_files_for_recipients() {
-    let (Some((one, mine)), Some((two, others))) = (keys(), keys_of("other.txt")) else {
+    let (Some((mine, me)), Some((others, them))) = (keys_of("key.txt"), keys_of("other.txt"))
+    else {
         return;
     };
-    let of = |recipients: &[&str]| {
-        let mut file = AgeWriter::create_x25519(Vec::new(), &x25519, &wrap, recipients)?;
-        file.write_all(b"a text")?;
-        file.finish()
-    };
-    let data = of(&[public_of(&one)]).unwrap();
-    assert_eq!(decrypt(&data, key_of(&mine)).unwrap(), b"a text");
-    assert_eq!(number(decrypt(&data, key_of(&others))), 13);
-    let data = of(&[public_of(&two), public_of(&one)]).unwrap();
-    assert_eq!(decrypt(&data, key_of(&mine)).unwrap(), b"a text");
-    assert_eq!(decrypt(&data, key_of(&others)).unwrap(), b"a text");
-    assert!(by_age(&data).map_or(true, |it| it == b"a text"));
-    let upper = public_of(&one).to_uppercase();
-    for bad in [&[][..], &["age1"], &[public_of(&one), &one], &[&upper[1..]]] {
-        let error = of(bad).unwrap_err();
-        assert_eq!(error.kind(), ErrorKind::InvalidInput, "{error}");
-        assert!(!error.to_string().contains("SECRET"), "{error}");
+    let file = encrypt(&[&me], b"a text").unwrap();
+    assert_eq!(decrypt(&[&mine], &file).unwrap(), b"a text");
+    assert_eq!(fault(decrypt(&[&others], &file)), Fault::WrongKey { number: 12 });
+    let mut file = Encryptor::new(&[&them, &me]).wrap(Vec::new()).unwrap();
+    file.write_all(b"a text").unwrap();
+    let file = file.finish().unwrap();
+    assert_eq!(decrypt(&[&mine], &file).unwrap(), b"a text");
+    assert_eq!(decrypt(&[&others], &file).unwrap(), b"a text");
+    assert!(by_age(&file).map_or(true, |it| it == b"a text"));
+    let error = encrypt(&[&me, &pw()], b"a text").unwrap_err();
+    assert_eq!(error.to_string(), "a passphrase must be the only recipient (255 Misused)");
+}
+
+/// A recipient that gives these stanzas, and remembers the file key.
+struct Given(Vec<Stanza>, Mutex<Option<FileKey>>);
+
+impl Given {
+    fn new(tag: &str, args: &[&str], body: &[u8]) -> Given {
+        let args = args.iter().map(|it| it.to_string()).collect();
+        Given(vec![Stanza { tag: tag.into(), args, body: body.to_vec() }], Mutex::new(None))
     }
 }
 
-/// Nothing is written for a point of low order, or if what is handed in computes something else.
+impl Recipient for Given {
+    fn wrap_file_key(&self, file_key: &FileKey) -> io::Result<Vec<Stanza>> {
+        *self.1.lock().unwrap() = Some(file_key.clone());
+        Ok(self.0.clone())
+    }
+}
+
+/// Stanzas stand in the header as they were given, with bodies of each length, and the file key that
+/// a recipient was given opens the file, and no other one.
 #[test]
-fn refuses_wrong_stanzas() {
-    let Some((text, _)) = keys() else {
-        return;
-    };
-    let recipients = [public_of(&text)];
-    let zero = |_: &[u8; 32], _: &[u8; 32]| [0; 32];
-    let other = |_: &[u8; 32], salt: &[u8; 64], key: &[u8; 16]| wrap(&[1; 32], salt, key);
+fn stanzas_are_those_given() {
+    let bodies: Vec<Vec<u8>> = (0..150).map(text_of).collect();
+    let made: Vec<Given> = bodies.iter().map(|it| Given::new("a", &["bc", "!~"], it)).collect();
+    let recipients: Vec<&dyn Recipient> = made.iter().map(|it| it as _).collect();
+    let file = encrypt(&recipients, b"a text").unwrap();
+    let want: Vec<Stanza> = made.iter().flat_map(|it| it.0.clone()).collect();
+    let header = inspect(&file[..]).unwrap();
+    assert_eq!((header.work, header.stanzas), (0, want));
+    let key = made[0].1.lock().unwrap().take().unwrap();
+    assert_eq!(decrypt(&[&key], &file).unwrap(), b"a text");
+    let other = encrypt(&recipients, b"a text").unwrap();
+    assert_eq!(number(decrypt(&[&key], &other)), (14, None));
+    let first = std::str::from_utf8(&file[..44]).unwrap();
+    assert_eq!(first, "age-encryption.org/v1\n-> a bc !~\n\n-> a bc !~");
+}
+
+#[test]
+fn refuses_stanzas_that_no_header_has() {
+    let words = "a stanza's type and arguments must be words of visible ASCII";
+    for (tag, args) in
+        [("", &[][..]), ("a b", &[]), ("a", &[""]), ("a", &["b\n-> c"]), ("a", &["\u{e4}"])]
+    {
+        let error = encrypt(&[&Given::new(tag, args, b"")], b"a text").unwrap_err();
+        assert_eq!(Fault::of(&error), Some(Fault::Misused { argument: words }));
+    }
+    let two = Given::new("a", &[], b"");
+    let found = encrypt(&[&Given::new("scrypt", &["b", "1"], b""), &two], b"a text");
+    assert_eq!(number(found), (9, None));
+    assert_eq!(number(encrypt(&[&Given(Vec::new(), Mutex::new(None))], b"a text")), (3, None));
+}
+
+/// A key in hardware that doesn't answer, and one in a vault that is closed.
+struct Broken;
+
+impl Identity for Broken {
+    fn unwrap_stanza(&self, _: &Stanza) -> Option<io::Result<FileKey>> {
+        Some(Err(io::Error::other("no token")))
+    }
+}
+
+impl Recipient for Broken {
+    fn wrap_file_key(&self, _: &FileKey) -> io::Result<Vec<Stanza>> {
+        Err(io::Error::other("no vault"))
+    }
+}
+
+/// An error of a key is passed on, and isn't a fault of the file. Nothing is written or read after it.
+#[test]
+fn errors_of_keys() {
+    let file = sealed(b"a text");
+    let error = decrypt(&[&Broken, &pw()], &file).unwrap_err();
+    assert_eq!((Fault::of(&error), error.to_string().as_str()), (None, "no token"));
+    let (mut decoder, mut text) = (Decoder::new(&[&Broken]), Vec::new());
+    assert!(decoder.update(&file, &mut text).is_err());
+    assert!(decoder.update(&file, &mut text).is_err() && text.is_empty());
+    assert!(decoder.finish(&mut text).is_err());
     let mut out = Vec::new();
-    for (made, why) in [
-        (
-            AgeWriter::create_x25519(&mut out, &zero, &wrap, &recipients).map(drop),
-            "recipient 1: a point of low order",
-        ),
-        (
-            AgeWriter::create_x25519(&mut Vec::new(), &x25519, &other, &recipients).map(drop),
-            "recipient 1: `exchange` or `wrap`",
-        ),
-    ] {
-        let error = made.unwrap_err();
-        assert_eq!(error.kind(), ErrorKind::InvalidInput, "{error}");
-        assert!(error.to_string().starts_with(why), "{error}");
-    }
-    assert!(out.is_empty());
+    let error = Encryptor::new(&[&Broken]).wrap(&mut out).unwrap_err();
+    assert_eq!((error.to_string().as_str(), out.len()), ("no vault", 0));
 }
 
-/// The share is what the library's own base64 says.
+/// A passphrase is a copy, so that its owner may overwrite his.
 #[test]
-fn gives_the_share_of_a_stanza() {
-    let (Some((_, identities)), Some(data)) = (keys(), of_age("one.age")) else {
-        return;
-    };
-    let seen = std::sync::Mutex::new(Vec::new());
-    let exchange = |_: &[u8; 32], point: &[u8; 32]| {
-        seen.lock().unwrap().push(*point);
-        [5; 32]
-    };
-    let key = Key::X25519 { exchange: &exchange, identities: &identities };
-    assert_eq!(number(decrypt(&data, key)), 13);
-    assert_eq!(seen.lock().unwrap()[1], bytes_of(SHARE));
+fn passphrases_are_copies() {
+    let mut bytes = b"pw".to_vec();
+    let key = Passphrase::new(&bytes).work(1);
+    bytes.fill(0);
+    assert_eq!(decrypt(&[&pw()], &encrypt(&[&key], b"text").unwrap()).unwrap(), b"text");
+    assert_eq!(decrypt(&[&key], &sealed(b"text")).unwrap(), b"text");
 }
 
-/// A header that failed to open can be tried again: what was read after it is the payload.
+/// What a file demands is what was asked for, and 18 if nothing was.
 #[test]
-fn tries_an_opening_again() {
-    let Some((text, identities)) = keys() else {
-        return;
-    };
-    let plain = vec![7; 300_000];
-    let mut file =
-        AgeWriter::create_x25519(Vec::new(), &x25519, &wrap, &[public_of(&text)]).unwrap();
-    file.write_all(&plain).unwrap();
-    let data = file.finish().unwrap();
-    let tries = AtomicUsize::new(0);
-    let exchange = |secret: &[u8; 32], point: &[u8; 32]| {
-        let is_right = tries.fetch_add(1, Ordering::Relaxed) > 1;
-        x25519(secret, point).map(|it| it * u8::from(is_right))
-    };
-    let key = Key::X25519 { exchange: &exchange, identities: &identities };
-    let (error, opening) = Opening::new(&data[..], key).open().err().unwrap();
-    assert_eq!(AgeError::of(&error).unwrap().number, 13);
-    let mut held = Vec::new();
-    opening.open().map_err(|it| it.0).unwrap().read_to_end(&mut held).unwrap();
-    assert!(held == plain);
-}
-
-#[test]
-fn refuses_what_is_no_key() {
-    let Some((text, _)) = keys() else {
-        return;
-    };
-    let word = text.split_whitespace().last().unwrap();
-    for bad in [
-        "",
-        "# a comment",
-        &word[1..],
-        &word[..word.len() - 1],
-        &format!("{word}Q"),
-        &word.replacen('R', "r", 1),
-        &word.replacen("R4", "4R", 1),
-        &format!("age1{}", word[16..].to_lowercase()),
-        "AGE-SECRET-KEY-1\u{e4}",
-    ] {
-        assert!(Identity::parse(bad).is_err(), "{bad}");
-        assert!(parse_recipient(bad).is_err(), "{bad}");
-    }
-    assert_eq!(Identity::parse(&format!("{}\r\n\n{text}", word.to_lowercase())).unwrap().len(), 2);
-}
-
-/// A stranger's header costs a bounded number of tries.
-#[test]
-fn stops_after_many_tries() {
-    let Some((text, identities)) = keys() else {
-        return;
-    };
-    let stanza = format!("-> X25519 CQ{}\n{}\n", "A".repeat(41), "A".repeat(43));
-    let data = format!(
-        "age-encryption.org/v1\n{}--- {}\n{}",
-        stanza.repeat(9_000),
-        "A".repeat(43),
-        "0".repeat(16)
-    );
-    let tries = AtomicUsize::new(0);
-    let exchange = |_: &[u8; 32], _: &[u8; 32]| {
-        tries.fetch_add(1, Ordering::Relaxed);
-        [5; 32]
-    };
-    let two =
-        [identities, Identity::parse(&text).unwrap()].into_iter().flatten().collect::<Vec<_>>();
-    let key = Key::X25519 { exchange: &exchange, identities: &two };
-    assert_eq!(number(decrypt(data.as_bytes(), key)), 13);
-    assert_eq!(tries.load(Ordering::Relaxed), MAX_TRIES + 2);
-}
-
-#[test]
-fn reopens_without_a_key() {
-    let text: Vec<u8> =
-        (0..200_000u32).map(|it| (it.wrapping_mul(2_654_435_761) >> 13) as u8).collect();
-    let sealed = |text: &[u8]| encrypt(text, b"pw", 1).unwrap();
-    let (data, another) = (sealed(&text), sealed(b"another"));
-    let file = AgeFile::open(Cursor::new(&data[..]), Key::passphrase(b"pw")).unwrap();
-    std::thread::scope(|scope| {
-        for place in [0, 70_000, 199_990] {
-            let mut other = file.reopen(Cursor::new(&data[..])).unwrap();
-            let text = &text;
-            scope.spawn(move || {
-                let mut got = Vec::new();
-                other.seek(SeekFrom::Start(place)).unwrap();
-                other.read_to_end(&mut got).unwrap();
-                assert_eq!(got, text[place as usize..]);
-            });
-        }
-    });
-    let error = file.reopen(Cursor::new(&another[..])).unwrap_err();
-    assert!(AgeError::of(&error).is_some_and(|it| it.is_wrong_key()));
-}
-
-#[test]
-fn files_in_memory() {
-    for len in [0, 1, 65_536, 200_000] {
-        let text = vec![7; len];
-        let data = encrypt(&text, b"pw", 1).unwrap();
-        assert_eq!(decrypt(&data, Key::passphrase(b"pw")).unwrap(), text);
-        assert_eq!(
-            number(decrypt(&data[..data.len() - 1], Key::passphrase(b"pw"))),
-            if len == 0 { 18 } else { 17 }
-        );
-        assert_eq!(number(decrypt(&data, Key::passphrase(b"other"))), 13);
-    }
-}
-
-/// A 255 says which argument it is about.
-#[test]
-fn names_the_argument_that_is_wrong() {
-    let (data, long) = (encrypt(b"text", b"pw", 1).unwrap(), vec![b'w'; 65_537]);
-    let under = |passphrase, max_work| Key::Passphrase { passphrase, max_work };
-    let shared = |secret, recipient| Key::Shared { secret, recipient };
-    let (short, right) = (&[1; 31][..], &[1; 32][..]);
-    for (key, argument) in [
-        (under(b"", 22), "the passphrase must have 1 to 65,536 bytes"),
-        (under(&long, 0), "the passphrase must have 1 to 65,536 bytes"),
-        (under(&long[1..], 0), "max_work must be 1 to 22"),
-        (under(b"pw", 23), "max_work must be 1 to 22"),
-        (Key::FileKey(&[7; 15]), "the file key must have 16 bytes"),
-        (shared(short, right), "secret must have 32 bytes"),
-        (shared(right, short), "recipient must have 32 bytes"),
-    ] {
-        for error in [
-            AgeReader::open(&data[..], key).unwrap_err(),
-            AgeFile::open(Cursor::new(&data), key).unwrap_err(),
-            salvage(&data[..], key, io::sink()).unwrap_err(),
-        ] {
-            see_argument(&error, argument);
+fn work_factors() {
+    for work in [1, 9, 12] {
+        let file = encrypt(&[&Passphrase::new("pw").work(work)], b"text").unwrap();
+        assert_eq!(inspect(&file[..]).unwrap().work, work);
+        assert_eq!(decrypt(&[&pw().max_work(work)], &file).unwrap(), b"text");
+        if work > 1 {
+            let found = decrypt(&[&pw().max_work(work - 1)], &file);
+            assert_eq!(fault(found), Fault::WorkTooHigh);
         }
     }
-    for (passphrase, work, argument) in [
-        (&b""[..], 1, "the passphrase must have 1 to 65,536 bytes"),
-        (&long, 1, "the passphrase must have 1 to 65,536 bytes"),
-        (&long[1..], 0, "work must be 1 to 22"),
-        (b"pw", 23, "work must be 1 to 22"),
-    ] {
-        see_argument(&encrypt(b"text", passphrase, work).unwrap_err(), argument);
-    }
-    let error = decrypt(&data, Key::passphrase(b"other")).unwrap_err();
-    assert_eq!(AgeError::of(&error).unwrap().argument, None);
-}
-
-fn see_argument(error: &io::Error, argument: &str) {
-    let fault = AgeError::of(error).unwrap();
-    assert_eq!((fault.number, fault.argument), (255, Some(argument)));
-    assert_eq!(error.to_string(), format!("{argument} (255 Misused)"));
-    assert_eq!(error.kind(), ErrorKind::InvalidInput);
+    let file = encrypt(&[&Passphrase::new("pw")], b"text").unwrap();
+    assert_eq!(inspect(&file[..]).unwrap().work, 18);
 }

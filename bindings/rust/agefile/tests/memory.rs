@@ -1,6 +1,8 @@
 //! What an open reader holds.
 
-use agefile::{encrypt, AgeReader, Key};
+mod common;
+
+use common::*;
 use std::alloc::{GlobalAlloc, Layout, System};
 use std::io::Read;
 use std::sync::atomic::{AtomicUsize, Ordering};
@@ -25,12 +27,12 @@ unsafe impl GlobalAlloc for Counting {
 #[global_allocator]
 static ALLOCATOR: Counting = Counting;
 
-/// A block and the text of one, and little more.
+/// A block and the text of one, and little more, beside the library's 66 KiB.
 #[test]
 fn of_a_reader() {
-    let data = encrypt(&[7; 200_000], b"pw", 1).unwrap();
+    let file = sealed(&text_of(200_000));
     let before = HELD.load(Ordering::Relaxed);
-    let mut reader = AgeReader::open(&data[..], Key::passphrase(b"pw")).unwrap();
+    let mut reader = open(&file[..]).unwrap();
     reader.read_exact(&mut [0; 100]).unwrap();
     let held = HELD.load(Ordering::Relaxed) - before;
     assert!((131_000..133_000).contains(&held), "{held}");

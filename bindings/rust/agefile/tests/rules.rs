@@ -1,34 +1,10 @@
 //! What `std::io` says of readers and writers.
 
-use agefile::{decrypt, encrypt, salvage, AgeError, AgeFile, AgeReader, AgeWriter, Key};
-use std::error::Error;
-use std::fmt;
+mod common;
+
+use agefile::{decrypt, Encryptor};
+use common::*;
 use std::io::{self, BufRead, Cursor, ErrorKind, Read, Seek, SeekFrom, Write};
-
-const LENGTHS: [usize; 7] = [0, 1, 65_535, 65_536, 65_537, 131_072, 200_000];
-
-fn text_of(len: usize) -> Vec<u8> {
-    let byte = |at: usize| (at.wrapping_mul(2_654_435_761) >> 13) as u8;
-    (0..len).map(byte).collect()
-}
-
-fn key() -> Key<'static> {
-    Key::passphrase(b"pw")
-}
-
-/// A source that gives at most this many bytes, and is interrupted before each.
-struct Pieces<R>(R, usize, bool);
-
-impl<R: Read> Read for Pieces<R> {
-    fn read(&mut self, room: &mut [u8]) -> io::Result<usize> {
-        self.2 = !self.2;
-        if self.2 {
-            return Err(ErrorKind::Interrupted.into());
-        }
-        let most = room.len().min(self.1);
-        self.0.read(&mut room[..most])
-    }
-}
 
 /// `Read` and `BufRead`: no byte for no room, nothing beyond the count, all of what `fill_buf` shows
 /// stays until it is consumed, and the end stays the end.
@@ -66,16 +42,16 @@ fn see_reader(mut file: impl BufRead, text: &[u8]) {
 fn readers() {
     for len in LENGTHS {
         let text = text_of(len);
-        let data = encrypt(&text, b"pw", 1).unwrap();
+        let file = sealed(&text);
         for size in [1, 9_999, 1 << 20] {
             if size > 1 || len < 70_000 {
-                see_reader(AgeReader::open(Pieces(&data[..], size, false), key()).unwrap(), &text);
+                see_reader(open(Pieces(&file[..], size, false)).unwrap(), &text);
             }
         }
-        see_reader(AgeFile::open(Cursor::new(&data[..]), key()).unwrap(), &text);
-        let mut out = Vec::new();
-        let found = salvage(Pieces(&data[..], 9_999, false), key(), &mut out).unwrap();
-        assert!(found.is_whole() && out == text);
+        let mut sought = open(Cursor::new(&file[..])).unwrap();
+        sought.seek(SeekFrom::End(0)).unwrap();
+        sought.rewind().unwrap();
+        see_reader(sought, &text);
     }
 }
 
@@ -83,8 +59,7 @@ fn readers() {
 #[test]
 fn seeks() {
     let text = text_of(200_000);
-    let data = encrypt(&text, b"pw", 1).unwrap();
-    let mut file = AgeFile::open(Cursor::new(&data[..]), key()).unwrap();
+    let mut file = open(Cursor::new(sealed(&text))).unwrap();
     let mut memory = Cursor::new(&text[..]);
     let (mut one, mut other) = ([0; 5_000], [0; 5_000]);
     for turn in 0..300i64 {
@@ -105,7 +80,7 @@ fn seeks() {
 #[test]
 fn writers() {
     let text = text_of(200_000);
-    let mut file = AgeWriter::create(Vec::new(), b"pw", 1).unwrap();
+    let mut file = Encryptor::new(&[&pw()]).wrap(Vec::new()).unwrap();
     let mut left = &text[..];
     while !left.is_empty() {
         assert_eq!(file.write(&[]).unwrap(), 0);
@@ -114,7 +89,7 @@ fn writers() {
         file.flush().unwrap();
         left = &left[n..];
     }
-    assert_eq!(decrypt(&file.finish().unwrap(), key()).unwrap(), text);
+    assert_eq!(decrypt(&[&pw()], &file.finish().unwrap()).unwrap(), text);
 }
 
 /// A source that fails, and a sink that takes everything and can't pass it on.
@@ -139,16 +114,18 @@ impl Write for Broken {
 /// A file isn't whole if its sink can't pass it on, and a source that fails isn't a cut file.
 #[test]
 fn failures_are_reported() {
-    let data = encrypt(&text_of(131_072), b"pw", 1).unwrap();
-    let mut file = AgeWriter::create(Broken, b"pw", 1).unwrap();
+    let data = sealed(&text_of(131_072));
+    let mut file = Encryptor::new(&[&pw()]).wrap(Broken).unwrap();
     file.write_all(b"text").unwrap();
-    let mut errors = vec![
-        file.flush().unwrap_err(),
-        file.finish().map(drop).unwrap_err(),
-        salvage(&data[..], key(), Broken).unwrap_err(),
-    ];
-    for end in [30, data.len() - 65_552, data.len() - 100, data.len()] {
-        errors.push(salvage((&data[..end]).chain(Broken), key(), io::sink()).unwrap_err());
+    let mut errors = vec![file.flush().unwrap_err(), file.finish().map(drop).unwrap_err()];
+    for end in [0, 30, data.len() - 65_552, data.len() - 100, data.len()] {
+        errors.push(open((&data[..end]).chain(Broken)).map(read_all).map_or_else(
+            |error| error,
+            |(text, done)| {
+                assert!(text_of(131_072).starts_with(&text));
+                done.unwrap_err()
+            },
+        ));
     }
     for error in errors {
         assert_eq!(error.kind(), ErrorKind::BrokenPipe);
@@ -158,8 +135,8 @@ fn failures_are_reported() {
 /// What is consumed beyond the buffer is its end.
 #[test]
 fn consumes_no_more_than_there_is() {
-    let data = encrypt(&text_of(100), b"pw", 1).unwrap();
-    let mut file = AgeReader::open(&data[..], key()).unwrap();
+    let data = sealed(&text_of(100));
+    let mut file = open(&data[..]).unwrap();
     file.read_exact(&mut [0; 9]).unwrap();
     file.consume(usize::MAX);
     assert!(file.fill_buf().unwrap().is_empty());
@@ -184,42 +161,10 @@ impl Write for Once {
 /// A flush that failed counts as a write that failed.
 #[test]
 fn a_flush_that_failed() {
-    let mut file = AgeWriter::create(Once(true), b"pw", 1).unwrap();
+    let mut file = Encryptor::new(&[&pw()]).wrap(Once(true)).unwrap();
     file.write_all(b"text").unwrap();
     assert_eq!(file.flush().unwrap_err().to_string(), "lost");
     for later in [file.write_all(b"x"), file.flush(), file.finish().map(drop)] {
         assert!(later.unwrap_err().to_string().ends_with("failed: lost"));
-    }
-}
-
-/// An error as a reader of archives makes it: it says what it did, and holds why that failed.
-#[derive(Debug)]
-struct Unpacking(io::Error);
-
-impl fmt::Display for Unpacking {
-    fn fmt(&self, f: &mut fmt::Formatter<'_>) -> fmt::Result {
-        f.write_str("failed to unpack")
-    }
-}
-
-impl Error for Unpacking {
-    fn source(&self) -> Option<&(dyn Error + 'static)> {
-        Some(&self.0)
-    }
-}
-
-/// A fault is found inside other errors, and in others there is none.
-#[test]
-fn faults_inside_other_errors() {
-    let data = encrypt(&text_of(200_000), b"pw", 1).unwrap();
-    let fault = || decrypt(&data[..150_000], key()).unwrap_err();
-    let within = |it| io::Error::new(ErrorKind::InvalidData, Unpacking(it));
-    for error in [fault(), io::Error::other(fault()), within(fault()), within(within(fault()))] {
-        let found = AgeError::of(&error).map(|it| (it.number, it.chunk));
-        assert_eq!(found, Some((17, Some(2))), "{error:?}");
-    }
-    let reset = || io::Error::from(ErrorKind::ConnectionReset);
-    for error in [reset(), io::Error::other("text"), io::Error::other(reset()), within(reset())] {
-        assert_eq!(AgeError::of(&error), None, "{error:?}");
     }
 }
