@@ -11,15 +11,13 @@ import sys
 from typing import Any, Callable, Iterator
 
 import agefile
-from agefile import _keys, _library
+from agefile import _coders, _keys, _library
 from agefile._output import descriptor_of, opened_alone, reach_disk, replacing
-from agefile._reader import may_open
-from agefile._recipients import beginning_of, points_of
+from agefile._recipients import points_of
 from agefile._source import some
 
 # How many bytes a file of keys or of recipients may have, as for `age`, and one with a passphrase.
 KEYS_MAX, PASSPHRASE_FILE_MAX = 1 << 24, 65_537
-NO_MATCH = 12
 
 Told = Callable[[int], None]
 
@@ -81,19 +79,10 @@ def recipients_of(asked: Any) -> list[str]:
 def shared_secret(asked: Any, opened: Any) -> bytes:
     """The shared secret of the stanza of IN that a key opens, and its recipient, as age_tool's --shared takes them. Of a header that isn't
     well-formed, or isn't complete, a random pair, with which age_tool says what is wrong."""
-    identities = identities_of(asked.lists["--identity"])
-    answer, pair, seen, state = _library.MORE, (b"", b""), 0, _library.ReaderState()
-    while answer == _library.MORE:
-        piece = opened.read(min(_library.CHUNK, _library.FRONT_MAX - seen))
-        if not piece or may_open(bytearray(opened.front), seen):
-            answer, pair = _keys.tried(identities, opened.front, state)
-        seen = len(opened.front)
-        if not piece:
-            break
-    _library.wipe(state)
-    if answer == NO_MATCH:
+    answer, pair = _coders.shared_secret(identities_of(asked.lists["--identity"]), iter(lambda: bytes(opened.read(_library.CHUNK)), b""))
+    if answer == _library.NO_MATCH:
         raise ValueError("12 NoMatch", f"{opened.name}: it isn't encrypted to a recipient of age-keygen: without --identity, agefile asks for a passphrase")
-    if answer == _keys.WRONG_KEY:
+    if answer == _library.WRONG_KEY:
         raise ValueError("13 WrongKey", f"{opened.name}: no key of {' and '.join(map(shown, asked.lists['--identity']))} opens it")
     return b"".join(pair)
 
@@ -176,10 +165,10 @@ def output(asked: Any) -> Iterator[Any]:
 
 def encrypt(asked: Any) -> int:
     """Encrypts IN to OUT for recipients."""
-    beginning = beginning_of(None, recipients_of(asked), 18)  # before OUT is opened
+    made = agefile.Encryptor(recipient=recipients_of(asked))  # before OUT is opened
     if is_terminal(asked.names[1]):
         raise ValueError("27 Write", f"{out_name(asked.names[1])} is a terminal, which an age file isn't for: name a file as OUT")
-    with source(asked.names[0]) as file, output(asked) as under, agefile.AgeWriter(under, beginning) as out:
+    with source(asked.names[0]) as file, output(asked) as under, agefile.AgeWriter(under, made) as out:
         while piece := some(file, 1 << 20):
             out.write(piece)
     return 0
@@ -244,5 +233,5 @@ def carry_out(asked: Any, passphrase_of: Callable[[Any], bytes], told: Told) -> 
     except Unreadable as fault:
         raise ValueError("26 Read", f"can't read {in_name(asked.names[0])}: {fault.strerror}") from None
     except agefile.AgeError as fault:
-        chunk = "" if fault.place is None else f" chunk {fault.place}"
+        chunk = "" if fault.chunk is None else f" chunk {fault.chunk}"
         raise ValueError(f"{fault.number} {fault.name}{chunk}", f"{in_name(asked.names[0])}: {fault}") from None
