@@ -92,7 +92,7 @@ class AgefileCase(Case):
         cls.addClassCleanup(made.cleanup)
         os.chmod(made.name, 0o755)
         cls.agefile = release(f"{made.name}/release", cls.is_lighter)
-        cls.env = {**os.environ, "AGE_C_LIBRARY": str(workspace.library() / "libage_c.so")}
+        cls.env = {**os.environ, "AGEFILE_LIBRARY": str(workspace.library() / "libagefile.so")}
 
     def setUp(self):
         super().setUp()

@@ -24,9 +24,9 @@ PYTHON = workspace.TOP / "bindings" / "python"
 @functools.cache
 def module():
     """The Python module, over the library as it is now."""
-    os.environ["AGE_C_LIBRARY"] = str(workspace.library() / "libage_c.so")
+    os.environ["AGEFILE_LIBRARY"] = str(workspace.library() / "libagefile.so")
     sys.path.insert(0, str(PYTHON))
-    import agefile._keys, agefile._output, agefile._workers
+    import agefile._keys, agefile._output
     return agefile
 
 
@@ -86,7 +86,7 @@ def by_python(data, size=-1, **keys):
             while piece := file.read(size):
                 text += piece
     except module().AgeError as fault:
-        return (fault.number, fault.place), text
+        return (fault.number, fault.chunk), text
     return (0, None), text
 
 

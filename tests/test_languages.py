@@ -13,9 +13,9 @@ from tests.test_bindings import MEANINGS, STRICT, ProgramsCase
 from tools.workspace import LIBRARY, TOP
 
 
-def sample_of(language, number=1):
-    """A program in bindings/README.md."""
-    return (TOP / "bindings" / "README.md").read_text().split(f"```{language}\n")[number].split("\n```")[0] + "\n"
+def sample_of(language, number=1, page="bindings/README.md"):
+    """A program in a page."""
+    return (TOP / page).read_text().split(f"```{language}\n")[number].split("\n```")[0] + "\n"
 
 
 def first_example(page):
@@ -104,15 +104,9 @@ class LanguagesTest(ProgramsCase):
         self.see("the sample in C, cut", (run.returncode, run.stderr) == (1, b"17 ChunkDamaged\n"), run.stderr)
 
     def test_python(self):
-        self.path("sample.py").write_text(sample_of("python"))
+        self.path("sample.py").write_text(sample_of("python", page="bindings/python/README.md"))
         self.see_sample("Python", [sys.executable, self.path("sample.py")], b"b'rase\\n'\n")
         self.see_copy("Python")
-        self.path("photos").mkdir()
-        for number in (1, 2):
-            self.path(f"photos/{number}.jpg").write_bytes(plain_of(300_000 + number))
-        env = {**os.environ, "PYTHONPATH": str(PYTHON), "PYTHONDONTWRITEBYTECODE": "1"}
-        run = subprocess.run([sys.executable, "-c", sample_of("python", 2)], cwd=self.room, env=env, capture_output=True)
-        self.see("one file of a zip archive", run.returncode == 0 and self.read("restored/photos/2.jpg") == plain_of(300_002), run.stderr)
 
     @needs("cargo")
     def test_rust(self):

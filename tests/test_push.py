@@ -1,5 +1,5 @@
 """Tries what decrypts and encrypts bytes that come by themselves, in Python: the same faults and text as a reader finds, whatever the pieces
-are; calls after a fault, an interruption, a fork; two threads on one object; and the handler in bindings/README.md."""
+are; calls after a fault, an interruption, a fork; two threads on one object; and a handler of uploads."""
 import contextlib
 import copy
 import io
@@ -7,33 +7,44 @@ import os
 import random
 import subprocess
 import sys
+from unittest import mock
 
 from tests.bindings import LENGTHS, PYTHON, BindingsCase, agefile, plain_of, python_with, raised, setUpModule
-from tests.test_languages import sample_of
 from tests.test_python_files import interrupted_at, together
 from tools.workspace import LIBRARY
 
 FILES = 300
-# What the handler is tried with: a server, and what it answers to a whole file and to a cut one.
+# A handler of an upload, and what it answers to a whole file and to a cut one.
 SERVED = """
-import aiohttp, asyncio, sys
+import agefile, aiohttp, asyncio
+from aiohttp import web
+
+async def decrypt(request):
+    with agefile.Decryptor(passphrase="correct horse", max_work=18) as text, open("restored", "wb") as out:
+        try:
+            async for piece in request.content.iter_any():
+                out.write(await asyncio.to_thread(text.update, piece))
+            out.write(text.finish())  # the text is complete only if this returned
+        except agefile.AgeError:
+            raise web.HTTPBadRequest(text="not a whole age file for this passphrase")
+    return web.Response()
 
 async def main():
+    app = web.Application()
+    app.add_routes([web.post("/decrypt", decrypt)])
     runner = web.AppRunner(app)
     await runner.setup()
     site = web.TCPSite(runner, "127.0.0.1", 0)
     await site.start()
-    place = f"http://127.0.0.1:{site._server.sockets[0].getsockname()[1]}"
+    place = f"http://127.0.0.1:{site._server.sockets[0].getsockname()[1]}/decrypt"
     data = open("notes.age", "rb").read()
     async def pieces(end):
         for at in range(0, end, 30_000):
             yield data[at:min(at + 30_000, end)]
     async with aiohttp.ClientSession() as session:
         for end in (len(data), len(data) - 1):
-            async with session.post(place + "/decrypt", data=pieces(end)) as answer:
+            async with session.post(place, data=pieces(end)) as answer:
                 print(answer.status)
-        async with session.post(place + "/encrypt", data=b"a text of mine" * 10_000) as answer:
-            open("sent.age", "wb").write(await answer.read())
     await runner.cleanup()
 
 asyncio.run(main())
@@ -57,7 +68,7 @@ def pushed(rnd, data, most):
         try:
             it.finish()
         except agefile.AgeError as again:
-            return (fault.number, fault.place), text, again.args == fault.args
+            return (fault.number, fault.chunk), text, again.args == fault.args
         return fault, text, False
 
 
@@ -69,7 +80,7 @@ def read(data):
             while piece := file.read1():
                 text += piece
     except agefile.AgeError as fault:
-        return (fault.number, fault.place), text, True
+        return (fault.number, fault.chunk), text, True
     return None, text, True
 
 
@@ -134,17 +145,16 @@ class PushTest(BindingsCase):
         self.see("copies", raised(TypeError, copy.copy, file) and raised(TypeError, copy.deepcopy, agefile.Decryptor(passphrase="pw")))
 
     def test_close(self):
-        """What close() and `with` overwrite, of a file that is decrypted or encrypted in part; each later call is refused."""
+        """After close() and `with`, of a file that is decrypted or encrypted in part, each later call is refused."""
         text = plain_of(100_000)
         data = sealed(text)
         for what, end in (("nothing", 0), ("a part of the header", 50), ("a chunk and more", 80_000)):
             it = agefile.Decryptor(passphrase="pw")
             begun = it.update(data[:end])
-            state, held = it._state, (it._room.block.held, it._room.text.held)
-            self.see(f"after {what}: what is held before", begun == text[:65_536 * (end > 70_000)] and any(bytes(state)) == (end > 100))
+            self.see(f"after {what}: what came out", begun == text[:65_536 * (end > 70_000)] and it.opened == (end > 200))
             with contextlib.suppress(ValueError), it as same:
                 pass
-            self.see(f"after {what}: what is left", same is it and not any(bytes(state)) and not any(map(any, held)))
+            self.see(f"after {what}: what `with` gives", same is it)
             self.see(f"after {what}: later calls", raised(ValueError, it.update, data[end:]) and raised(ValueError, it.finish))
             it.close()
         with agefile.Decryptor(passphrase="pw") as it:
@@ -152,13 +162,96 @@ class PushTest(BindingsCase):
         self.see("a file that was decrypted to its end", whole == text and raised(ValueError, it.finish))
         with contextlib.suppress(ValueError), agefile.Encryptor(passphrase="pw", work=1) as it:
             made = it.update(text)
-            stream = it._writer._stream
-            self.see("a writer's key is held", any(bytes(stream.writer)))
-        self.see("what is left of it", not any(bytes(stream)) and raised(ValueError, it.update, b"x") and raised(ValueError, it.finish))
+        self.see("calls after `with`", raised(ValueError, it.update, b"x") and raised(ValueError, it.finish))
         self.see("a file that wasn't finished", raised(agefile.AgeError, agefile.decrypt, made, passphrase="pw"))
         with agefile.Encryptor(passphrase="pw", work=1) as it:
             made = it.update(text) + it.finish()
         self.see("a file that was finished", agefile.decrypt(made, passphrase="pw") == text)
+
+    def test_keys_are_freed(self):
+        """The library's objects, which overwrite the key as they go, go with what holds them: by close(), finish() or `with`, or when nobody has it."""
+        text, path = plain_of(100_000), self.path("freed.age")
+        data = sealed(text)
+        path.write_bytes(data)
+        freed, calls = [], {it: getattr(agefile._library.C, it) for it in ("agefile_decoder_free", "agefile_encoder_free")}
+
+        def counted(name):
+            return lambda handle: freed.append(name) or calls[name](handle)
+
+        def ends(it, *calls):
+            for call, *words in calls:
+                getattr(it, call)(*words)
+            return it
+
+        with contextlib.ExitStack() as stack:
+            for name in calls:
+                stack.enter_context(mock.patch.object(agefile._library.C, name, counted(name)))
+            for what, name, count, call in (
+                ("a reader", "decoder", 1, lambda: ends(agefile.open(path, passphrase="pw"), ("read", 70_000), ("close",))),
+                ("one that nobody closes", "decoder", 1, lambda: agefile.open(path, passphrase="pw").read(1)),
+                ("a header that doesn't open", "decoder", 1, lambda: raised(agefile.WrongKey, agefile.open, path, passphrase="other")),
+                ("text", "decoder", 1, lambda: ends(agefile.open(path, "rt", passphrase="pw", encoding="latin-1"), ("read",), ("close",))),
+                ("salvage", "decoder", 1, lambda: agefile.salvage(path, io.BytesIO(), passphrase="pw")),
+                ("inspect", "decoder", 1, lambda: agefile.inspect(path)), ("decrypt", "decoder", 1, lambda: agefile.decrypt(data, passphrase="pw")),
+                ("several workers", "decoder", 1, lambda: agefile.decrypt(data, passphrase="pw", workers=2)),
+                ("a Decryptor", "decoder", 1, lambda: ends(agefile.Decryptor(passphrase="pw"), ("update", data), ("finish",))),
+                ("one that is closed", "decoder", 1, lambda: ends(agefile.Decryptor(passphrase="pw"), ("update", data), ("close",))),
+                ("an Encryptor", "encoder", 1, lambda: ends(agefile.Encryptor(passphrase="pw", work=1), ("update", text), ("finish",))),
+                ("one that is closed", "encoder", 1, lambda: ends(agefile.Encryptor(passphrase="pw", work=1), ("update", text), ("close",))),
+                ("a writer", "encoder", 1, lambda: ends(agefile.open(io.BytesIO(), "wb", passphrase="pw", work=1), ("write", text), ("close",))),
+                ("one that is abandoned", "encoder", 1, lambda: ends(agefile.open(io.BytesIO(), "wb", passphrase="pw", work=1), ("write", text), ("abandon",))),
+            ):
+                freed.clear()
+                kept = call()
+                self.see(f"{what}: what is freed", freed == [f"agefile_{name}_free"] * count, freed, kept)
+
+    def test_any_calls(self):
+        """Any call may follow any other: what a Decryptor gives is a beginning of the text, and all of it if finish() returned; what an Encryptor
+        gives is a file of what it was given since it was made, and of nothing else."""
+        seed = int(os.environ.get("AGE_SEED") or random.randrange(1 << 30))
+        rnd, text = random.Random(seed), plain_of(200_000)
+        data = sealed(text)
+        for turn in range(200):
+            it, got, at, is_whole = agefile.Decryptor(passphrase="pw"), b"", 0, False
+            for _ in range(12):
+                call, size = rnd.choice(["update"] * 9 + ["finish", "close", "__enter__"]), rnd.choice([0, 1, 150, 65_552, 150_000])
+                with contextlib.suppress(ValueError, agefile.AgeError):
+                    found = getattr(it, call)(*[data[at:at + size]] * (call == "update"))
+                    at += size * (call == "update")
+                    got += found if call != "__enter__" and found else b""
+                    is_whole |= call == "finish"
+            self.see(f"seed {seed}, turn {turn}, a Decryptor", text.startswith(got) and (not is_whole or got == text), len(got), is_whole)
+        for turn in range(200):
+            it, given, got, is_whole = agefile.Encryptor(passphrase="pw", work=1), b"", b"", False
+            for _ in range(8):
+                call, piece = rnd.choice(["update"] * 6 + ["finish", "close", "__enter__"]), rnd.randbytes(rnd.choice([0, 1, 65_536, 100_000]))
+                with contextlib.suppress(ValueError):
+                    found = getattr(it, call)(*[piece] * (call == "update"))
+                    given += piece * (call == "update")
+                    got += found if call != "__enter__" and found else b""
+                    is_whole |= call == "finish"
+            read = self.judged(got)
+            right = read == ((0, None), given) if is_whole else read[0] != (0, None) and given.startswith(read[1])
+            self.see(f"seed {seed}, turn {turn}, an Encryptor", right, read[0], len(given), is_whole)
+
+    def test_copied_keys(self):
+        """A key that the caller overwrites afterwards, as careful people do, is still the key."""
+        for call in ("decryptor", "encryptor", "reader"):
+            word, key = bytearray(b"pw"), bytearray(b"\7" * 16)
+            if call == "decryptor":
+                it = agefile.Decryptor(file_key=key)
+                key[:] = bytes(16)
+                with contextlib.suppress(agefile.AgeError):
+                    got = it.update(self.sealed(b"text")) + it.finish()
+            elif call == "encryptor":
+                it = agefile.Encryptor(passphrase=word, work=1)
+                word[:] = b"xx"
+                got = agefile.decrypt(it.update(b"text") + it.finish(), passphrase="pw")
+            else:
+                it = agefile.Decryptor(passphrase=word)
+                word[:] = b"xx"
+                got = it.update(self.sealed(b"text")) + it.finish()
+            self.see(f"{call}: a key that was overwritten", got == b"text", got)
 
     def left(self, it, *calls):
         """What a `with` block raises in which these calls are made, whose own exceptions it keeps."""
@@ -180,14 +273,14 @@ class PushTest(BindingsCase):
         for what, kind, calls in (
             ("nothing", ValueError, []), ("no bytes", ValueError, [("update", b"")]), ("a part of the header", ValueError, [("update", data[:50])]),
             ("a truncated file", ValueError, [("update", data[:-1])]), ("all of it", ValueError, [("update", data)]), ("what is no bytes", ValueError, [("update", "text")]),
-            ("a damaged chunk after others", agefile.NotWhole, [("update", damaged)]), ("the fault of it", None, [("update", damaged), ("finish",)]),
+            ("a damaged chunk after others", ValueError, [("update", damaged)]), ("the fault of it", None, [("update", damaged), ("finish",)]),
             ("another file", None, [("update", b"text\n")]), ("the end", None, [("update", data), ("finish",)]), ("no end", None, [("update", data[:-1]), ("finish",)]),
             ("close", None, [("update", data[:100]), ("close",)]),
         ):
             it = agefile.Decryptor(passphrase="pw")
             fault = self.left(it, *calls)
             is_right = fault is None if kind is None else type(fault) is kind and ("finish()" in str(fault)) == (kind is ValueError)
-            self.see(f"Decryptor: {what}", is_right and not any(bytes(it._state)), repr(fault))
+            self.see(f"Decryptor: {what}", is_right and raised(Exception, it.finish), repr(fault))
         for what, kind, calls in (
             ("nothing", ValueError, []), ("a text", ValueError, [("update", text)]), ("what is no bytes", ValueError, [("update", "text")]),
             ("the end", None, [("update", text), ("finish",)]), ("close", None, [("update", text), ("close",)]),
@@ -195,7 +288,7 @@ class PushTest(BindingsCase):
             it = agefile.Encryptor(passphrase="pw", work=1)
             fault = self.left(it, *calls)
             self.see(f"Encryptor: {what}", fault is None if kind is None else type(fault) is kind and "finish()" in str(fault), repr(fault))
-            self.see(f"Encryptor: {what}: what is left", it._writer._stream is None)
+            self.see(f"Encryptor: {what}: later calls", raised(ValueError, it.update, b"x"))
         for made in (lambda: agefile.Decryptor(passphrase="pw"), lambda: agefile.Encryptor(passphrase="pw", work=1)):
             try:
                 with made() as it:
@@ -204,8 +297,8 @@ class PushTest(BindingsCase):
             except BaseException as fault:
                 self.see(f"{type(it).__name__}: another exception", type(fault) is KeyError and fault.__context__ is None, repr(fault))
         it = agefile.Encryptor(passphrase="pw", work=1)
-        it._out.write = lambda _: 1 / 0
-        self.see("a call that failed", self.left(it, ("update", text)) is None)
+        with mock.patch.object(agefile._library.C, "agefile_encode", lambda *_: 28):
+            self.see("a call that failed", self.left(it, ("update", text)) is None)
 
     def test_interrupted(self):
         """An exception at each place where Python runs a signal's handler, and the same call again: it is refused, or the result is right."""
@@ -223,7 +316,7 @@ class PushTest(BindingsCase):
                     break
                 try:
                     wrong += [] if right(begin + it.update(given[100_000:]) + it.finish()) else [turn]
-                except (OSError, ValueError):
+                except (OSError, ValueError, agefile.AgeError):
                     pass
                 turn += 1
             self.see(f"{type(it).__name__}: {turn} interruptions", wrong == [] and turn > 10, wrong)
@@ -240,9 +333,9 @@ class PushTest(BindingsCase):
             self.see("pieces in another order", fault.number == 17, fault)
 
     def test_small_things(self):
-        """A fault's chunk by its other name; a passphrase that can't be encoded isn't in what is raised."""
+        """A fault's chunk; a passphrase that can't be encoded isn't in what is raised."""
         fault = agefile.AgeError(17, 3)
-        self.see("the chunk", (fault.chunk, fault.place, agefile.AgeError(13).chunk) == (3, 3, None))
+        self.see("the chunk", (fault.chunk, agefile.AgeError(13).chunk) == (3, None))
         try:
             agefile.encrypt(b"", passphrase="secret \ud800", work=1)
         except ValueError as it:
@@ -268,7 +361,7 @@ class PushTest(BindingsCase):
         self.see("something that was appended", run.stderr == b"agefile: something was appended to the file, and is left out\n", run.stderr)
 
     def test_handler(self):
-        """The handler in bindings/README.md, by a Python that has aiohttp."""
+        """A handler of uploads, by a Python that has aiohttp."""
         python = python_with("aiohttp")
         if python is None:
             self.skipTest("needs aiohttp")
@@ -276,10 +369,8 @@ class PushTest(BindingsCase):
         self.write("in", text)
         self.write("horse", b"correct horse")
         self.tool(*"encrypt --pass horse --log 1 --no-sync in notes.age".split(), check=True)
-        self.path("served.py").write_text(sample_of("python", 3) + SERVED)
-        env = {**os.environ, "PYTHONPATH": str(PYTHON), "PYTHONDONTWRITEBYTECODE": "1", "AGE_C_LIBRARY": str(LIBRARY / "libage_c.so")}
+        self.path("served.py").write_text(SERVED)
+        env = {**os.environ, "PYTHONPATH": str(PYTHON), "PYTHONDONTWRITEBYTECODE": "1", "AGEFILE_LIBRARY": str(LIBRARY / "libagefile.so")}
         run = subprocess.run([python, "served.py"], cwd=self.room, env=env, capture_output=True, text=True, timeout=120)
         self.see("a whole upload, and a cut one", run.returncode == 0 and run.stdout == "200\n400\n", run.stdout, run.stderr[-2000:])
         self.see("what was restored", self.read("restored") == text[:196_608])
-        run = self.tool(*"decrypt --pass horse --no-sync sent.age sent".split())
-        self.see("what was sent", run.returncode == 0 and self.read("sent") == b"a text of mine" * 10_000, run.stderr)

@@ -1,7 +1,9 @@
 """Tries the Python module: the kinds of faults and what is said of them, headers that come slowly, the command line, keys and shared
 secrets, what an argument may be, its types and names, where it finds the library, and files that are read at any place."""
 import contextlib
+import doctest
 import gzip
+import importlib
 import io
 import itertools
 import mmap
@@ -14,9 +16,11 @@ import socket
 import subprocess
 import sys
 import threading
+import time
 import zipfile
 from unittest import mock
 
+from tests import bindings
 from tests.bindings import BLOCK, CHUNK, KEY, PYTHON, BindingsCase, agefile, by_python, flipped, limited, raised, setUpModule
 from tests.case import needs
 from tools.workspace import LIBRARY, TOP
@@ -58,7 +62,7 @@ with agefile.open("a", "wb", passphrase="pw") as out, tarfile.open(fileobj=out, 
 with agefile.open("a", "wb", recipient=["age1"]) as out, agefile.open("a", identity="AGE-SECRET-KEY-1") as file:
     copied(file, out)
 work: int | None = agefile.inspect("a").work
-with agefile.open("a", passphrase="pw", random_access=True) as at, at.reopen(open("a", "rb")) as other:
+with agefile.open("a", passphrase="pw") as at, at.reopen(open("a", "rb")) as other:
     size: int = at.size + other.size
     with zipfile.ZipFile(at) as archive:
         archive.read("name")
@@ -127,6 +131,14 @@ def paired(data):
         yield file
 
 
+def from_the_end(file):
+    """The text of a file whose end is read first."""
+    end = file.seek(-3, io.SEEK_END)
+    last = file.read()
+    file.seek(0)
+    return file.read(end) + last
+
+
 def pushed(data, **key):
     """The text of a file by a Decryptor."""
     with agefile.Decryptor(**key) as it:
@@ -155,7 +167,6 @@ class PythonTest(BindingsCase):
                 for mode in ("rb", "wb") if "passphrase" in (one, two) else ("rb",):
                     words = {one: keys[one], two: keys[two]}
                     self.see(f"{one} and {two}, {mode}", raised(TypeError, agefile.open, none, mode, **words))
-        self.see("a reader of two keys", raised(TypeError, agefile.AgeReader, io.BytesIO(), "pw", KEY))
         for mode in ("rb", "wb"):
             self.see(f"no key, {mode}", raised(ValueError, agefile.open, none, mode))
             self.see(f"a number for a passphrase, {mode}", raised(TypeError, agefile.open, io.BytesIO(), mode, passphrase=4))
@@ -198,6 +209,7 @@ class PythonTest(BindingsCase):
         self.see("a refused call changes the file", path.read_bytes() == b"kept" and not self.path("none").exists())
         data = self.sealed(b"text")
         self.see("the greatest work factor", agefile.open(io.BytesIO(data), passphrase="pw", max_work=22, work=22).read() == b"text")
+        self.see("the word that it was read at any place by", raised(TypeError, agefile.open, io.BytesIO(data), passphrase="pw", random_access=True))
 
     def test_refused_memory(self):
         """What can't be allocated is an AgeError and a MemoryError."""
@@ -205,7 +217,7 @@ class PythonTest(BindingsCase):
             "try: agefile.open(io.BytesIO(), 'wb', passphrase='pw', work=22)\n" \
             "except MemoryError as fault: print(isinstance(fault, agefile.AgeError), fault.number, fault)"
         run = subprocess.run([sys.executable, "-B", "-c", script], env={**os.environ, "PYTHONPATH": str(PYTHON)}, capture_output=True, text=True)
-        self.see("refused memory", run.stdout == "True 28 there isn't enough memory for the work factor (28 Memory)\n", run.stdout, run.stderr)
+        self.see("refused memory", run.stdout == "True 28 there isn't enough memory (28 Memory)\n", run.stdout, run.stderr)
 
     def test_names(self):
         """The version, and the names that a user sees."""
@@ -220,6 +232,13 @@ class PythonTest(BindingsCase):
         text = pydoc.plain(pydoc.render_doc(agefile.open))
         self.see("help", "Any" not in text and "passphrase: 'str | Buffer | None'" in text, text)
 
+    def test_examples(self):
+        """The examples in docstrings."""
+        names = [f"agefile.{it.stem}" for it in (PYTHON / "agefile").glob("_[a-z]*.py") if it.stem != "_commands"]
+        found = [doctest.testmod(importlib.import_module(it), extraglobs={"agefile": bindings.module()}) for it in ("agefile", *names)]
+        tried, failed = (sum(getattr(it, of) for it in found) for of in ("attempted", "failed"))
+        self.see(f"{tried} lines of examples", failed == 0 and tried > 25, found)
+
     @needs("mypy")
     def test_types(self):
         program = PYTHON / "agefile" / "program"
@@ -229,21 +248,21 @@ class PythonTest(BindingsCase):
             self.assertEqual(run.returncode, 0, run.stdout)
 
     def test_places(self):
-        """The Python module finds the library next to it, and in the folders of a release. AGE_C_LIBRARY goes first."""
-        there = {**os.environ, "AGE_C_LIBRARY": ""}
+        """The Python module finds the library next to it, and in the folders of a release. AGEFILE_LIBRARY goes first."""
+        there = {**os.environ, "AGEFILE_LIBRARY": ""}
         for folder, library in (
-            (".", "libage_c.so"), (".", "agefile/libage_c.so"), ("share/age_tool", "lib/libage_c.so.0"), ("bindings/python", "bindings/out/libage_c.so"),
+            (".", "libagefile.so"), (".", "agefile/libagefile.so"), ("share/age_tool", "lib/libagefile.so.2"), ("bindings/python", "bindings/out/libagefile.so"),
         ):
             top = self.path(f"place-of-{library.replace('/', '-')}")
             for made in (top / folder / "agefile", top / library):
                 made.parent.mkdir(parents=True, exist_ok=True)
             shutil.copytree(PYTHON / "agefile", top / folder / "agefile", dirs_exist_ok=True)
-            shutil.copy(LIBRARY / "libage_c.so", top / library)
+            shutil.copy(LIBRARY / "libagefile.so", top / library)
             words = [sys.executable, "-B", "-c", "import agefile; print(agefile._library.C._name)"]
             run = subprocess.run(words, cwd=top / folder, env=there, capture_output=True, text=True)
             self.see(f"the library in {library}", run.stdout.strip() == str((top / library).resolve()), run.stdout, run.stderr[-300:])
-            run = subprocess.run(words, cwd=top / folder, env={**there, "AGE_C_LIBRARY": "/none.so"}, capture_output=True, text=True)
-            self.see(f"AGE_C_LIBRARY, beside {library}", run.returncode != 0 and "/none.so" in run.stderr, run.stderr[-300:])
+            run = subprocess.run(words, cwd=top / folder, env={**there, "AGEFILE_LIBRARY": "/none.so"}, capture_output=True, text=True)
+            self.see(f"AGEFILE_LIBRARY, beside {library}", run.returncode != 0 and "/none.so" in run.stderr, run.stderr[-300:])
 
     def test_kinds(self):
         """Faults that a program asks for are classes."""
@@ -269,7 +288,7 @@ class PythonTest(BindingsCase):
         self.see("a pickled fault", (type(fault), fault.args) == (agefile.NotWhole, (17, 3)), fault)
         self.see("a fault is an OSError", not issubclass(agefile.AgeError, OSError))
         kinds = {11: agefile.WorkTooHigh, 12: other, 13: other, 28: agefile.OutOfMemory, **dict.fromkeys((8, 16, 18, 20, 254), agefile.Truncated)}
-        for number in (*range(1, 23), 28, 254):
+        for number in (*range(1, 8), *range(9, 23), 28, 254):
             kind = type(agefile._library.fault_of(number))
             self.see(f"the kind of fault {number}", kind is kinds.get(number, agefile.NotWhole), kind)
         self.see("a truncated file isn't whole", issubclass(agefile.Truncated, agefile.NotWhole))
@@ -278,10 +297,10 @@ class PythonTest(BindingsCase):
         ):
             self.see(f"what is said of a fault: {fault}", str(fault) == told)
         # (those of docs/FAULTS.md that the library returns)
-        for number in (*range(1, 23), 28, 254, 255):
+        for number in (*range(1, 8), *range(9, 16), *range(17, 23), 28, 252, 253, 254, 255):
             fault = agefile.AgeError(number)
             meaning, _, rest = str(fault).partition(" (")
-            self.see(f"what is said of fault {number}: {fault}", "read" not in meaning and rest == f"{number} {fault.name})" and fault.name != "Unknown")
+            self.see(f"what is said of fault {number}: {fault}", "no call" not in meaning and rest == f"{number} {fault.name})" and fault.name != "Unknown")
 
     def test_changed_bits(self):
         """One changed bit, at each place of a file: the key isn't its own, or it isn't whole, or its work factor is too high."""
@@ -290,7 +309,7 @@ class PythonTest(BindingsCase):
         work, mac = data.index(b" 1\n") + 1, data.index(b"\n--- ") + 1
         ways = {
             "read": lambda given, **key: agefile.open(io.BytesIO(given), **key).read(),
-            "read at any place": lambda given, **key: self.at_any_place(io.BytesIO(given), **key).read(),
+            "read from the end": lambda given, **key: from_the_end(agefile.open(io.BytesIO(given), **key)),
             "decrypt": agefile.decrypt, "Decryptor": pushed,
         }
 
@@ -327,20 +346,12 @@ class PythonTest(BindingsCase):
         line = b"-> x " + b"a" * 57 + b"\n" + b"A" * 64 + b"\n\n"
         data = self.sealed(b"")
         version, rest = data.split(b"\n", 1)
-        looked, kept = [0], agefile._library.C.age_c_open_key
-
-        def counted(front, length, *words):
-            looked[0] += length
-            return kept(front, length, *words)
-
         long = version + b"\n" + line * (600_000 // len(line)) + rest
-        agefile._library.C.age_c_open_key = counted
-        try:
-            fault = fault_of(agefile.AgeReader, Pieces(long, 10), file_key=KEY)
-        finally:
-            agefile._library.C.age_c_open_key = kept
+        begun = time.process_time()
+        fault = fault_of(agefile.open, Pieces(long, 10), file_key=KEY)
+        took = time.process_time() - begun
         self.see("a long header", isinstance(fault, agefile.AgeError) and fault.number != 254, fault)
-        self.see(f"{looked[0]} bytes of a header of {len(long)} are looked at", looked[0] < 2 * len(long))
+        self.see(f"{len(long)} bytes, ten at a time, take {took:.1f} s", took < 10)
 
     def command(self, *words, given=None, env=os.environ, **more):
         more = {"env": {**env, "PYTHONPATH": str(PYTHON)}, **(more or {"input": given})}
@@ -443,18 +454,6 @@ class PythonTest(BindingsCase):
             with limited(20):
                 self.see(f"a sink that says {said}", raised(kind, agefile.salvage, io.BytesIO(data), Sink(said), file_key=KEY))
 
-    def test_salvage_leaves_nothing(self):
-        """The file key, a block and a text are overwritten, also after a fault. And no chunk has a number that no payload has."""
-        data = self.sealed(bytes(range(256)) * 300)
-        for what, out in (("a text", io.BytesIO()), ("a sink that fails", object())):
-            state, room = agefile._library.ReaderState(), agefile._library.Room()
-            held = (room.block.held, room.text.held)
-            with mock.patch.multiple(agefile._salvage, ReaderState=lambda: state, Room=lambda: room), contextlib.suppress(AttributeError):
-                agefile.salvage(io.BytesIO(data), out, file_key=KEY)
-            self.see(f"what is left of {what}", not any(state.file_key) and not any(map(any, held)) and not room.text.held)
-        fault = fault_of(agefile._salvage._opened, state, room, 1 << 48, BLOCK)
-        self.see("more chunks than there may be", isinstance(fault, agefile.AgeError) and fault.number == 255, repr(fault))
-
     def test_salvage_by_names(self):
         """All of a text is written before the wait for the disk; both files are closed then; and how far it is is told."""
         path, opened, reached, told, really = self.path("saved"), [], [], [], open
@@ -524,12 +523,10 @@ class PythonTest(BindingsCase):
 
         data = self.sealed(text[:131_072])
         for more in (1, 16, 17, BLOCK, -1, -17, -BLOCK):
-            got = fault = None
-            try:
-                got = agefile.open(Bare(more), file_key=KEY, random_access=True).read()
-            except agefile.AgeError as it:
-                fault = it
-            self.see(f"a file of whole chunks that says it is {more} bytes longer", fault is not None if more > 0 else fault or got == text[:131_072], fault)
+            file = agefile.open(Bare(more), file_key=KEY)
+            fault = fault_of(lambda: file.size)
+            self.see(f"a file of whole chunks that says it is {more} bytes longer", fault is not None if more > 0 else fault or file.size == 131_072, fault)
+            self.see(f"its text, {more}", file.seek(0) == 0 and file.read() == text[:131_072])
         data = self.sealed(text)
         with mmap.mmap(-1, len(data)) as mapped:
             mapped[:] = data
@@ -537,7 +534,7 @@ class PythonTest(BindingsCase):
                                 ("one that says it is 16 bytes longer", Bare(16))):
                 self.see(f"{what}: salvage", self.saved(under) == (text, [], True, False))
                 under.seek(0)
-                with agefile.open(under, file_key=KEY, random_access=True) as file:
+                with agefile.open(under, file_key=KEY) as file:
                     self.see(what, file.size == 200_000 and file.seek(-10, 2) == 199_990 and file.read() == text[-10:] and file.seek(0) == 0
                              and file.read() == text)
 
@@ -569,7 +566,7 @@ class PythonTest(BindingsCase):
         self.see("a read that returns no bytes", isinstance(fault, TypeError) and "coroutine" in str(fault), fault)
         long = self.sealed(bytes(200_000))
         fault = fault_of(lambda: agefile.open(Overfull(long), file_key=KEY).read())
-        self.see("a readinto of too many bytes", isinstance(fault, OSError), fault)
+        self.see("a readinto of too many bytes", isinstance(fault, (OSError, agefile.NotWhole)), fault)
 
     def test_requests(self):
         """A long read asks its source for many blocks at once, and a short one for one."""
@@ -583,13 +580,13 @@ class PythonTest(BindingsCase):
         for size in (10, 5_000_000, -1):
             for into in (False, True):
                 asked = []
-                with self.at_any_place(under) as file:
+                with agefile.open(under, file_key=KEY) as file:
                     asked.clear()
                     file.seek(70_000)
                     got = bytearray(size if size > 0 else 6_000_000) if into else b""
                     got = got[:file.readinto(got)] if into else file.read(size)
                     self.see(f"a read of {size}, into {into}", got == text[70_000:][:size if size > 0 else None])
-                    self.see(f"{len(asked)} requests for {size}, into {into}", len(asked) <= (2 if size == 10 else 4), asked)
+                    self.see(f"{len(asked)} requests for {size}, into {into}", len(asked) <= (2 if size == 10 else 8), asked)
                 under.seek(0)
 
     def test_in_memory(self):
@@ -624,16 +621,17 @@ class PythonTest(BindingsCase):
         """A reader of the same file over another file object needs no key, and refuses another file."""
         text = random.Random(4).randbytes(200_000)
         data = self.sealed(text)
-        for any_place in (True, False):
-            first = agefile.open(io.BytesIO(data), passphrase="pw", random_access=any_place)
-            first.seek(70_000)
-            with first.reopen(io.BytesIO(data)) as file:
-                self.see("a reopened file", type(file) is type(first) and (file.tell(), file.read()) == (0, text))
-            self.see("the file that it was reopened from", first.read() == text[70_000:])
-            other = io.BytesIO(agefile.encrypt(b"", passphrase="pw", work=1))
-            self.see("another file", isinstance(fault_of(first.reopen, other), agefile.WrongKey))
-            first.close()
-            self.see("a closed file", isinstance(fault_of(first.reopen, io.BytesIO(data)), ValueError))
+        first = agefile.open(io.BytesIO(data), passphrase="pw")
+        first.seek(70_000)
+        with first.reopen(io.BytesIO(data)) as file, file.reopen(Pieces(data, 7_000)) as again:
+            self.see("a reopened file", type(file) is type(first) and (file.tell(), file.read()) == (0, text) == (again.tell(), again.read()))
+        self.see("the file that it was reopened from", first.read() == text[70_000:])
+        for other in (agefile.encrypt(b"", passphrase="pw", work=1), b"", data[:100]):
+            self.see("another file", isinstance(fault_of(first.reopen, io.BytesIO(other)), agefile.WrongKey))
+        second = first.reopen(io.BytesIO(data))
+        first.close()
+        self.see("a closed file", isinstance(fault_of(first.reopen, io.BytesIO(data)), ValueError))
+        self.see("one that was reopened from it", second.read() == text)
 
     @needs("mypy")
     def test_types_of_users(self):
@@ -653,46 +651,39 @@ class PythonTest(BindingsCase):
         with agefile.open(path, "wb", passphrase="pw", work=1) as file:
             self.see("a writer's name", (file.name, file.mode) == (path, "wb") or (file.name, file.mode) == (str(path), "wb"), file.name)
             file.write(b"text")
-        with agefile.open(path, passphrase="pw", random_access=True) as file:
-            self.see("a reader's name", (str(file.name), file.mode, file.size) == (str(path), "rb", 4) and isinstance(file, io.BufferedIOBase))
-            self.see("a reader is no io.BufferedReader", not isinstance(file, io.BufferedReader))
+        with agefile.open(path, passphrase="pw") as file:
+            self.see("a reader's name", (str(file.name), file.mode, file.size) == (str(path), "rb", 4) and isinstance(file, io.BufferedReader))
+            self.see("a reader has no descriptor", raised(io.UnsupportedOperation, file.fileno))
 
-    def at_any_place(self, file, **key):
-        return agefile.open(file, **(key or {"file_key": KEY}), random_access=True)
-
-    def test_any_place(self):
-        """A file that is read at any place is as io.BytesIO is, but that a place after the end is the end."""
-        for length in (0, 1, 65_535, 65_536, 65_537, 131_072, 200_000):
-            text = random.Random(length).randbytes(length)
-            data = self.sealed(text)
-            for any_place in (True, False):
-                under = io.BytesIO(b"in front" + data)
-                under.seek(8)
-                wrong = self.differences(agefile.open(under, file_key=KEY, random_access=any_place), io.BytesIO(text), length)
-                self.see(f"{length} bytes, at any place {any_place}: {wrong[:3]}", wrong == [])
-
-    def differences(self, file, memory, length, turns=120):
-        rnd, wrong = random.Random(length), []
-        for _ in range(turns):
-            whence = rnd.randrange(3)
-            offset = rnd.choice((0, rnd.randrange(-length - 10, length + 10), rnd.randrange(-300, 300)))
-            place = offset + (0, memory.tell(), length)[whence]
-            if place < 0:
-                if not isinstance(fault_of(file.seek, offset, whence), ValueError):
-                    wrong.append((offset, whence))
-            else:
-                memory.seek(min(place, length))
-                if file.seek(offset, whence) != memory.tell():
-                    wrong.append((offset, whence, "place"))
-            size = rnd.choice((0, 1, 10, 1_000, 65_536, 70_000, 200_000, -1))
-            got = file.read(size)
-            if len(got) < size and size > 0 and got:  # what a raw file may do
-                got += file.read(size - len(got))
-            while 0 < len(got) < size and (more := file.read(size - len(got))):
-                got += more
-            if got != memory.read(size) or file.tell() != memory.tell():
-                wrong.append((offset, whence, size, file.tell(), memory.tell()))
-        return wrong
+    def test_damage_at_a_place(self):
+        """What is damaged is refused where it is, each time, and the rest can be read, also if the end is."""
+        text = random.Random(6).randbytes(200_000)
+        data = self.sealed(text)
+        begin = len(data) - 200_000 - 4 * 16
+        with agefile.open(io.BytesIO(flipped(data, begin + BLOCK + 100)), file_key=KEY) as file:
+            for place, wrong in ((0, False), (70_000, True), (140_000, False), (65_536, True), (65_530, True), (199_990, False), (100_000, True)):
+                file.seek(place)
+                fault = got = None
+                try:
+                    got = file.read(10)
+                except agefile.NotWhole as it:
+                    fault = (it.number, it.chunk)
+                self.see(f"damage, at {place}", (got, fault) == ((None, (17, 1)) if wrong else (text[place:place + 10], None)), got, fault)
+            file.seek(CHUNK)
+            self.see("a fault that is asked for again", [type(fault_of(file.read, 1)) for _ in range(2)] == [agefile.NotWhole] * 2)
+        for end in [*range(begin, len(data), 4_099), len(data) - 1, begin + BLOCK, begin + 2 * BLOCK, begin + 3 * BLOCK + 16]:
+            file, whole = agefile.open(io.BytesIO(data[:end]), file_key=KEY), (end - begin) // BLOCK * CHUNK
+            kinds = [type(fault_of(it)) for it in (lambda: file.size, lambda: file.seek(0, 2), lambda: file.seek(-100_000, 2))]
+            self.see(f"the size of a file cut at {end}", {*kinds} <= {agefile.NotWhole, agefile.Truncated}, kinds)
+            self.see(f"what comes before the cut at {end}", file.tell() == 0 and file.read(whole) == text[:whole])
+            self.see(f"what comes then, at {end}", isinstance(fault_of(file.read, 1), agefile.NotWhole))
+        for what, more in (("a byte", b"0"), ("a block", data[begin:begin + BLOCK])):
+            for size in (200_000, 131_072):
+                file = agefile.open(io.BytesIO(self.sealed(text[:size]) + more), file_key=KEY)
+                fault, whole = fault_of(lambda: file.size), size // CHUNK * CHUNK
+                self.see(f"{what} after the end of {size}", isinstance(fault, agefile.NotWhole) and file.read(whole) == text[:whole], fault)
+                fault = fault_of(file.read, 1)
+                self.see(f"{what} after the end of {size}, read", isinstance(fault, agefile.NotWhole), fault)
 
     def test_zip_members(self):
         """zipfile reads members of an archive, and little else of the file."""
@@ -702,44 +693,17 @@ class PythonTest(BindingsCase):
             for name, text in held.items():
                 out.writestr(name, text)
         under = Counted(self.sealed(archive.getvalue()))
-        with self.at_any_place(under) as file, zipfile.ZipFile(file) as made:
+        with agefile.open(under, file_key=KEY) as file, zipfile.ZipFile(file) as made:
             self.see("members of a zip archive", all(made.read(name) == held[name] for name in ("7.bin", "29.bin", "0.bin")))
         self.see(f"{under.count} bytes are read for three members", under.count < 15 * BLOCK)
-
-    def test_damage_at_a_place(self):
-        """What is damaged is refused where it is, each time, and the rest can be read."""
-        text = random.Random(6).randbytes(200_000)
-        data = self.sealed(text)
-        begin = len(data) - 200_000 - 4 * 16
-        with self.at_any_place(io.BytesIO(flipped(data, begin + BLOCK + 100))) as file:
-            for place, wrong in ((0, False), (70_000, True), (140_000, False), (65_536, True), (65_530, True), (199_990, False), (100_000, True)):
-                file.seek(place)
-                fault = got = None
-                try:
-                    got = file.read(10)
-                except agefile.NotWhole as it:
-                    fault = (it.number, it.place)
-                self.see(f"damage, at {place}", (got, fault) == ((None, (17, 1)) if wrong else (text[place:place + 10], None)), got, fault)
-            file.seek(CHUNK)
-            self.see("a fault that is asked for again", [type(fault_of(file.read, 1)) for _ in range(2)] == [agefile.NotWhole] * 2)
-        for end in [*range(begin, len(data), 4_099), len(data) - 1, begin + BLOCK, begin + 2 * BLOCK, begin + 3 * BLOCK + 16]:
-            fault = fault_of(self.at_any_place, io.BytesIO(data[:end]))
-            self.see(f"a file cut at {end} is opened at any place", isinstance(fault, agefile.NotWhole), fault)
-        for what, more in (("a byte", b"0"), ("a block", data[begin:begin + BLOCK])):
-            for size in (200_000, 131_072):
-                fault = fault_of(self.at_any_place, io.BytesIO(self.sealed(text[:size]) + more))
-                self.see(f"{what} after the end of {size}, at any place", isinstance(fault, agefile.AgeError), fault)
-        with pipe(self.sealed(b"text")) as file:
-            self.see("a pipe is read at any place", isinstance(fault_of(self.at_any_place, file), io.UnsupportedOperation))
-        self.see("written at any place", isinstance(fault_of(agefile.open, io.BytesIO(), "wb", passphrase="pw", random_access=True), ValueError))
 
     def test_shared_files(self):
         """Two readers of one file, and threads with one reader."""
         text = random.Random(7).randbytes(300_000)
         under = io.BytesIO(self.sealed(text))
-        one = self.at_any_place(under)
+        one = agefile.open(under, file_key=KEY)
         under.seek(0)
-        two = self.at_any_place(under)
+        two = agefile.open(under, file_key=KEY)
         wrong = 0
         for turn in range(60):
             file = (one, two)[turn % 2]
@@ -771,9 +735,10 @@ class PythonTest(BindingsCase):
         data = self.sealed(text)
         begin = len(data) - 300_000 - 5 * 16
         for end in (0, 100, begin + 30_000, begin + BLOCK, begin + BLOCK + 5, begin + 3 * BLOCK + 100, len(data) - 1):
-            for any_place in (True, False):
+            for is_measured in (True, False):
                 under = io.BytesIO(data)
-                with agefile.open(under, file_key=KEY, random_access=any_place) as file:
+                with agefile.open(under, file_key=KEY) as file:
+                    self.see("its size", not is_measured or file.size == 300_000)
                     begun = file.read(10)
                     under.truncate(end)
                     got, fault = begun, None

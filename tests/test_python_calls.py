@@ -1,6 +1,5 @@
-"""Tries several threads with one file of the Python module, calls on a file from inside another one, as a signal's handler makes them, and
-sources and sinks that don't keep to the rules."""
-import contextlib
+"""Tries several threads with one file of the Python module, writes from inside another one, as a signal's handler makes them, and sources and
+sinks that don't keep to the rules."""
 import errno
 import io
 import os
@@ -8,8 +7,9 @@ import signal
 import sys
 import unittest.mock
 
-from tests.bindings import KEY, PYTHON, BindingsCase, agefile, by_python, plain_of, raised, setUpModule
-from tests.test_python_files import WAYS, interrupted_at, together
+from tests.bindings import KEY, BindingsCase, agefile, by_python, raised, setUpModule
+from tests.test_python import Pieces
+from tests.test_python_files import WAYS, together
 
 
 def two_writers(turn):
@@ -31,10 +31,10 @@ def two_writers(turn):
     return "" if (faults, fault, mixed, wrong) == ([], (0, None), 0, []) else f"{faults} {fault}, {mixed} mixed pieces, {wrong}"
 
 
-def readers(data, any_place):
+def readers(data, source):
     """The numbers, of 24 bytes each, that four threads read from one file. (Some lie in two chunks.)"""
     found = []
-    with agefile.open(io.BytesIO(data), file_key=KEY, random_access=any_place) as file:
+    with agefile.open(source(data), file_key=KEY) as file:
         def reads():
             while piece := file.read(24):
                 found.append(int.from_bytes(piece, "big"))
@@ -58,11 +58,11 @@ class ThreadsTest(BindingsCase):
             found = two_writers(turn)
             self.see(f"threads that write, {turn}", found == "", found)
         data = self.sealed(b"".join(number.to_bytes(24, "big") for number in range(15_000)))
-        for any_place in (True, False):
-            self.see(f"threads that read, at any place {any_place}", readers(data, any_place) == list(range(15_000)))
+        for source in (io.BytesIO, lambda it: Pieces(it, 30_000)):
+            self.see(f"threads that read {source}", readers(data, source) == list(range(15_000)))
 
     def test_reentered(self):
-        """A call from inside another one on the same file, as a signal's handler may make it, is refused."""
+        """A write from inside another one on the same file, as a signal's handler may make it, is refused, and the other one goes on."""
         class Under(io.BytesIO):
             inside = None
 
@@ -73,8 +73,8 @@ class ThreadsTest(BindingsCase):
 
         under, found = Under(), []
         file = agefile.open(under, "wb", passphrase="pw", work=1)
-        for call in (lambda: file.write(b"x"), file.flush, file.close, file.abandon):
-            under.inside = lambda call=call: found.append(raised(RuntimeError, call))
+        for size in (1, 100_000, 0, 16_384):
+            under.inside = lambda size=size: found.append(raised(OSError, file.write, b"x" * size))
             file.write(b"y" * 65_537)
         under.inside = None
         file.close()
@@ -82,7 +82,7 @@ class ThreadsTest(BindingsCase):
         self.see("what was written around such calls", by_python(under.getvalue(), passphrase="pw") == ((0, None), b"y" * 4 * 65_537))
         under, refused, text = io.BytesIO(), [], 0
         file = agefile.open(under, "wb", passphrase="pw", work=1)
-        kept = signal.signal(signal.SIGALRM, lambda *_: refused.append(raised(RuntimeError, file.write, b"x")))
+        kept = signal.signal(signal.SIGALRM, lambda *_: refused.append(raised(OSError, file.write, b"x")))
         signal.setitimer(signal.ITIMER_REAL, 0.001, 0.001)
         while len(refused) < 30:
             text += file.write(b"z" * 10_000)
@@ -92,121 +92,6 @@ class ThreadsTest(BindingsCase):
         fault, got = by_python(under.getvalue(), passphrase="pw")
         want = (text, refused.count(False))
         self.see("a handler of signals that writes", (fault, (got.count(b"z"), got.count(b"x"))) == ((0, None), want), fault, len(got))
-
-    def test_reentered_reads(self):
-        """The same for a file that is read. If the refusal isn't caught, it ends the outer call, as any other exception does."""
-        class Under(io.BytesIO):
-            inside = None
-
-            def readinto(self, room):
-                if self.inside:
-                    self.inside()
-                return super().readinto(room)
-
-        text = plain_of(300_000)
-        data = self.sealed(text)
-        for any_place, what, call in (
-            (False, "read", lambda file: file.read(200_000)), (True, "read", lambda file: file.read(200_000)), (False, "read1", lambda file: file.read1()),
-            (False, "readinto", lambda file: file.readinto(bytearray(200_000))), (False, "seek", lambda file: file.seek(250_000)),
-        ):
-            under = Under(data)
-            file = agefile.open(under, file_key=KEY, random_access=any_place)
-            file.read(10)
-            file.readinto(bytearray(len(file.peek(65_536))))
-            at, under.inside = file.tell(), file.tell
-            name = f"a call inside {what}, at any place {any_place}"
-            self.see(f"{name}: ends it", raised(RuntimeError, call, file), file.tell())
-            under.inside = None
-            self.see(f"{name}: the place", file.tell() == at, file.tell())
-            if what != "seek":
-                self.see(f"{name}: no read goes on", raised(OSError, file.read, 1))
-                file.seek(at)
-            self.see(f"{name}: what follows", file.read() == text[at:])
-
-    def test_handler_that_reads(self):
-        """A read by a handler gets bytes of its own, or is refused: no byte comes twice, none is left out, and no read ends too soon."""
-        text = b"".join(number.to_bytes(8, "big") for number in range(20_000))
-        data, package, at = self.sealed(text), str(PYTHON / "agefile"), 65_536 - 16
-        for any_place in (False, True):
-            for size in (8, 16, 24, 70_000):
-                turn, wrong = 0, []
-                while True:
-                    file = agefile.open(io.BytesIO(data), file_key=KEY, random_access=any_place)
-                    file.seek(at)
-                    own, others = [], []
-
-                    def handler():
-                        with contextlib.suppress(RuntimeError):
-                            others.append(file.read(8))
-
-                    if not interrupted_at(turn, package, lambda: own.append(file.read(size)), handler):
-                        break
-                    got, other = own[0], b"".join(others)
-                    if len(got) != size or text[at : at + size + len(other)] not in (got + other, other + got):
-                        wrong.append((turn, len(got), other))
-                    turn += 1
-                self.see(f"a read of {size} bytes, at any place {any_place}: {turn} handlers", wrong == [] and turn > 1, wrong[:5])
-
-    def test_handler_in_a_line(self):
-        """The same for a line, which is refused if a handler read on from its middle."""
-        text = b"".join(number.to_bytes(8, "big") for number in range(20_000))
-        data, package = self.sealed(text), str(PYTHON / "agefile")
-        for any_place, size in ((False, -1), (True, -1), (False, 4), (False, 20)):
-            turn, wrong, more, at = 0, [], True, 65_536 - 16
-            while more:
-                file = agefile.open(io.BytesIO(data), file_key=KEY, random_access=any_place)
-                file.seek(at)
-                own, others = [], []
-
-                def handler():
-                    with contextlib.suppress(RuntimeError):
-                        others.append(file.read(8))
-
-                try:
-                    more = interrupted_at(turn, package, lambda: own.append(file.readline(size)), handler)
-                    got, other = own[0], b"".join(others)
-                    right = text[at : at + len(got + other)] in (got + other, other + got)
-                except OSError:
-                    right = file.tell() == at and raised(OSError, file.read, 1)
-                if not right:
-                    wrong.append((turn, own, others))
-                turn += 1
-            self.see(f"a line of {size} bytes, at any place {any_place}: {turn} handlers", wrong == [] and turn > 1, wrong[:3])
-
-    def test_failing_beside_another(self):
-        """A read or a seek that fails is over for other threads only once the file stands where it stood."""
-        class Failing(io.BytesIO):
-            fails = False
-
-            def readinto(self, room):
-                if self.fails:
-                    raise OSError("once")
-                return super().readinto(room)
-
-        text = b"".join(number.to_bytes(8, "big") for number in range(20_000))
-        data, wrong, found = self.sealed(text), [], []
-
-        def reads():
-            try:
-                found.append(file.read(8))
-            except OSError:
-                found.append(None)
-
-        for turn in range(300):
-            under = Failing(data)
-            file = agefile.open(under, file_key=KEY)
-            file.read(16)
-            found.clear()
-            together([reads, lambda: raised(ValueError, file.seek, -1)])
-            if (found, file.read(8)) != ([text[16:24]], text[24:32]):
-                wrong.append((turn, "seek", found))
-            file.seek(16)
-            under.fails = True
-            found.clear()
-            together([reads, lambda: raised(OSError, file.read, 100_000)])
-            if found[0] not in (None, text[16:24]):
-                wrong.append((turn, "read", found))
-        self.see("reads beside what fails", wrong == [], wrong[:5])
 
 
 class OddFilesTest(BindingsCase):
@@ -240,13 +125,13 @@ class OddFilesTest(BindingsCase):
                 self.see(f"{what} of an iterator", raised(OSError, read, agefile.open(Passing(data[:end]), file_key=KEY)))
             for kind in (StopIteration, EOFError):
                 under = Lost(data)
-                file = agefile.open(under, file_key=KEY, random_access=True)
+                file = agefile.open(under, file_key=KEY)
                 under.kind = kind
                 self.see(f"{what}, and a seek that raises {kind.__name__}", raised(OSError, read, file))
-                for call, words in ((agefile.open, {"random_access": True}), (agefile.salvage, {"out": io.BytesIO()})):
-                    under = Lost(data)
-                    under.kind = kind
-                    self.see(f"{call.__name__}, and such a seek", raised(OSError, call, under, file_key=KEY, **words))
+            for call in (lambda it: agefile.open(it, file_key=KEY).size, lambda it: agefile.salvage(it, io.BytesIO(), file_key=KEY)):
+                under = Lost(data)
+                under.kind = kind
+                self.see("the size, or salvage, and such a seek", raised(OSError, call, under))
 
     def test_forgotten_results(self):
         """What overrides a call of a file that blocks and forgets its result: an exception, and no endless loop."""
@@ -288,12 +173,13 @@ class OddFilesTest(BindingsCase):
         self.see("what the file has", by_python(path.read_bytes(), passphrase="pw") == ((0, None), want))
 
     def test_a_shorter_file(self):
-        """A file in whose place one with the same key is put that is shorter: to no read is its end the end."""
+        """A file whose size was asked, and in whose place one with the same key is put that is shorter: to no read is its end the end."""
         text = b"".join(b"%d,line\n" % it for it in range(60_000))
         data, shorter = self.sealed(text), self.sealed(text[:5 * 65_536 + 100])
         for what, read in WAYS.items():
             under = io.BytesIO(data)
-            file = agefile.open(under, file_key=KEY, random_access=True)
+            file = agefile.open(under, file_key=KEY)
+            self.see(f"its size, before {what}", file.size == len(text))
             under.seek(0)
             under.truncate()
             under.write(shorter)

@@ -17,7 +17,8 @@ import types
 import warnings
 import zlib
 
-from tests.bindings import KEY, LENGTHS, PYTHON, RANDOM, BindingsCase, agefile, by_python, limited, plain_of, raised, setUpModule, slow
+from tests.bindings import KEY, LENGTHS, PYTHON, BindingsCase, agefile, by_python, limited, plain_of, raised, setUpModule, slow
+from tests.test_python import fault_of
 from tools.workspace import TOP
 
 
@@ -115,6 +116,18 @@ def interrupt():
     raise Interruption
 
 
+def interrupt_within(*names):
+    """The same, unless one of these functions of agefile has just been called."""
+    frame = sys._getframe(3)
+    if frame.f_code.co_name not in names or frame.f_lineno != frame.f_code.co_firstlineno:
+        raise Interruption
+
+
+def begin_of(data, length):
+    """Where the payload of a file begins."""
+    return len(data) - length - 16 * max(1, -(-length // 65_536))
+
+
 def interrupted_at(turn, folder, call, handler=interrupt):
     """Makes a call, and runs a handler at the place of this number, of those in a folder's code where Python runs handlers: where a function
     begins, and where a call that it made returned. Whether there was such a place. (Where the outermost function has returned it is for
@@ -163,21 +176,17 @@ class PythonFilesTest(BindingsCase):
     """What a file object has to do."""
 
     def test_seals(self):
-        """What the library seals is what age_tool makes of the same random bytes, byte by byte, and age_tool reads it."""
+        """age_tool reads what is written, and no two files have one random byte in common."""
         for length in LENGTHS:
-            text = plain_of(length)
-            for size in (length or 1, 70_000):
-                kept, os.urandom = os.urandom, lambda n: RANDOM[:n]
+            text, made = plain_of(length), []
+            for size in (length or 1, 70_000, 9_000):
                 file = io.BytesIO()
                 with agefile.open(file, "wb", passphrase="pw", work=1) as writer:
                     for at in range(0, length, size):
                         writer.write(text[at:at + size])
-                os.urandom = kept
-                self.see(f"sealed: {length} bytes in pieces of {size}", file.getvalue() == self.sealed(text))
-            file = io.BytesIO()
-            with agefile.open(file, "wb", passphrase="pw", work=1) as writer:
-                writer.write(text)
-            self.see(f"sealed: age_tool doesn't read {length} bytes", self.judged(file.getvalue()) == ((0, None), text))
+                made.append(file.getvalue())
+                self.see(f"age_tool reads {length} bytes in pieces of {size}", self.judged(made[-1]) == ((0, None), text))
+            self.see(f"files of {length} bytes", len({it[-16:] for it in made}) == len({it[30:60] for it in made}) == 3)
 
     def test_files(self):
         path, text = self.path("file.age"), plain_of(200_000)
@@ -194,7 +203,7 @@ class PythonFilesTest(BindingsCase):
                 file.read(1)
                 self.see("the end of a cut file is reported as its end", False)
             except agefile.AgeError as fault:
-                self.see("a cut file", (fault.number, fault.place, got) == (17, 3, text[:3 * 65_536]))
+                self.see("a cut file", (fault.number, fault.chunk, got) == (17, 3, text[:3 * 65_536]))
         try:
             with agefile.open(path, "wb", passphrase="pw", work=1) as file:
                 file.write(text)
@@ -250,11 +259,11 @@ class PythonFilesTest(BindingsCase):
             self.see("seek in what can't seek", raised(io.UnsupportedOperation, file.seek, 0) and not file.seekable())
         under = Unsteady()
         file = agefile.open(under, "wb", passphrase="pw", work=1)
-        self.see("a failed write isn't reported", raised(OSError, file.write, text))
-        self.see("a file with a block that is missing is written on", raised(ValueError, file.write, text))
-        self.see("a file with a block that is missing is closed as if it were whole", raised(ValueError, file.close) and file.closed)
+        self.see("a failed write isn't reported", raised(OSError, lambda: [file.write(text) for _ in range(3)]))
+        self.see("a file with a block that is missing is written on", raised(OSError, file.write, text))
+        self.see("a file with a block that is missing is closed as if it were whole", raised(OSError, file.close) and file.closed)
         fault = pickle.loads(pickle.dumps(agefile.AgeError(17, 3)))
-        parts = fault.number, fault.name, fault.place, str(fault).partition(" (")[2]
+        parts = fault.number, fault.name, fault.chunk, str(fault).partition(" (")[2]
         self.see("a fault that is pickled", parts == (17, "ChunkDamaged", 3, "17 ChunkDamaged chunk 3)"), parts)
         self.see("bytes with an encoding", raised(ValueError, lambda: agefile.open(io.BytesIO(data), "rb", file_key=KEY, encoding="utf-8")))
 
@@ -386,7 +395,7 @@ class PythonFilesTest(BindingsCase):
             file = agefile.open(out, mode, passphrase="pw", work=1)
             file.write(b"text" if mode == "wb" else "text")
             out.full = True
-            found = [raised(OSError, file.close), raised(ValueError, file.close), raised(ValueError, file.close)]
+            found = [raised(OSError, file.close) for _ in range(3)]
             self.see(f"close() of a file that isn't whole, {mode}", found == [True] * 3 and file.closed, found)
 
     def test_interrupted_writers(self):
@@ -404,8 +413,8 @@ class PythonFilesTest(BindingsCase):
                         file.abandon()
                         break
                     under, was_open = file._file, not file.closed
-                    says_whole = not raised(ValueError, getattr(file, after)) and after == "close" and was_open
-                    is_whole = by_python(path.read_bytes(), passphrase="pw") == ((0, None), text[:70_000])
+                    says_whole = not raised((OSError, ValueError), getattr(file, after)) and after == "close" and was_open
+                    is_whole = by_python(path.read_bytes(), passphrase="pw") in [((0, None), it) for it in (text[:70_000], text)]
                     if says_whole and not is_whole or what != "close" and is_whole != says_whole or not under.closed:
                         wrong.append((turn, says_whole, is_whole, under.closed))
                     turn += 1
@@ -422,7 +431,7 @@ class PythonFilesTest(BindingsCase):
                 file.write(kept)
                 if not interrupted_at(turn, package, lambda: call(file)):
                     break
-                says_whole = not raised(ValueError, lambda: (file.write("c"), file.close()))
+                says_whole = not raised((OSError, ValueError), lambda: (file.write("c"), file.close()))
                 file.buffer.abandon()
                 fault, got = by_python(out.getvalue(), passphrase="pw")
                 if (fault == (0, None)) != says_whole or says_whole and not got.startswith(kept.encode()):
@@ -441,7 +450,7 @@ class PythonFilesTest(BindingsCase):
         text, path = plain_of(100_000), self.path("forked.age")
         data = self.sealed(text)
         out = agefile.open(path, "wb", passphrase="pw", work=1)
-        for file in (out, *(agefile.open(io.BytesIO(data), file_key=KEY, random_access=it) for it in (False, True))):
+        for file in (out, agefile.open(io.BytesIO(data), file_key=KEY)):
             for call in (copy.copy, copy.deepcopy, pickle.dumps):
                 self.see(f"{call.__name__} of an {type(file).__name__}", raised(TypeError, call, file))
         out.write(text[:70_000])
@@ -469,42 +478,18 @@ class PythonFilesTest(BindingsCase):
         """What io's classes refuse once they are closed."""
         data = self.sealed(b"text")
         for mode in ("rb", "rt", "wb", "wt"):
-            for any_place in (False, True) if mode[0] == "r" else (False,):
-                keys = {"file_key": KEY, "random_access": any_place} if mode[0] == "r" else {"passphrase": "pw", "work": 1}
-                file = agefile.open(io.BytesIO(data), mode, **keys)
-                files = [file, *([file.buffer] if mode[1] == "t" else [])]
-                file.close()
-                file.close()
-                for it in files:
-                    for name in ("tell", "flush", "readable", "writable", "seekable", *(["read"] if mode[0] == "r" else [])):
-                        self.see(f"{name} of a closed {type(it).__name__}, {mode}", raised(ValueError, getattr(it, name)))
+            keys = {"file_key": KEY} if mode[0] == "r" else {"passphrase": "pw", "work": 1}
+            file = agefile.open(io.BytesIO(data), mode, **keys)
+            files = [file, *([file.buffer] if mode[1] == "t" else [])]
+            file.close()
+            file.close()
+            for it in files:
+                for name in ("tell", "flush", "readable", "seekable", *(["read"] if mode[0] == "r" else ["writable"])):
+                    self.see(f"{name} of a closed {type(it).__name__}, {mode}", raised(ValueError, getattr(it, name)))
         under = io.BytesIO(data)
         with agefile.open(under, file_key=KEY) as file:
             file.read()
         self.see("a file object that was passed in is left open", not under.closed)
-
-    def test_keys_in_memory(self):
-        """What close() overwrites."""
-        text = plain_of(100_000)
-        data = self.sealed(text)
-        for any_place in (False, True):
-            file = agefile.open(io.BytesIO(data), file_key=KEY, random_access=any_place)
-            file.seek(70_000)
-            file.read(10)
-            held = Kept(file._held.text.getvalue())
-            file._held = file._held._replace(text=held)
-            self.see("the key is held while the file is open", KEY in bytes(file._state) and held.getvalue() == text[65_536:])
-            file.close()
-            self.see("the key is held after close", not any(bytes(file._state)) and not any(held.getvalue()))
-        kept, os.urandom = os.urandom, lambda n: RANDOM[:n]
-        for left in (False, True):
-            file = agefile.open(io.BytesIO(), "wb", passphrase="pw", work=1)
-            file.write(text)
-            self.see("the key is held while it is written", KEY in bytes(file._stream) and text[-100:] in bytes(file._stream))
-            stream = file._stream
-            (file.abandon if left else file.close)()
-            self.see("the key is held after the end", not any(bytes(stream)))
-        os.urandom = kept
 
     def test_what_finishes(self):
         """What the docstring says of writers that are closed after an exception."""
@@ -535,142 +520,108 @@ class PythonFilesTest(BindingsCase):
                         got += piece
                     self.see("a damaged chunk is read", False)
                 except agefile.NotWhole as fault:
-                    self.see(f"before a damaged chunk, by {size}", (fault.place, got) == (3, text[:3 * 65_536]), fault, len(got))
+                    self.see(f"before a damaged chunk, by {size}", (fault.chunk, got) == (3, text[:3 * 65_536]), fault, len(got))
 
     def test_seeks(self):
-        """A seek that fails leaves the file where it stood, though what is under it was read on."""
+        """A seek that fails leaves the file where it stood. Only one from the end reads anything."""
         text = plain_of(200_000)
         data = self.sealed(text)
         for kind, words in (
             (ValueError, (-1,)), (ValueError, (-200, 1)), (ValueError, (-200_001, 2)), (ValueError, (0, 3)), (ValueError, (0, -1)), (TypeError, (1.5,)),
-            (BlockingIOError, (150_000,)), (BlockingIOError, (0, 2)), (OSError, (150_000,)),
+            (BlockingIOError, (0, 2)), (OSError, (-5, 2)),
         ):
-            for any_place in (False, True):
-                if any_place and kind in (BlockingIOError, OSError):
-                    continue  # such a seek reads nothing
-                under = Halting(data)
-                file = agefile.open(under, file_key=KEY, random_access=any_place)
-                begin = file.read(100)
-                if kind in (BlockingIOError, OSError):
-                    under.left, under.stops, under.stop = 2, 1, OSError("once") if kind is OSError else None
-                self.see(f"seek{words}: no {kind.__name__}, or at {file.tell()}", raised(kind, file.seek, *words) and file.tell() == 100)
-                rest = b""
-                while piece := file.read(50_000):
-                    rest += piece
-                self.see(f"what follows a failed seek{words}", begin + rest == text)
-                self.see(f"a seek after a failed one, {words}", file.seek(70_000) == 70_000 and file.read(5) == text[70_000:70_005])
+            under = Halting(data)
+            file = agefile.open(under, file_key=KEY)
+            begin = file.read(100)
+            if kind in (BlockingIOError, OSError):
+                under.left, under.stops, under.stop = 1, 1, OSError("once") if kind is OSError else None
+            self.see(f"seek{words}: no {kind.__name__}, or at {file.tell()}", raised(kind, file.seek, *words) and file.tell() == 100)
+            rest = b""
+            while piece := file.read(50_000):
+                rest += piece
+            self.see(f"what follows a failed seek{words}", begin + rest == text)
+            self.see(f"a seek after a failed one, {words}", file.seek(70_000) == 70_000 and file.read(5) == text[70_000:70_005])
 
-    def test_interrupted_seeks(self):
-        """A seek that is interrupted once it has moved the source, or the library's reader, leaves the file where it stood, too."""
-        text = plain_of(200_000)
-        data = self.sealed(text)
-
-        class Moving(io.BytesIO):
-            fails = False
-
-            def seek(self, *words):
-                place = super().seek(*words)
-                if self.fails:
-                    self.fails = False
-                    raise OSError("once")
-                return place
-
-        under = Moving(data)
-        file = agefile.open(under, file_key=KEY)
-        file.seek(100_000)
-        self.see("a read before the seek", file.read(10) == text[100_000:100_010])
-        under.fails = True
-        self.see("a seek that is interrupted", raised(OSError, file.seek, 0) and file.tell() == 100_010)
-        self.see("what follows it", file.read() == text[100_010:])
+    def test_beyond_the_end(self):
+        """A place beyond the end is one where nothing is, as in io.BytesIO, wherever the end is in its chunk; in a file that was cut it is a fault."""
+        for length in (0, 1, 65_536, 131_072, 200_000):
+            text = plain_of(length)
+            data = self.sealed(text)
+            for more in (0, 1, 17, 53_138, 84_780, 1 << 30, (1 << 60) - length):
+                for first in (False, True):
+                    file = agefile.open(io.BytesIO(data), file_key=KEY)
+                    found = [file.size] if first else []
+                    found += [file.seek(length + more), file.read(10), file.read(), file.tell(), file.seek(0), file.read()]
+                    self.see(f"{more} bytes beyond {length}", found == [length] * first + [length + more, b"", b"", length + more, 0, text], found[:4])
+        for end in (len(data) - 1, len(data) - 3_500, begin_of(data, 200_000) + 2 * 65_552):
+            file = agefile.open(io.BytesIO(data[:end]), file_key=KEY)
+            self.see(f"a file cut at {end}", file.seek(300_000) == 300_000 and raised(agefile.NotWhole, file.read, 1))
+            self.see(f"what comes before it, {end}", file.seek(70_000) == 70_000 and file.read(5) == text[70_000:70_005])
 
     def test_interrupted_anywhere(self):
-        """An exception at each place where Python lets a signal's handler run, in each call that moves a file: it stands where it stood,
-        and a seek to a known place reads the right text, or what is read without one is an exception."""
+        """An exception at each place where Python lets a signal's handler run, in each call that moves a file: a read without a seek is right or
+        refused, and after a seek to a known place it is right. (Only one that comes before the first line of readinto() can't be known.)"""
         text = plain_of(200_000)
         data = self.sealed(text)
         package = str(PYTHON / "agefile")
         calls = {
-            "read": (lambda file: file.read(100_000), 0), "a short read": (lambda file: file.read(10), 0), "read1": (lambda file: file.read1(), 0),
-            "readinto": (lambda file: file.readinto(bytearray(70_000)), 0), "readline": (lambda file: file.readline(), 0),
-            "seek on": (lambda file: file.seek(150_000), 150_000), "seek back": (lambda file: file.seek(10), 10),
-            "seek within a chunk": (lambda file: file.seek(70_001), 70_001), "seek to the end": (lambda file: file.seek(0, 2), 200_000),
+            "read": lambda file: file.read(100_000), "a short read": lambda file: file.read(10), "read to the end": lambda file: file.read(),
+            "read1": lambda file: (file.seek(131_072), file.read1()), "readinto": lambda file: file.readinto(bytearray(70_000)),
+            "readline": lambda file: file.readline(), "peek": lambda file: (file.seek(131_072), file.peek()), "seek on": lambda file: file.seek(150_000),
+            "seek back": lambda file: file.seek(10), "seek to the end": lambda file: file.seek(0, 2), "size": lambda file: file.size,
         }
-        for any_place in (False, True):
-            for what, (call, _) in calls.items():
-                turn, wrong = 0, []
-                while turn < 400:
-                    file = agefile.open(io.BytesIO(data), file_key=KEY, random_access=any_place)
-                    file.seek(70_000)
-                    file.read(5)
-                    if not interrupted_at(turn, package, lambda: call(file)):
-                        break
-                    if file.tell() != 70_005:
-                        wrong.append((turn, "place", file.tell()))
-                    try:
-                        got = file.read(3)
-                        wrong += [(turn, "text", got)] if got != text[70_005:70_008] else []
-                    except OSError:
-                        pass
-                    for place in (66_000, 100, 131_000):
-                        if file.seek(place) != place or file.read(70_000) != text[place:place + 70_000] or file.tell() != min(place + 70_000, 200_000):
-                            wrong.append((turn, "after a seek", place))
-                    turn += 1
-                self.see(f"{what}, at any place {any_place}: {turn} interruptions", wrong == [] and turn > 3, wrong[:5])
+        for what, call in calls.items():
+            turn, wrong = 0, []
+            while turn < 400:
+                file = agefile.open(io.BytesIO(data), file_key=KEY)
+                file.read(70_005)
+                if not interrupted_at(turn, package, lambda: call(file), lambda: interrupt_within("readinto", "readall")):
+                    break
+                at = file.tell()
+                try:
+                    got = file.read(3)
+                    wrong += [(turn, "text", got)] if got not in (text[70_005:70_008], text[at:at + 3]) else []
+                except OSError:
+                    pass
+                for place in (66_000, 100, 131_000):
+                    if file.seek(place) != place or file.read(70_000) != text[place:place + 70_000] or file.tell() != min(place + 70_000, 200_000):
+                        wrong.append((turn, "after a seek", place))
+                turn += 1
+            self.see(f"{what}: {turn} interruptions", wrong == [] and (turn > 1 or what in ("a short read", "readline")), wrong[:5])
 
-    def test_between_two_values(self):
-        """A handler's exception may come between two values that a statement sets, in Python 3.9, and a second one while the first is
-        dealt with: the file stands where it stood; what is read there is right, or an exception; and after a seek it is right."""
-        text, left, turns = plain_of(200_000), [0, 0], 0
-        data = self.sealed(text)
-        calls = {
-            "seek back": lambda it: it.seek(3), "seek on": lambda it: it.seek(140_000), "seek to the end": lambda it: it.seek(0, 2),
-            "read": lambda it: it.read(100_000), "read1": lambda it: (it.seek(131_072), it.read1()), "readline": lambda it: it.readline(),
-            "readinto": lambda it: it.readinto(bytearray(130_000)), "peek": lambda it: it.peek(), "read to the end": lambda it: it.read(),
-        }
-        for kind in (agefile.AgeReader, agefile.AgeFile):
-            class Between(kind):
-                def __setattr__(self, name, value):
-                    left[0] -= 1
-                    if left[0] == 0:
-                        left[:] = left[1], 0
-                        raise Interruption
-                    super().__setattr__(name, value)
+    def test_interrupted_reads(self):
+        """After an exception of a signal's handler in a read, of a pipe too, each read is refused."""
+        data = self.sealed(plain_of(200_000))
 
-            for what, call in calls.items():
-                for again in (0, 1, 2):
-                    wrong, turn, was = [], 0, True
-                    while was:
-                        turn += 1
-                        file = Between(io.BytesIO(data), file_key=KEY)
-                        file.read(70_005)
-                        left[:] = turn, again
-                        was = raised(Interruption, call, file)
-                        left[:] = 0, 0
-                        wrong += [turn] if was and not self.stands_right(file, text, 70_005 if again == 0 and what != "read1" else None) else []
-                    turns += turn
-                    self.see(f"{kind.__name__}, {what}, {again} after it: {turn} interruptions", wrong == [], wrong[:3])
-        self.see(f"{turns} interruptions", turns > 200)
+        class Slow(io.BytesIO):
+            handler = None
 
-    def stands_right(self, file, text, place):
-        """Whether a file that a call moved, which an exception ended, stands at that place, if there is one; and what it gives is the text."""
-        at, right = file.tell(), True
-        try:
-            right = file.read(3) == text[at:at + 3]
-        except OSError:
-            pass
-        for to in (66_000, at, 131_000, 5):
-            right = right and file.seek(to) == to and file.read(70_000) == text[to:to + 70_000]
-        return right and place in (None, at)
+            def readinto(self, room):
+                if self.handler:
+                    self.handler()
+                return super().readinto(room)
+
+        for can_seek in (False, True):
+            for what, read in WAYS.items():
+                under = Slow(data)
+                under.seekable = lambda: can_seek
+                file = agefile.open(under, file_key=KEY)
+                under.handler = interrupt
+                is_raised, under.handler = raised(Interruption, read, file), None
+                refused = [raised(OSError, call) for call in (lambda: file.read(1), file.readline, file.read1, file.peek, file.read) if not file.closed]
+                self.see(f"{what}, can seek {can_seek}", is_raised and all(refused), refused)
+                if can_seek and not file.closed:
+                    self.see(f"{what} after a seek", file.seek(70_000) == 70_000 and file.read() == plain_of(200_000)[70_000:])
 
     def test_impossible_lengths(self):
-        """At which chunk a file is refused at any place, if no payload has its length; and lines of no byte and of one."""
+        """At which chunk a file is refused, if no payload has its length; and lines of no byte and of one."""
         data = self.sealed(plain_of(200_000))
         begin = len(data) - 200_000 - 4 * 16
         for end, want in ((begin + 65_552 + 5, (18, 1)), (begin + 3 * 65_552 + 16, (19, 3)), (begin + 15, (18, 0))):
-            try:
-                agefile.open(io.BytesIO(data[:end]), file_key=KEY, random_access=True)
-            except agefile.AgeError as fault:
-                self.see(f"a file cut at {end}", (fault.number, fault.place) == want, fault)
+            file = agefile.open(io.BytesIO(data[:end]), file_key=KEY)
+            for call in (lambda: file.size, lambda: file.seek(0, 2), lambda: file.seek(-1, 2), file.read):
+                fault = fault_of(call)
+                self.see(f"a file cut at {end}", isinstance(fault, agefile.NotWhole) and (fault.number, fault.chunk) == want, fault)
         with limited(60), agefile.open(io.BytesIO(self.sealed(b"abc\nd")), file_key=KEY) as file:
             found = [file.readline(it) for it in (0, 1, 0, 2, 5, 1, 1)]
             self.see("short lines", found == [b"", b"a", b"", b"bc", b"\n", b"d", b""], found)
@@ -685,12 +636,11 @@ class PythonFilesTest(BindingsCase):
                     wanted = fault, text[:65_536] if fault == 17 else b"" if fault else text
                     name = f"a pipe that doesn't block, {what}, pieces of {size}, buffering {buffering}"
                     self.see(name, by_pieces(sent, size, buffering, word) == wanted)
-        for any_place in (False, True):
-            under = Halting(data, 10)
-            file = agefile.open(under, file_key=KEY, random_access=any_place)
-            under.left, under.stops = 50, 1
-            self.see("no bytes yet, and nothing to wait for", raised(BlockingIOError, file.read, 10) and raised(OSError, file.read, 10))
-            self.see("a seek after that", file.seek(0) == 0 and file.read() == text)
+        under = Halting(data, 10)
+        file = agefile.open(under, file_key=KEY)
+        under.left, under.stops = 50, 1
+        self.see("no bytes yet, and nothing to wait for", raised(BlockingIOError, file.read, 10) and raised(OSError, file.read, 10))
+        self.see("a seek after that", file.seek(0) == 0 and file.read() == text)
         self.see("a header of which there are no bytes yet", raised(BlockingIOError, agefile.open, Halting(data, stops=1), file_key=KEY))
 
     def test_slow_sources(self):
@@ -728,7 +678,7 @@ class PythonFilesTest(BindingsCase):
         with agefile.open(under, file_key=KEY) as file:
             begin = file.read(100)
             under.left, under.stops, under.stop = 2, 2, OSError("twice")
-            self.see("a failed seek, and a failed read", raised(OSError, file.seek, 150_000) and raised(OSError, file.read, 200_000))
+            self.see("a failed read, and a failed seek", raised(OSError, file.read, 200_000) and raised(OSError, file.seek, 0, 2))
             self.see("a read after both", raised(OSError, file.read, 1) and file.seek(100) == 100 and begin + file.read() == text)
         for whence, offset, place in ((io.SEEK_END, 0, len(text)), (io.SEEK_END, -7, len(text) - 7), (io.SEEK_SET, 150_000, 150_000)):
             under = Halting(data)
@@ -736,11 +686,6 @@ class PythonFilesTest(BindingsCase):
                 under.left, under.stops, under.stop = 4, 1, OSError("once")
                 self.see("a failed read", raised(OSError, file.read))
                 self.see(f"a seek by {offset} from {whence} after it", file.seek(offset, whence) == place and file.read() == text[place:])
-        under = Halting(data)
-        with agefile.open(under, file_key=KEY, random_access=True) as file:
-            under.left, under.stops, under.stop = 2, 1, OSError("once")
-            self.see("a failed read at any place", raised(OSError, file.read) and raised(OSError, file.read, 1))
-            self.see("a seek after that", file.seek(100_000) == 100_000 and file.read() == text[100_000:] and file.seek(0) == 0 and file.read() == text)
 
     def test_odd_sources(self):
         """A coroutine that a read gives isn't left to warn of itself; no folder stays open; and what has a `seek` and no `tell` is a pipe."""
@@ -757,4 +702,5 @@ class PythonFilesTest(BindingsCase):
         self.see("descriptors that stay open", len(os.listdir("/proc/self/fd")) == len(before))
         one, other = (types.SimpleNamespace(read=io.BytesIO(data).read, seek=lambda *_: 0) for _ in range(2))
         self.see("no `tell`", agefile.open(one, file_key=KEY).read() == b"text")
-        self.see("no `tell`, at any place", raised(io.UnsupportedOperation, agefile.open, other, file_key=KEY, random_access=True))
+        file = agefile.open(other, file_key=KEY)
+        self.see("the size of what can't seek", raised(io.UnsupportedOperation, lambda: file.size) and raised(io.UnsupportedOperation, file.seek, 0))

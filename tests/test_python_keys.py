@@ -1,11 +1,8 @@
 """Tries the keys of age-keygen in the Python module: files that it reads by them, and files that it writes for their recipients; typed
 passphrases; and arguments of text."""
-import base64
-import contextlib
 import importlib.util
 import io
 import os
-import pickle
 import random
 import re
 import subprocess
@@ -65,19 +62,15 @@ class KeysTest(BindingsCase):
         held = bytes.fromhex("00443214c74254b635cf84653a56d7c675be77df")
         self.see("the bytes of a Bech32 text", agefile._keys.bech32_decoded(valid[3]) == ("abcdef", held))
 
+    @needs_cryptography
     def test_identities(self):
         """Files of age for the keys of age-keygen."""
         key, other = (agefile._keys.identities_in((AGE / name).read_text()) for name in ("key.txt", "other.txt"))
         public = [line.split()[-1] for line in (AGE / "key.txt").read_text().splitlines() if "public key" in line][0]
         secret, nine = agefile._keys.secret_of(key[0]), bytes([9]) + bytes(31)
-        ways = [("openssl", agefile._keys.by_openssl)]
-        if HAS_CRYPTOGRAPHY:
-            ways.append(("cryptography", lambda it, point: agefile._keys.x25519_of(it)(point)))
-        else:
-            self.leave_out("the public key of a key, by cryptography", "needs cryptography")
-        for what, call in ways:
-            self.see(f"the public key of a key, by {what}", call(secret, nine) == agefile._keys.bech32_decoded(public)[1])
-            self.see(f"a point of low order, by {what}", call(secret, bytes(32)) == bytes(32))
+        exchanged = agefile._keys.x25519_of(secret)
+        self.see("the public key of a key", exchanged(nine) == agefile._keys.bech32_decoded(public)[1] and agefile._keys.recipient_of(key[0]) == public)
+        self.see("a point of low order", exchanged(bytes(32)) == bytes(32))
         for name, keys, want in (
             ("one.age", key, b"hello, recipient\n"), ("one.age", [*other, *key], b"hello, recipient\n"), ("two.age", key, b"hello, both\n"),
             ("two.age", other, b"hello, both\n"), ("other.age", other, b"hello, other\n"), ("one.age", other, 13), ("passphrase.age", key, 12),
@@ -115,48 +108,17 @@ class KeysTest(BindingsCase):
         one, other = (next(word for word in it.split() if word.startswith("age1")) for it in keys)
         self.path("many").write_text(f"{other}\n" * 10_000 + f"{one}\n")
         data = subprocess.run(["age", "-R", self.path("many")], input=b"text", capture_output=True, check=True).stdout
-        looked, kept = [0], {it: getattr(agefile._library.C, it) for it in ("age_c_open_shared", "age_c_header", "age_c_stanzas")}
+        looked, real = [0], agefile._keys._opens
 
-        def counted(call):
-            def called(front, length, *words):
-                looked[0] += length
-                return call(front, length, *words)
+        def counted(key, body):
+            looked[0] += 1
+            return real(key, body)
 
-            return called
-
-        with contextlib.ExitStack() as stack:
-            for name, call in kept.items():
-                stack.enter_context(unittest.mock.patch.object(agefile._library.C, name, counted(call)))
-            got = agefile.open(io.BytesIO(data), identity=keys[0]).read()
-        self.see(f"{looked[0]} bytes of a header of {len(data)} are looked at", got == b"text" and looked[0] < 7 * len(data))
+        with unittest.mock.patch.object(agefile._keys, "_opens", counted):
+            for pieces in (io.BytesIO(data), test_python.Pieces(data, 1_000)):
+                self.see("the text", agefile.open(pieces, identity=keys[0]).read() == b"text")
+        self.see(f"each stanza is tried once, {looked[0]}", looked[0] == 2 * 10_001)
         self.see("its stanzas", [it.type for it in agefile.inspect(io.BytesIO(data)).stanzas] == ["X25519"] * 10_001)
-
-    def test_many_tries(self):
-        """A stranger's header costs a bounded number of tries, which without cryptography are processes; then a fault says so."""
-        key, other = (agefile.identities_in((AGE / name).read_text()) for name in ("key.txt", "other.txt"))
-        stanza = b"-> X25519 " + base64.b64encode(bytes([9]) + bytes(31)).rstrip(b"=") + b"\n" + b"A" * 43 + b"\n"
-        mac, nonce = b"--- " + b"A" * 43 + b"\n", bytes(16)
-        of_age = (AGE / "one.age").read_bytes().split(b"\n")[1:3]
-        tries = []
-
-        def x25519_of(secret):
-            return lambda point: tries.append(point) or real(secret)(point)
-
-        real = agefile._keys.x25519_of
-        for what, most, name in (("openssl", 64, "TRIES_BY_OPENSSL"), ("cryptography", 100, "TRIES")):
-            limits = {"TRIES": 100, "_most_tries": lambda name=name: getattr(agefile._keys, name)}
-            with unittest.mock.patch.multiple(agefile._keys, x25519_of=x25519_of, **limits):
-                tries.clear()
-                fault = fault_of(agefile.open, io.BytesIO(b"age-encryption.org/v1\n" + stanza * 500 + mac + nonce), identity=key + other)
-                self.see(f"{what}: {len(tries)} tries", len(tries) <= most + 2 and type(fault) is agefile.TooManyStanzas, fault)
-                self.see(f"{what}: what is said", fault.number == 13 and f"{most} pairs" in str(fault) and "13 WrongKey" in str(fault), fault)
-                self.see("a fault that is pickled", str(pickle.loads(pickle.dumps(fault))) == str(fault))
-                it = agefile.Decryptor(identity=key + other)
-                found = [type(fault_of(it.update, bytes_)) for bytes_ in (b"age-encryption.org/v1\n" + stanza * 500 + mac + nonce, b"more")]
-                self.see(f"{what}: bytes that are pushed", found == [agefile.TooManyStanzas] * 2, found)
-                front = b"age-encryption.org/v1\n" + stanza * (most - 1) + b"\n".join(of_age) + b"\n" + mac + nonce
-                fault = fault_of(agefile.open, io.BytesIO(front), identity=key)
-                self.see(f"{what}: the last stanza that is tried opens, and its header was altered", getattr(fault, "number", 0) == 14, fault)
 
     def test_text_that_cannot_be(self):
         """An encoding or a newline that there is none of is noticed before the file is touched; a byte order mark is written and read."""
@@ -183,9 +145,8 @@ class KeysTest(BindingsCase):
             for count in (1, 3):
                 words = [part for it in recipients[-count:] for part in ("-r", it)]
                 data = subprocess.run(["age", *words], input=text, capture_output=True, check=True).stdout
-                for any_place in (False, True):
-                    with agefile.open(io.BytesIO(data), identity=agefile._keys.identities_in(keys[-1]), random_access=any_place) as file:
-                        self.see(f"a file of age of {length} bytes for {count}", file.read() == text)
+                with agefile.open(io.BytesIO(data), identity=agefile._keys.identities_in(keys[-1])) as file:
+                    self.see(f"a file of age of {length} bytes for {count}", file.read() == text)
 
     def read_by_age(self, data, key):
         """What age says of a file for a key of its own."""
@@ -249,7 +210,7 @@ class KeysTest(BindingsCase):
         for mode, words, kind in (
             ("wb", {"recipient": public, "passphrase": "pw"}, TypeError), ("wb", {"recipient": public, "file_key": bytes(16)}, TypeError),
             ("rb", {"recipient": public}, ValueError), ("rb", {"recipient": public, "identity": secret}, ValueError),
-            ("wb", {"identity": secret}, ValueError), ("wb", {}, ValueError), ("wb", {"recipient": public, "random_access": True}, ValueError),
+            ("wb", {"identity": secret}, ValueError), ("wb", {}, ValueError),
             ("wb", {"recipient": public, "work": 23}, ValueError),
         ):
             self.see(f"{mode} {[*words]}", type(fault_of(agefile.open, path, mode, **words)) is kind)
@@ -265,13 +226,13 @@ class KeysTest(BindingsCase):
         public = re.search(r"age1\w+", (AGE / "key.txt").read_text())[0]
         made, path = agefile._recipients, self.path("kept")
         path.write_bytes(b"kept")
-        cases = {"hkdf": lambda *_: bytes(32), "base64_of": lambda it: b"A" * 43}
+        cases = {"wrapping_key": lambda *_: bytes(32), "base64_of": lambda it: b"A" * 43}
         for name, wrong in cases.items():
             with unittest.mock.patch.object(made, name, wrong):
                 fault = fault_of(agefile.open, path, "wb", recipient=public)
             self.see(f"another {name}", isinstance(fault, agefile.AgeError) and path.read_bytes() == b"kept", repr(fault))
-        program = "import sys, agefile; sys.modules['cryptography'] = sys.modules['cryptography.hazmat.primitives.ciphers.aead'] = None; agefile.open('kept', 'wb', recipient=sys.argv[1])"
+        program = "import sys, agefile; sys.modules['cryptography'] = sys.modules['cryptography.hazmat.primitives.asymmetric.x25519'] = None; agefile.open('kept', 'wb', recipient=sys.argv[1])"
         env = {**os.environ, "PYTHONPATH": str(PYTHON)}
         run = subprocess.run([sys.executable, "-B", "-c", program, public], cwd=self.room, env=env, capture_output=True, text=True)
         said = run.stderr.splitlines()[-1]
-        self.see("without cryptography", said == "ImportError: a file for a recipient needs the package cryptography" and path.read_bytes() == b"kept", said)
+        self.see("without cryptography", said == "ImportError: keys of age-keygen need the package cryptography" and path.read_bytes() == b"kept", said)

@@ -38,8 +38,8 @@ class PageCase(Case):
             **os.environ, "PATH": f"{self.path('bin')}:{os.environ['PATH']}",
             "PYTHONPATH": str(TOP / "bindings" / "python"), "PYTHONDONTWRITEBYTECODE": "1",
         }
-        if (LIBRARY / "libage_c.so").exists():
-            self.env["AGE_C_LIBRARY"] = str(LIBRARY / "libage_c.so")
+        if (LIBRARY / "libagefile.so").exists():
+            self.env["AGEFILE_LIBRARY"] = str(LIBRARY / "libagefile.so")
 
     def begin(self, script):
         """Begins to run commands in the folder `work`, in a group of processes of their own."""

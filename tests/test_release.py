@@ -117,7 +117,7 @@ class ReleaseTest(Case):
         [top], [wheel], [alone] = self.room.glob("age_tool-*-linux"), self.path("out").glob("*.whl"), self.path("out").glob("*-static")
         [front] = self.path("out").glob("*.pyz")
         env = {**os.environ, "PATH": f"{top}/bin:{os.environ['PATH']}", "PKG_CONFIG_PATH": f"{top}/lib/pkgconfig", "CMAKE_PREFIX_PATH": str(top),
-               "LD_LIBRARY_PATH": f"{top}/lib", "MANPATH": f"{top}/share/man", "WHEEL": str(wheel), "STATIC": str(alone), "FRONT": str(front), "AGE_C_LIBRARY": ""}
+               "LD_LIBRARY_PATH": f"{top}/lib", "MANPATH": f"{top}/share/man", "WHEEL": str(wheel), "STATIC": str(alone), "FRONT": str(front), "AGEFILE_LIBRARY": ""}
         for what, tool in (("program", "age_tool"), ("alone", "age_tool"), ("front", "agefile"), ("front_alone", "python3"), ("manual", "man"), ("completion", "bash"), ("shared", "pkg-config"),
                            ("static", "cc"), ("by_cmake", "cmake"), ("python", "python3"), ("wheel", "python3")):
             if not shutil.which(tool, path=env["PATH"]):
@@ -148,7 +148,7 @@ class ReleaseTest(Case):
         place, packages = self.path("root/usr/lib/python3/dist-packages"), []
         program = "import importlib as it, importlib.metadata, agefile._writer as module; held = it.metadata.distribution('agefile'); " \
             "print(module.GATHERED, held.version, held.read_text('INSTALLER'), it.import_module('agefile').__build__)"
-        env = {**os.environ, "PYTHONPATH": str(place), "AGE_C_LIBRARY": str(LIBRARY / "libage_c.so"), "PYTHONDONTWRITEBYTECODE": ""}
+        env = {**os.environ, "PYTHONPATH": str(place), "AGEFILE_LIBRARY": str(LIBRARY / "libagefile.so"), "PYTHONDONTWRITEBYTECODE": ""}
         writer = self.top / "bindings/python/agefile/_writer.py"
         # (changed sources are of no commit, but of a day)
         for epoch, number, build in ((EARLIER, "16_384", run("git", "rev-parse", "HEAD", cwd=self.top).stdout[:10]), (LATER, "16_383", DAY)):
@@ -202,10 +202,11 @@ class ReleaseTest(Case):
         self.see("the build is in its metadata", f"Build: {tags[1]}\n" in (info / "WHEEL").read_text())
         text = (info / "METADATA").read_text()
         self.see("its text is the wheel's", "The library is inside" in text and "agefile[keys]" in text and "bindings/build" not in text, text)
-        inside = info.parent / "agefile/libage_c.so"
-        self.see("a soname of its own", b"libage_c.so.0" not in inside.read_bytes() and b"libage_c-agefile.so" in inside.read_bytes())
+        inside = info.parent / "agefile/libagefile.so"
+        self.see("a soname of its own", b"libagefile.so.2" not in inside.read_bytes() and b"libagefile-python.so" in inside.read_bytes())
+        self.see("what it claims", "over a proved C library; this module is tested, not proved" in text, text[:500])
         words = "import agefile; print(agefile.decrypt(agefile.encrypt(b'text', passphrase='pw', work=1), passphrase='pw'), agefile._library.C._name)"
-        ended = run(self.path("venv/bin/python"), "-c", words, env={**os.environ, "AGE_C_LIBRARY": ""}, cwd=self.room)
+        ended = run(self.path("venv/bin/python"), "-c", words, env={**os.environ, "AGEFILE_LIBRARY": ""}, cwd=self.room)
         self.see("the module works by it", ended.stdout.split() == ["b'text'", str(inside)], ended.stdout)
 
     def installed(self, root):

@@ -1,6 +1,5 @@
 """Tests that others wrote for files, over agefile: classes of CPython's own suites, with their modules replaced (a suite is left out where
 this Python hasn't it), and random calls, whose answers are compared with those of io.BufferedReader."""
-import functools
 import importlib
 import io
 import os
@@ -25,19 +24,18 @@ LEFT_OUT = {
     "their bytes are the same each time": r"test_write$|test_write_10|test_write_to_file|test_writelines|compresslevel$|correct_level",
     "flush seals no chunk; a closed file has its name yet": r"flush_flushes|openfile|fileobj|from_file",
     "levels, times and other attributes": r"metadata|mtime|issue112346|fileobj_mode|test_mode|getattr|on_closed|prepend|test_close$|test_fileno|limited",
-    "a place before the beginning is refused; None is any length; a writer has no peek and no seek": r"prestart|past_start|testreadlines?$|"
-    "peek_bad_args|seek_write",
+    "a place before the beginning is refused, one beyond the end is kept; None is any length; a writer has no peek and no seek":
+    r"prestart|past_start|postend|past_end|testreadlines?$|peek_bad_args|seek_write",
+    "io.BufferedReader, closed or not, isn't writable; its seek takes no keyword": r"writable|seek_whence",
 }
-# What only a file that can be sought in can be opened for.
-UNSEEKABLE = "seekable"
 
 
-def opened(any_place, name=None, mode="r", _=None, fileobj=None, **more):
+def opened(name=None, mode="r", _=None, fileobj=None, **more):
     """A file as their modules open it. (Tests look for fileno(), which agefile has not: what is below a file isn't its text.)"""
     more = {it: more[it] for it in ("encoding", "errors", "newline") if it in more}
-    keys = {"work": 1} if isinstance(mode, str) and mode[:1] in "wx" else {"random_access": any_place}
+    keys = {"work": 1} if isinstance(mode, str) and mode[:1] in "wx" else {}
     file = agefile.open(name if fileobj is None else fileobj, mode, passphrase="pw", **keys, **more)
-    file.fileno = lambda: file._file.fileno()
+    file.fileno = lambda: getattr(file, "_chunks", file)._file.fileno()
     return file
 
 
@@ -88,16 +86,14 @@ class SuitesTest(Case):
             self.skipTest("needs CPython's tests")
         self.addCleanup(os.chdir, os.getcwd())
         os.chdir(self.room)
-        for any_place in (False, True):
-            call = functools.partial(opened, any_place)
-            module = types.SimpleNamespace(open=call, compress=sealed, decompress=decrypted, **{file: call, "BadGzipFile": OSError})
-            replaced = {name: module, **{it: call for it in (file,) if hasattr(suite, it)}, **more(suite)}
-            with warnings.catch_warnings(), unittest.mock.patch.multiple(suite, **replaced):
-                warnings.simplefilter("ignore")
-                found, count = failures(suite, classes, attributes(suite))
-            left_out = re.compile("|".join([*LEFT_OUT.values(), *[UNSEEKABLE] * any_place]), re.I)
-            wrong = {it: why for it, why in found.items() if not left_out.search(it.split(" ")[0])}
-            self.see(f"test_{name}, at any place {any_place}: {count} tests", wrong == {} and count > len({it.split(" ")[0] for it in found}) + 25, wrong, found)
+        module = types.SimpleNamespace(open=opened, compress=sealed, decompress=decrypted, **{file: opened, "BadGzipFile": OSError})
+        replaced = {name: module, **{it: opened for it in (file,) if hasattr(suite, it)}, **more(suite)}
+        with warnings.catch_warnings(), unittest.mock.patch.multiple(suite, **replaced):
+            warnings.simplefilter("ignore")
+            found, count = failures(suite, classes, attributes(suite))
+        left_out = re.compile("|".join(LEFT_OUT.values()), re.I)
+        wrong = {it: why for it, why in found.items() if not left_out.search(it.split(" ")[0])}
+        self.see(f"test_{name}: {count} tests", wrong == {} and count > len({it.split(" ")[0] for it in found}) + 25, wrong, found)
 
     def test_bz2(self):
         def attributes(suite):
@@ -122,7 +118,7 @@ class SuitesTest(Case):
             before = rnd.choice([b"", b"", b"other"])
             under = io.BytesIO(before + sealed(text))
             under.seek(len(before))
-            file, other = agefile.open(under, passphrase="pw", random_access=rnd.random() < 0.5), io.BufferedReader(io.BytesIO(text))
+            file, other = agefile.open(under, passphrase="pw"), io.BufferedReader(io.BytesIO(text))
             for _ in range(60):
                 call, place = next_call(rnd, len(text)), other.tell()
                 got = answer(file, *call)

@@ -28,7 +28,7 @@ def pythons():
 
 def shared_in(tree):
     """What a module or a class of it holds that changes, and globals that functions assign to."""
-    makers = {"list", "dict", "set", "bytearray", "deque", "defaultdict", "Lock", "RLock", "local", "BytesIO", "Room", "Bytes"}
+    makers = {"list", "dict", "set", "bytearray", "deque", "defaultdict", "Lock", "RLock", "local", "BytesIO"}
     for body in (tree.body, *(it.body for it in ast.walk(tree) if isinstance(it, ast.ClassDef))):
         for it in body:
             value, target = getattr(it, "value", None), ast.unparse(getattr(it, "target", None) or getattr(it, "targets", [it])[0])
@@ -47,7 +47,7 @@ class ThreadsOfTheirOwnTest(Case):
         env = {**os.environ, "PYTHONDONTWRITEBYTECODE": "1"}
         runs = {}
         for version, it in pythons().items():
-            words = [it, TOP / "tests" / "threads.py", PYTHON, LIBRARY / "libage_c.so", str(SECONDS)]
+            words = [it, TOP / "tests" / "threads.py", PYTHON, LIBRARY / "libagefile.so", str(SECONDS)]
             runs[version] = subprocess.Popen(words, env=env, stdout=subprocess.PIPE, stderr=subprocess.STDOUT, text=True)
         for (major, minor), run in runs.items():
             said, _ = run.communicate(timeout=600)
@@ -55,9 +55,9 @@ class ThreadsOfTheirOwnTest(Case):
             self.see(f"threads of Python {major}.{minor}", run.returncode == 0 and count and int(count[1]) > 100, said[-2000:])
 
     def test_nothing_is_shared(self):
-        """No module and no class of agefile holds something that changes. (_writer counts forks: a child has one thread when it does.)"""
+        """No module and no class of agefile holds something that changes."""
         for file in sorted((PYTHON / "agefile").glob("*.py")):
-            found = {*shared_in(ast.parse(file.read_text()))} - {"_forks"}
+            found = {*shared_in(ast.parse(file.read_text()))}
             self.see(f"what {file.name} shares", found == set(), found)
 
     @needs("cc")

@@ -1,6 +1,5 @@
-"""Tries the decryption by several threads, in Python: the text at each length, the fault of the first chunk that has one, what fails or
-interrupts it, and what the program leaves of OUT; and `resume`. Then that by Dask, one of whose workers is killed."""
-import io
+"""Tries the decryption by several threads, in Python: the text at each length, the fault of the first chunk that has one, and what interrupts
+it. Then that by Dask, one of whose workers is killed."""
 import json
 import os
 import signal
@@ -40,80 +39,52 @@ class WorkersTest(BindingsCase):
                 bad = flipped(bad, begin + it * BLOCK + 5)
             for workers in (2, 5):
                 fault = fault_of(agefile.decrypt, bad, file_key=KEY, workers=workers)
-                self.see(f"damage in {chunks}, {workers} workers", (fault.number, fault.place) == (17, min(chunks)), fault)
+                self.see(f"damage in {chunks}, {workers} workers", (fault.number, fault.chunk) == (17, min(chunks)), fault)
         for what, given in (("cut", data[:-5]), ("cut between chunks", data[:begin + 4 * BLOCK]), ("longer", data + b"x")):
             self.see(f"a file that is {what}", isinstance(fault_of(agefile.decrypt, given, file_key=KEY, workers=4), agefile.AgeError))
 
-    def copied(self, data, source, put, workers=4):
-        with agefile.open(io.BytesIO(data), file_key=KEY, random_access=True) as first:
-            agefile._workers.copy_text(first, source, put, workers)
-
-    def test_earlier_faults(self):
-        """A part goes on if one after it failed before."""
-        length = 40 * 65_536
-        data = self.sealed(bytes(length))
-        begin = len(data) - length - 40 * 16
-        bad = flipped(flipped(data, begin + 18 * BLOCK), begin + 21 * BLOCK)
-        fault = fault_of(self.copied, bad, lambda: io.BytesIO(bad), lambda at, _: at == 0 and time.sleep(0.3), 2)
-        self.see("the fault of the first", (fault.number, fault.place) == (17, 18), fault)
-
-    def test_later_parts(self):
-        """A part stops if one before it failed."""
-        data, puts, first, has_begun = self.sealed(bytes(160 * 65_536)), [], [], threading.Event()
-
-        def put(at, _):
-            if at == 0:
-                first.append(threading.current_thread())
-                has_begun.set()
-                raise OSError("full")
-            puts.append(at)
-            has_begun.wait(60)
-            first[0].join()
-
-        self.see("a sink that fails", raised(OSError, self.copied, data, lambda: io.BytesIO(data), put, 2))
-        self.see("what is written then", len(puts) <= 2, puts)
-
-    def test_what_fails(self):
-        """A sink or a source that fails, a source that shrinks, and an interruption: an exception, and no thread goes on."""
-        data = self.sealed(plain_of(LENGTH))
-
-        def fails(*_):
-            raise OSError("full")
-
-        self.see("a sink that fails", raised(OSError, self.copied, data, lambda: io.BytesIO(data), fails))
-        self.see("a source that fails", raised(OSError, self.copied, data, fails, lambda *_: None))
-        self.see("a source that is shorter", raised(agefile.AgeError, self.copied, data, lambda: io.BytesIO(data[:-BLOCK]), lambda *_: None))
-        shorter = self.sealed(plain_of(LENGTH // 2))
-        with limited(60):
-            self.see("one that a writer with the key made", raised(agefile.Truncated, self.copied, data, lambda: io.BytesIO(shorter), lambda *_: None))
-        other = agefile.encrypt(plain_of(LENGTH), passphrase="pw", work=1)
-        self.see("a source that is another file", raised(agefile.WrongKey, self.copied, data, lambda: io.BytesIO(other), lambda *_: None))
-        all_put, wait = threading.Barrier(4), threading.Event()
-
-        def put(*_):
-            if all_put.wait() == 0:
-                os.kill(os.getpid(), signal.SIGUSR1)
-            wait.wait()
+    def test_an_interruption(self):
+        """A signal's handler that raises while threads decrypt: none of them goes on."""
+        data, begun = self.sealed(bytes(600 * 65_536)), threading.active_count()
 
         def interrupts(*_):
-            wait.set()
             raise KeyboardInterrupt
 
-        kept = signal.signal(signal.SIGUSR1, interrupts)
-        with limited(60):
-            self.see("an interruption", raised(KeyboardInterrupt, self.copied, data, lambda: io.BytesIO(data), put))
-        signal.signal(signal.SIGUSR1, kept)
-        left = [it for it in threading.enumerate() if it is not threading.current_thread() and it.is_alive()]
-        self.see("threads that go on", left == [], left)
+        kept = signal.signal(signal.SIGALRM, interrupts)
+        try:
+            found = []
+            for seconds in (0.001, 0.01, 0.03):
+                signal.setitimer(signal.ITIMER_REAL, seconds)
+                found.append(raised(KeyboardInterrupt, agefile.decrypt, data, file_key=KEY, workers=4))
+                signal.setitimer(signal.ITIMER_REAL, 0)
+        finally:
+            signal.setitimer(signal.ITIMER_REAL, 0)
+            signal.signal(signal.SIGALRM, kept)
+        self.see("interruptions", any(found), found)
+        limit = time.monotonic() + 60
+        while threading.active_count() > begun and time.monotonic() < limit:
+            time.sleep(0.01)
+        self.see("threads that go on", threading.active_count() == begun)
+
+    def test_ends_that_move(self):
+        """A full chunk that is the last of a shorter file, and one that isn't the last at the end: a fault, by any workers."""
+        longer, shorter = self.sealed(plain_of(4 * 65_536)), self.sealed(plain_of(2 * 65_536))
+        begin = len(longer) - 4 * BLOCK
+        for what, data, number, chunk in (
+            ("a last chunk in the middle", shorter + longer[begin + 2 * BLOCK:], 21, None), ("no last chunk", longer[:begin + 3 * BLOCK], 20, 3),
+        ):
+            for workers in (1, 2, 7):
+                fault = fault_of(agefile.decrypt, data, file_key=KEY, workers=workers)
+                self.see(f"{what}, {workers} workers", (fault.number, fault.chunk) == (number, chunk), fault)
 
 
 class DaskTest(BindingsCase):
-    """The program for several machines in bindings/README.md, with a scheduler and two workers on loopback."""
+    """The program for several machines in docs/RECIPES.md, with a scheduler and two workers on loopback."""
 
     # What happens in the middle of a part: the first time its worker is killed; once there is another file, that takes the place of what is
     # read.
-    WRITES = "            out.write(file.read(min(PIECE, end - at)))\n"
-    HAPPENS = "            if at == 8 << 17 and not os.path.exists('died'):\n                open('died', 'w').close()\n" \
+    WRITES = "            out.write(piece)\n"
+    HAPPENS = "            if out.tell() == (8 << 17) + (1 << 16) and not os.path.exists('died'):\n                open('died', 'w').close()\n" \
         "                os.kill(os.getpid(), 9)\n            if os.path.exists('other.age'):\n                os.replace('other.age', NAME)\n"
 
     def setUp(self):
@@ -121,8 +92,8 @@ class DaskTest(BindingsCase):
         self.python = python_with("distributed")
         if self.python is None:
             self.skipTest("needs Dask")
-        self.env = {**os.environ, "PYTHONPATH": str(PYTHON), "PYTHONDONTWRITEBYTECODE": "1", "AGE_C_LIBRARY": str(LIBRARY / "libage_c.so")}
-        program = sample_of("python", 4).replace("1 << 30, 4 << 20", "1 << 17, 1 << 16").replace(self.WRITES, self.WRITES + self.HAPPENS)
+        self.env = {**os.environ, "PYTHONPATH": str(PYTHON), "PYTHONDONTWRITEBYTECODE": "1", "AGEFILE_LIBRARY": str(LIBRARY / "libagefile.so")}
+        program = sample_of("python", page="docs/RECIPES.md").replace("1 << 30, 4 << 20", "1 << 17, 1 << 16").replace(self.WRITES, self.WRITES + self.HAPPENS)
         self.write("restore.py", program.encode())
         self.begin("scheduler", "--port", "0", "--scheduler-file", "scheduler.json")
         with limited(60):

@@ -18,7 +18,7 @@ import time
 import warnings
 
 sys.path.insert(0, sys.argv[1])
-os.environ["AGE_C_LIBRARY"] = sys.argv[2]
+os.environ["AGEFILE_LIBRARY"] = sys.argv[2]
 import agefile
 
 TEXT = random.Random(1).getrandbits(8 * 300_000).to_bytes(300_000, "big")
@@ -41,16 +41,14 @@ def sealed(text):
 
 
 WHOLE = sealed(TEXT)
-with agefile.open(io.BytesIO(WHOLE), passphrase="pw") as opened:
-    FILE_KEY = bytes(opened._state.file_key)
+KEY = {"passphrase": "pw"}
 CUT = WHOLE[:-100_000]
 kept = []
 
 
 def reads(rnd):
     """Reads and seeks, from the beginning or at any place."""
-    any_place = rnd.random() < 0.5
-    with agefile.open(io.BytesIO(WHOLE), file_key=FILE_KEY, random_access=any_place) as file:
+    with agefile.open(io.BytesIO(WHOLE), **KEY) as file:
         for _ in range(6):
             place, size = rnd.randrange(len(TEXT)), rnd.randrange(150_000)
             file.seek(place)
@@ -61,7 +59,7 @@ def reads(rnd):
 
 
 def decrypts(_):
-    return "" if agefile.decrypt(WHOLE, file_key=FILE_KEY) == TEXT else "decrypt"
+    return "" if agefile.decrypt(WHOLE, **KEY) == TEXT else "decrypt"
 
 
 def encrypts(_):
@@ -93,23 +91,21 @@ def lines(_):
 
 def salvages(_):
     out = io.BytesIO()
-    found = agefile.salvage(io.BytesIO(CUT), out, file_key=FILE_KEY)
+    found = agefile.salvage(io.BytesIO(CUT), out, **KEY)
     whole = len(CUT) // 65_552 * 65_536
     return "" if not found.ends and out.getvalue()[:whole] == TEXT[:whole] else "salvage"
 
 
 def keys(_):
-    """A file for a recipient: one that the module writes needs `cryptography`, which is quick; openssl isn't."""
-    if HAS_CRYPTOGRAPHY:
-        return "" if agefile.decrypt(agefile.encrypt(TEXT, recipient=RECIPIENT), identity=KEYS) == TEXT else "a file for a recipient"
-    if random.random() < 0.9:
+    """A file for a recipient, which needs `cryptography`."""
+    if not HAS_CRYPTOGRAPHY:
         return ""
-    return "" if agefile.decrypt((AGE / "one.age").read_bytes(), identity=KEYS) == b"hello, recipient\n" else "a file of age"
+    return "" if agefile.decrypt(agefile.encrypt(TEXT, recipient=RECIPIENT), identity=KEYS) == TEXT else "a file for a recipient"
 
 
 def forgets(rnd):
     """A reader and a writer that nobody closes."""
-    file, size = agefile.open(io.BytesIO(WHOLE), file_key=FILE_KEY), rnd.randrange(200_000)
+    file, size = agefile.open(io.BytesIO(WHOLE), **KEY), rnd.randrange(200_000)
     agefile.open(io.BytesIO(), "wb", passphrase="pw", work=1).write(TEXT)
     ring = [file]
     ring.append(ring)  # (so that only the collector finds them)
@@ -118,9 +114,9 @@ def forgets(rnd):
 
 def faults(_):
     try:
-        agefile.decrypt(CUT, file_key=FILE_KEY)
+        agefile.decrypt(CUT, **KEY)
     except agefile.NotWhole as fault:
-        return "" if fault.place == 3 else f"a cut file: {fault}"
+        return "" if fault.chunk == 3 else f"a cut file: {fault}"
     return "a cut file that is whole"
 
 
@@ -156,7 +152,7 @@ class Run:
 
 def interrupted(rnd, armed):
     """A file of the main thread, whose calls a signal interrupts: none of its bytes is lost or read twice."""
-    file, got = agefile.open(io.BytesIO(WHOLE), file_key=FILE_KEY), 0
+    file, got = agefile.open(io.BytesIO(WHOLE), **KEY), 0
     while True:
         piece = None
         try:
@@ -164,10 +160,10 @@ def interrupted(rnd, armed):
             piece = file.read(rnd.choice((100, 70_000)))
             armed.clear()
         except Interruption:
-            if piece is None and file.tell() == got:  # (else it came when the read had returned)
-                file.seek(got)
-                continue
-            return ""
+            if piece is not None:  # it came when the read had returned
+                return ""
+            file.seek(got)
+            continue
         if piece != TEXT[got:got + len(piece)] or not piece and got < len(TEXT):
             return "an interrupted read"
         if not piece:

@@ -5,13 +5,10 @@ import builtins
 import os
 from typing import Any, NamedTuple
 
-from ._arguments import KEY
-from ._library import Bytes, C, ReaderState
-from ._reader import header_of
-from ._source import can_seek
+from ._coders import Decoder, key_to_read
+from ._library import CHUNK, MAC_MISMATCH
+from ._source import can_seek, some
 from ._stanzas import told_of
-
-MAC_MISMATCH = 14
 
 
 class Stanza(NamedTuple):
@@ -29,26 +26,31 @@ class Inspection(NamedTuple):
 
 def inspect(file: Any) -> Inspection:
     """What the header of an age file (a path or a binary file object) says. A file object is left where it was, if it is seekable.
-    A header that isn't well-formed is an AgeError, as it is for `open`."""
+    A header that isn't well-formed is an AgeError, as it is for `open`.
+
+    >>> import io
+    >>> agefile.inspect(io.BytesIO(agefile.encrypt(b"text", passphrase="pw", work=1))).work
+    1"""
     if isinstance(file, (str, bytes, os.PathLike)):
         with builtins.open(file, "rb", buffering=0) as under:
-            return _inspected(bytes(header_of(under, _parsed, False, ReaderState())))
+            return _inspected(under)
     place = file.tell() if can_seek(file) else None
     try:
-        return _inspected(bytes(header_of(file, _parsed, False, ReaderState())))
+        return _inspected(file)
     finally:
         if place is not None:
             file.seek(place)
 
 
-def _parsed(front: Any, _: ReaderState) -> int:
-    """What the library says about a header, except that no key was given."""
-    answer: int = C.age_c_open_key(*Bytes(front).given, *Bytes(KEY).given, ReaderState())
-    return 0 if answer == MAC_MISMATCH else answer
-
-
-def _inspected(front: bytes) -> Inspection:
-    """The same for the bytes that a file with a well-formed header begins with."""
-    told = told_of(front)
+def _inspected(file: Any) -> Inspection:
+    """The same of a file object. A random file key opens nothing, but the library looks at the whole header before it says so."""
+    decoder, front, answer, piece = Decoder(key_to_read(None, os.urandom(16), None, None, 22)), bytearray(), 0, b" "
+    while answer == 0 and piece:
+        piece = some(file, CHUNK)
+        front += piece
+        answer, _ = decoder.decode(piece) if piece else decoder.end()
+    if answer != MAC_MISMATCH:
+        raise decoder.fault(answer)
+    told = told_of(bytes(front))
     words = [args.decode().split(" ") for args, _ in told.stanzas]
     return Inspection([Stanza(it[0], it[1:]) for it in words], told.work or None, told.size)

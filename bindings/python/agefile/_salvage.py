@@ -6,12 +6,12 @@ import os
 from typing import Any, Callable, Iterable, Literal, NamedTuple
 
 from ._arguments import Buffer
-from ._library import BLOCK, CHUNK, C, ReaderState, Room, fault_of, wipe
+from ._coders import Decoder, key_to_read
+from ._library import BLOCK, CHUNK, TRUNCATED, address
 from ._output import is_one, new_name, opened_alone, reach_disk
-from ._reader import header_of, opening_of
+from ._reader import header_of
 from ._source import can_seek, end_of, filled, put, read_by
 
-LAST_SEEN = 2  # the reader's state after the last block, if that is whole
 TAG = 16
 
 
@@ -62,7 +62,7 @@ class _Out:
 class _Blocks:
     """The blocks of a file, in their order. One that can't be read is lost, if the file is seekable."""
 
-    def __init__(self, file: Any, rest: bytearray) -> None:
+    def __init__(self, file: Any, rest: bytes) -> None:
         self._file, self._rest = file, rest
         self._begin = self._end = -1
         if can_seek(file):
@@ -74,7 +74,7 @@ class _Blocks:
         if self._begin < 0:
             have = min(len(self._rest), BLOCK)
             room[:have] = self._rest[:have]
-            del self._rest[:have]
+            self._rest = self._rest[have:]
             return filled(self._file, room, have), True
         at = self._begin + number * BLOCK
         have = max(0, min(BLOCK, self._end - at))
@@ -83,17 +83,6 @@ class _Blocks:
             return filled(self._file, room[:have]), True  # (a file that ends sooner than it said ends there)
         except OSError:
             return have, False
-
-
-def _opened(state: ReaderState, room: Room, number: int, have: int) -> bytes | None:
-    """The plaintext of a block, or of what is left at the end, if it opens at that place."""
-    answer = C.age_c_seek(state, number)
-    if answer != 0:
-        raise fault_of(answer)
-    call = C.age_c_block if have == BLOCK else C.age_c_end
-    if call(state, room.block.place, have, *room.text.given, room.count) != 0:
-        return None
-    return bytes(room.text.view[:room.count.value])
 
 
 def _see_apart(file: Any, out: Any) -> None:
@@ -113,19 +102,21 @@ def salvage(file: Any, out: Any, *, passphrase: str | Buffer | None = None, file
     """Writes each chunk of a damaged or truncated age file that still opens, at its place, to a path or a binary file object, and zeros
     for each chunk that doesn't. What is written is authentic: no tag is forged, and no chunk is in another one's place. The header must
     be complete. `out` isn't touched before a chunk has opened: a path is opened and locked then, in mode "xb" only if it doesn't exist by
-    then. The file that is read is refused as `out`. `progress` is told the number of chunks after each."""
+    then. The file that is read is refused as `out`. `progress` is told the number of chunks after each.
+
+    >>> import io
+    >>> data = agefile.encrypt(bytes(100_000), passphrase="pw", work=1)
+    >>> agefile.salvage(io.BytesIO(data[:-1]), io.BytesIO(), passphrase="pw")
+    Salvage(size=99999, lost=[(65536, 99999)], ends=False, followed=False)"""
     if mode not in ("wb", "xb"):
         raise ValueError(f"mode is 'wb' or 'xb', not {mode!r}")
-    opened = opening_of(passphrase, file_key, shared, identity, max_work)
+    decoder = Decoder(key_to_read(passphrase, file_key, shared, identity, max_work))
     under = builtins.open(file, "rb", buffering=0) if isinstance(file, (str, bytes, os.PathLike)) else file
-    to, room, state = _Out(out, mode == "xb"), Room(), ReaderState()
+    to = _Out(out, mode == "xb")
     try:
         _see_apart(under, out)
-        blocks = _Blocks(under, header_of(under, opened, file_key is not None, state))
-        return _saved(blocks, state, room, to, progress or (lambda _: None))
+        return _saved(_Blocks(under, header_of(under, decoder)[1]), decoder, to, progress or (lambda _: None))
     finally:
-        wipe(state)
-        room.wipe()
         try:
             to.close()
         finally:
@@ -133,17 +124,17 @@ def salvage(file: Any, out: Any, *, passphrase: str | Buffer | None = None, file
                 under.close()
 
 
-def _saved(blocks: _Blocks, state: ReaderState, room: Room, out: _Out, progress: Callable[[int], None]) -> Salvage:
+def _saved(blocks: _Blocks, decoder: Decoder, out: _Out, progress: Callable[[int], None]) -> Salvage:
     lost: list[tuple[int, int]] = []
     number, size, ends, have, opens = 0, 0, False, BLOCK, False
+    block, text = memoryview(bytearray(BLOCK)), memoryview(bytearray(CHUNK))
     while have == BLOCK and not ends:
-        have, is_there = blocks.read(number, room.block.view)
-        text = _opened(state, room, number, have) if is_there else None
+        have, is_there = blocks.read(number, block)
+        answer, count, is_last = decoder.open_at(number, address(block), have, address(text)) if is_there else (TRUNCATED, 0, False)
         at = number * CHUNK
-        if text is not None:
-            out.put(at, text)
-            opens, size = True, at + len(text)
-            ends = have < BLOCK or state.state == LAST_SEEN
+        if answer == 0:
+            out.put(at, bytes(text[:count]))
+            opens, size, ends = True, at + count, is_last
         elif have > TAG or have == BLOCK:
             size = at + have - TAG
             lost[-1:] = [(lost[-1][0], size)] if lost and lost[-1][1] == at else [*lost[-1:], (at, size)]
@@ -152,4 +143,4 @@ def _saved(blocks: _Blocks, state: ReaderState, room: Room, out: _Out, progress:
     if not opens:
         return Salvage(0, [], False, False)
     out.zeros(size)
-    return Salvage(size, lost, ends, ends and have == BLOCK and blocks.read(number, room.block.view)[0] > 0)
+    return Salvage(size, lost, ends, ends and have == BLOCK and blocks.read(number, block)[0] > 0)

@@ -21,39 +21,50 @@ def wait(file: Any, event: int = select.POLLIN) -> None:
     poll.poll()
 
 
-def read_by(call: Any, word: Any) -> Any:
+def read_by(call: Any, *words: Any) -> Any:
     """What a call of a source returns. A source that was truncated itself, such as a gzip file, raises EOFError, and one that passes on what an
     iterator gives may raise StopIteration. Our caller, a `for` among them, would take either for the end of the text."""
     try:
-        return call(word)
+        return call(*words)
     except EOFError as fault:
         raise OSError(f"what the file is read from was cut off: {fault}") from fault
     except StopIteration as fault:
         raise OSError("what the file is read from raised StopIteration: it has to return b'' at its end") from fault
 
 
-def some(file: Any, most: int) -> Any:
-    """At most this many bytes. b"" is the end, and nothing else is."""
-    while (piece := checked(read_by(file.read, most), most)) is None:
+def some(file: Any, most: int) -> bytes:
+    """As many bytes as there are, at most this many. b"" is the end, and nothing else is."""
+    read1 = getattr(file, "read1", None)
+    piece = None if read1 is None else _checked(read_by(read1, most), most)
+    if piece:
+        return piece
+    while (piece := _checked(read_by(file.read, most), most)) is None:  # (if read1 finds none, read() says whether it is the end)
         wait(file)
     return piece
 
 
-def checked(piece: Any, most: int) -> Any:
+def _checked(piece: Any, most: int) -> bytes | None:
     """What a read returned, if that is allowed: None, or at most this many bytes."""
     if piece is None:
         return None
     try:
-        length = memoryview(piece).nbytes
+        held = piece if type(piece) is bytes else bytes(memoryview(piece))
     except TypeError:
         getattr(piece, "close", lambda: None)()  # a coroutine that nobody awaits would warn of itself
         raise TypeError(f"the file's read() has to return bytes, not {type(piece).__name__}") from None
-    if length > most:
-        raise OSError(f"the file's read() returned {length} bytes, and was asked for {most}")
-    return piece
+    if len(held) > most:
+        raise OSError(f"the file's read() returned {len(held)} bytes, and was asked for {most}")
+    return held
 
 
-def some_into(file: Any, room: memoryview) -> int:
+def filled(file: Any, room: memoryview, have: int = 0) -> int:
+    """Reads until the room is full, or the file ends; returns how many bytes there are then, `have` included."""
+    while have < len(room) and (count := _some_into(file, room[have:])):
+        have += count
+    return have
+
+
+def _some_into(file: Any, room: memoryview) -> int:
     """How many bytes were read into that room: 0 only at the end."""
     into = getattr(file, "readinto", None)
     if into is None:
@@ -78,16 +89,9 @@ def put(file: Any, out: bytes) -> None:
             raise OSError(f"the file's write() returned {count}, and was given {len(out)} bytes")
 
 
-def filled(file: Any, room: memoryview, have: int = 0) -> int:
-    """Reads until the room is full, or the file ends; returns how many bytes there are then, `have` included."""
-    while have < len(room) and (count := some_into(file, room[have:])):
-        have += count
-    return have
-
-
 def end_of(file: Any) -> int:
     """Where a file ends, which stands there then. (A gzip file is read to its end for that.)"""
-    read_by(lambda whence: file.seek(0, whence), io.SEEK_END)
+    read_by(file.seek, 0, io.SEEK_END)
     end: int = file.tell()
     return end
 

@@ -1,11 +1,10 @@
 """What a header says before it is opened. Nobody has confirmed it: whoever can change the file can change that."""
 from __future__ import annotations
 
-import base64
 import ctypes
 from typing import NamedTuple
 
-from ._library import Bytes, C, StanzaPlace, fault_of
+from ._library import C, StanzaPlace, fault_of, written
 
 
 class Told(NamedTuple):
@@ -17,16 +16,12 @@ class Told(NamedTuple):
 
 def told_of(front: bytes) -> Told:
     """What the header says that these bytes begin with."""
-    held, size, count, work = Bytes(front), ctypes.c_size_t(), ctypes.c_size_t(), ctypes.c_uint32()
-    if (answer := C.age_c_header(*held.given, size, count, work)) != 0:
+    size, count, work = ctypes.c_size_t(), ctypes.c_size_t(), ctypes.c_uint32()
+    if (answer := C.agefile_header(front, len(front), size, count, work)) != 0:
         raise fault_of(answer)
-    places, bodies, written = (StanzaPlace * count.value)(), Bytes(len(front)), ctypes.c_size_t()
-    if (answer := C.age_c_stanzas(*held.given, places, len(places), count, *bodies.given, written)) != 0:
+    places = (StanzaPlace * count.value)()
+    answer, bodies = written(size.value, C.agefile_stanzas, front, len(front), places, len(places), count)
+    if answer != 0:
         raise fault_of(answer)
     args = (front[it.args_at:it.args_at + it.args_len] for it in places)
-    return Told(size.value, work.value, [*zip(args, (bytes(bodies.view[it.body_at:it.body_at + it.body_len]) for it in places))])
-
-
-def base64_of(held: bytes) -> bytes:
-    """The base64 of 32 bytes, without padding: less than a line of 64."""
-    return base64.b64encode(held).rstrip(b"=")
+    return Told(size.value, work.value, [*zip(args, (bodies[it.body_at:it.body_at + it.body_len] for it in places))])

@@ -1,86 +1,129 @@
 """The writer of an age file."""
 from __future__ import annotations
 
-import ctypes
-import os
+import contextlib
+import io
+import threading
 import warnings
 from types import TracebackType
-from typing import Any, NoReturn
+from typing import TYPE_CHECKING, Any, BinaryIO
 
-from ._arguments import secret
-from ._calls import Inside, OneCall
-from ._library import BLOCK, CHUNK, SEAL_FRONT, Bytes, C, WriteStreamState, fault_of, wipe
-from ._reader import Buffered
+from ._arguments import raw
+from ._coders import Alone
+from ._push import Encryptor
 from ._source import put
 
-Begun = tuple[WriteStreamState, bytes]
+if TYPE_CHECKING:
+    class Buffered(Alone, io.BufferedIOBase, BinaryIO):  # type: ignore[misc]
+        """So that what asks for a BinaryIO takes it."""
+else:
+    class Buffered(Alone, io.BufferedIOBase):
+        pass
 
-GATHERED = 16_384  # bytes of short writes that are sealed together
-
-_forks = 0  # how often a process before this one was forked
-
-
-def _forked() -> None:
-    global _forks
-    _forks += 1
-
-
-os.register_at_fork(after_in_child=_forked)
-
-
-def begun(call: Any, given: bytes, random: bytes, *work: int) -> Begun:
-    """A stream, and what comes before the payload, by a call that begins a file with these random bytes."""
-    stream, out, written = WriteStreamState(), Bytes(len(given) + SEAL_FRONT), ctypes.c_size_t()
-    held, taken = Bytes(given), Bytes(random)
-    answer = call(*held.given, *work, *taken.given, *out.given, written, stream.writer)
-    wipe(held.place, taken.place)
-    if answer != 0:
-        raise fault_of(answer)
-    return stream, bytes(out.view[:written.value])
-
-
-def begun_under(passphrase: Any, work: int) -> Begun:
-    """The same under a passphrase."""
-    return begun(C.age_c_seal_passphrase, secret(passphrase), os.urandom(48), work)
+GATHERED = 16_384  # bytes of short writes that are encrypted together
+PIECE = 1 << 20  # bytes that are encrypted at once
+UNWHOLE = "a write or close() failed or was interrupted, or is going on: the file isn't whole, for all that is known"
 
 
 class AgeWriter(Buffered):
-    """An age file that is being written. It is complete once close() has returned; abandon() leaves one that every reader refuses.
-    The file object that is written to gets bytes, which it may keep. In a forked child every call is refused: the file is its
-    parent's."""
+    """An age file that is being written. It is complete once close() has returned; abandon() leaves one that every reader refuses, and so does
+    an exception that leaves its `with`. The file object that is written to gets bytes, which it may keep. In a forked child every call is
+    refused: the file is its parent's.
 
-    def __init__(self, file: Any, begun: Begun, owned: bool = False) -> None:
+    >>> import io
+    >>> with agefile.open(out := io.BytesIO(), "wb", passphrase="pw", work=1) as file:
+    ...     file.write(b"text")
+    4
+    >>> agefile.decrypt(out.getvalue(), passphrase="pw")
+    b'text'"""
+
+    def __init__(self, file: Any, made: Encryptor, owned: bool = False) -> None:
         super().__init__()
-        self._file, self._owned, self._calls, self._forks = file, owned, OneCall(), _forks
-        stream, front = begun
-        self._stream: Any = stream
-        self._block, self._written, self._taken = Bytes(BLOCK), ctypes.c_size_t(), ctypes.c_size_t()
-        self._count = 0
-        self._gathered = bytearray()  # short writes that the stream hasn't got yet
-        self._failed = False
-        self._unfinished = False  # whether close() failed
-        self._over = False
-        put(self._file, front)
-        self._begun = True
+        self._file, self._made, self._owned, self._lock = file, made, owned, threading.RLock()
+        self._short, self._count = bytearray(), 0  # short writes that the encryptor hasn't got yet, and the bytes that were written
+        self._is_spoiled = False  # whether part of the text is lost
+        self._is_left = False  # whether close() of the base has nothing to pass on
+        put(file, made.update(b""))
+        self._is_begun = True
+
+    def _see_open(self) -> None:
+        self._see_own()
+        if self.closed:
+            raise ValueError("the file is closed")
 
     def _change(self) -> None:
         """Begins what changes the file: until it is done, or if an exception ends it, the file can't be finished."""
-        if self._failed:
-            raise ValueError("a block couldn't be written: the file isn't whole")
-        self._failed = True
+        if self._is_spoiled:
+            raise OSError(UNWHOLE)
+        self._is_spoiled = True
 
-    def _put(self, call: Any, *words: Any) -> None:
-        """Makes a call that seals, and passes on what it wrote."""
-        answer = call(self._stream, *words, *self._block.given, self._written)
-        if answer != 0:
-            raise fault_of(answer)
-        put(self._file, bytes(self._block.view[:self._written.value]))
+    def spoil(self) -> None:
+        """Part of the text is lost: the file can't be finished."""
+        self._is_spoiled = True
 
-    def _see_open(self) -> None:
-        if self._forks != _forks:
-            raise ValueError("the file belongs to the process that this one was forked from")
-        if self.closed:
-            raise ValueError("the file is closed")
+    def write(self, data: Any, /) -> int:
+        held = data if type(data) is bytes else raw("data", data)
+        with self._lock:
+            self._see_open()
+            self._change()
+            if len(self._short) + len(held) < GATHERED:
+                self._short += held
+            else:
+                self._pass_short()
+                for at in range(0, len(held), PIECE):
+                    put(self._file, self._made.update(held[at:at + PIECE]))
+            self._count += len(held)
+            self._is_spoiled = False
+            return len(held)
+
+    def _pass_short(self) -> None:
+        put(self._file, self._made.update(bytes(self._short)))
+        self._short.clear()
+
+    def flush(self) -> None:
+        """Passes on what is encrypted; a chunk that isn't full is kept."""
+        if self._is_left and not self.closed:  # close() of the base calls it
+            return
+        with self._lock:
+            self._see_open()
+            self._pass_on()
+
+    def _pass_on(self) -> None:
+        if hasattr(self._file, "flush") and not getattr(self._file, "closed", False):
+            self._file.flush()
+
+    def close(self) -> None:
+        """Encrypts the last chunk, so that the file is complete. If that fails, so does each later close()."""
+        with self._lock:
+            if self.closed:
+                if self._is_spoiled:
+                    raise OSError(UNWHOLE)
+                return
+            self._see_own()
+            try:
+                self._change()
+                self._pass_short()
+                put(self._file, self._made.finish())
+                self._pass_on()
+            finally:
+                self._leave()
+            self._is_spoiled = False
+
+    def abandon(self) -> None:
+        """Closes without the last chunk."""
+        with self._lock:
+            if not self.closed:
+                self._leave()
+
+    def _leave(self) -> None:
+        """Forgets the key, and closes the file if `open` opened it."""
+        self._made.close()
+        self._is_left = True  # so that flush(), which close() of the base calls, does no more
+        try:
+            super().close()
+        finally:
+            if self._owned:
+                self._file.close()
 
     def writable(self) -> bool:
         self._see_open()
@@ -92,6 +135,10 @@ class AgeWriter(Buffered):
 
     seekable = readable
 
+    def tell(self) -> int:
+        self._see_open()
+        return self._count
+
     @property
     def name(self) -> Any:
         """The name of the file that is written, if it has one."""
@@ -101,112 +148,6 @@ class AgeWriter(Buffered):
     def mode(self) -> str:
         return "wb"
 
-    def __reduce_ex__(self, _: Any) -> NoReturn:
-        raise TypeError(f"cannot pickle or copy an open {type(self).__name__}")
-
-    def write(self, data: Any, /) -> int:
-        if type(data) is not bytes:
-            data = memoryview(data).cast("B")
-        try:
-            return self._calls.make(self._add, data)
-        except Inside:
-            raise
-        except BaseException:
-            self._failed = self._failed or not self.closed
-            raise
-
-    def _add(self, data: Any) -> int:
-        self._see_open()
-        self._change()
-        self._count += len(data)
-        if len(self._gathered) + len(data) < GATHERED:
-            self._gathered += data
-        else:
-            self._pass_gathered()
-            self._feed(data)
-        self._failed = False
-        return len(data)
-
-    def _pass_gathered(self) -> None:
-        held = bytes(self._gathered)
-        self._forget_gathered()
-        self._feed(held)
-
-    def _forget_gathered(self) -> None:
-        self._gathered[:] = bytes(len(self._gathered))
-        self._gathered.clear()
-
-    def _feed(self, data: Any) -> None:
-        """Gives the stream bytes, and passes on the blocks that it seals."""
-        left = memoryview(data)
-        while left:
-            piece = bytes(left[:CHUNK])
-            self._put(C.age_c_feed_text, piece, len(piece), self._taken)
-            left = left[self._taken.value:]
-
-    def tell(self) -> int:
-        self._see_open()
-        return self._count
-
-    def flush(self) -> None:
-        """Passes on what is sealed; a chunk that isn't full is kept."""
-        if self._over and not self.closed:  # it is being closed
-            return
-        self._see_open()
-        self._calls.make(self._pass_on)
-
-    def _pass_on(self) -> None:
-        if hasattr(self._file, "flush") and not getattr(self._file, "closed", False):
-            self._file.flush()
-
-    def close(self) -> None:
-        """Seals the last chunk, so that the file is complete. If that fails, so does each later close()."""
-        self._calls.make(self._finish)
-
-    def _finish(self) -> None:
-        if self._unfinished:
-            self._leave()
-            raise ValueError("close() failed or was interrupted before: the file isn't whole, for all that is known")
-        if self.closed:
-            return
-        self._see_open()
-        try:
-            self._unfinished = True
-            self._change()
-            self._pass_gathered()
-            self._put(C.age_c_finish_text)
-        finally:
-            self._leave()
-        self._unfinished = False
-
-    def spoil(self) -> None:
-        """Part of the plaintext is lost: the file can't be finished."""
-        self._failed = True
-
-    def abandon(self) -> None:
-        """Closes without the last chunk."""
-        self._calls.make(self._leave)
-
-    def _leave(self, flushes: bool = True) -> None:
-        if self.closed:
-            return
-        self._failed = True  # an exception of a signal's handler may come anywhere below: then nothing is sealed any more
-        if self._stream is not None:
-            wipe(self._stream)
-            self._stream = None
-        self._block = Bytes(b"")
-        self._forget_gathered()
-        try:
-            if self._forks == _forks and flushes:
-                self._pass_on()
-        finally:
-            try:
-                if self._owned:
-                    self._file.close()
-            finally:
-                self._over = True  # so that flush(), which close() of the base calls, does no more
-                super().close()
-
     def __exit__(self, kind: type[BaseException] | None, value: BaseException | None, trace: TracebackType | None) -> None:
         if kind is None:
             self.close()
@@ -214,10 +155,56 @@ class AgeWriter(Buffered):
             self.abandon()
 
     def __del__(self) -> None:
-        # A writer that was never closed, so perhaps after an exception, isn't finished; in a forked child it is its parent's. The collector
-        # may come while another call works on the file below: it isn't touched.
-        if hasattr(self, "_begun") and not self.closed and self._forks == _forks:
+        # A writer that was never closed, so perhaps after an exception, isn't finished.
+        if hasattr(self, "_is_begun") and not self.closed:
             try:
                 warnings.warn("an age file that was never closed isn't whole", ResourceWarning, source=self)
             finally:
-                self._calls.make(self._leave, False)
+                self.abandon()
+
+
+class TextWriter(io.TextIOWrapper):
+    """A text that is written. An exception that comes out of a write, or leaves its `with`, leaves a file that every reader refuses:
+    io.TextIOWrapper loses then what it held, even from earlier writes, and its close() would complete the file."""
+
+    def __init__(self, file: AgeWriter, encoding: str | None, errors: str | None, newline: str | None) -> None:
+        super().__init__(file, encoding, errors, newline)
+        self._under = file
+
+    def write(self, text: str, /) -> int:
+        try:
+            return super().write(text)
+        except (TypeError, UnicodeError):  # of this text alone
+            raise
+        except BaseException:
+            self._under.spoil()
+            raise
+
+    def flush(self) -> None:
+        try:
+            super().flush()
+        except BaseException:
+            self._under.spoil()
+            raise
+
+    def close(self) -> None:
+        if not self._under.closed:
+            try:
+                self.flush()
+            except BaseException:
+                self._under.abandon()
+                raise
+            super().close()
+        self._under.close()  # which says so each time if the file isn't whole
+
+    def __exit__(self, kind: type[BaseException] | None, value: BaseException | None, trace: TracebackType | None) -> None:
+        if kind is None:
+            self.close()
+        else:
+            self._under.abandon()
+
+    def __del__(self) -> None:
+        # what was never closed isn't finished: io.TextIOWrapper would close it
+        with contextlib.suppress(ValueError):  # it was detached, or never there
+            if self.buffer is self._under:
+                self._under.__del__()

@@ -20,15 +20,14 @@ if os.path.isdir(PLACE):  # (an archive of the program has no library beside it)
     sys.path.insert(1, os.path.dirname(os.path.dirname(PLACE)))
 try:  # (all that is taken of the module, and not in its documentation, is named here)
     import agefile
-    from agefile._keys import WRONG_KEY, identities_of, recipient_of, tried
-    from agefile._library import BLOCK, CHUNK, FRONT_MAX, MORE, ReaderState, wipe
+    from agefile._coders import shared_secret as secret_of_header
+    from agefile._keys import identities_of, recipient_of
+    from agefile._library import BLOCK, CHUNK, NO_MATCH, WRONG_KEY
     from agefile._output import opened_alone, reach_disk, replacing
-    from agefile._reader import may_open
 except ImportError as fault:
     raise Fault(f"this needs the Python module agefile: pip install 'agefile[keys]', or Debian's python3-agefile of the release ({fault})") from None
 
 KEYS_MAX = 1 << 24  # bytes of a file of keys or of recipients, as for age
-NO_MATCH = 12
 
 
 def by_library(asked: Request) -> int:
@@ -46,7 +45,7 @@ def by_library(asked: Request) -> int:
     except FailedRead as fault:
         raise unreadable(shown(asked.source, "input"), fault) from None
     except agefile.AgeError as fault:
-        chunk = "" if fault.place is None else f" chunk {fault.place}"
+        chunk = "" if fault.chunk is None else f" chunk {fault.chunk}"
         raise Fault(f"{fault.number} {fault.name}{chunk}", f"{shown(asked.source, 'input')}: {fault}") from None
 
 
@@ -152,14 +151,7 @@ def recipients_of(asked: Request) -> list[str]:
 def shared_secret(asked: Request, source: Source) -> bytes:
     """The shared secret of the stanza of IN that a key opens, and its recipient, as age_tool's --shared takes them. Of a header that isn't
     well-formed, or isn't complete, a random pair, with which age_tool says what is wrong."""
-    identities, state = keys_of(asked), ReaderState()
-    answer, pair, seen, piece = MORE, (b"", b""), 0, b"?"
-    while answer == MORE and piece:
-        piece = source.more(min(CHUNK, FRONT_MAX - seen))
-        if not piece or may_open(bytearray(source.front), seen):
-            answer, pair = tried(identities, source.front, state)
-        seen = len(source.front)
-    wipe(state)
+    answer, pair = secret_of_header(keys_of(asked), iter(lambda: bytes(source.more(CHUNK)), b""))
     if answer == NO_MATCH:
         raise Fault("12 NoMatch", f"{source.shown}: it isn't encrypted to a recipient of age-keygen: without --identity, agefile asks for a passphrase")
     if answer == WRONG_KEY:
