@@ -43,7 +43,7 @@ KINDS = {
     "system": {26, 252},
 }
 
-# What the Go and Rust modules say of faults, before the number and name.
+# What the Rust module says of faults, before the number and name.
 MEANINGS = {
     "1 NotAge": "the file isn't an age file", "13 WrongKey": "the passphrase or key doesn't open the file",
     "17 ChunkDamaged": "the file is damaged or cut off", "21 Trailing": "something was appended to the file",
@@ -84,7 +84,7 @@ class ProgramsCase(BindingsCase):
         run = subprocess.run(words, cwd=self.room, input=data, capture_output=True)
         return (run.returncode, fault_in(run.stderr)), run.stdout
 
-    def see_reports(self, what, program, prefix=None):
+    def see_reports(self, what, program, prefix=None, texts=MEANINGS):
         """What a program prints of faults: as age_tool, or what it means first, after a prefix."""
         data = self.sealed(plain_of(131_072))
         for word, file, fault, place in (
@@ -94,7 +94,7 @@ class ProgramsCase(BindingsCase):
         ):
             run = subprocess.run([program, word], cwd=self.room, input=file, capture_output=True)
             said = run.stderr.decode().partition(": ")[2]
-            line = f"{fault} {place}".strip() if prefix is None else f"{prefix}{MEANINGS[fault]} ({fault}{place and ', ' + place})"
+            line = f"{fault} {place}".strip() if prefix is None else f"{prefix}{texts[fault]} ({fault}{place and ', ' + place})"
             self.see(f"{what}: {fault}", (run.returncode, said) == (1, line + "\n"), run.stderr)
 
     def see_streams_that_fail(self, what, program):

@@ -1,5 +1,5 @@
-"""Builds the Rust crates, the Go module and the programs in bindings/README.md, runs their tests, and compares what their programs say of files
-with what age_tool says."""
+"""Builds the Rust crates and the programs in bindings/README.md, runs their tests, and compares what their programs say of files with what
+age_tool says."""
 import os
 import shutil
 import subprocess
@@ -7,7 +7,7 @@ import sys
 
 from tests.bindings import LENGTHS, PYTHON, plain_of, setUpModule
 from tests.case import needs
-from tests.test_bindings import STRICT, ProgramsCase
+from tests.test_bindings import MEANINGS, STRICT, ProgramsCase
 from tools.workspace import LIBRARY, TOP
 
 
@@ -16,8 +16,8 @@ def sample_of(language, number=1):
     return (TOP / "bindings" / "README.md").read_text().split(f"```{language}\n")[number].split("\n```")[0] + "\n"
 
 
-class LanguagesTest(ProgramsCase):
-    """The crates, modules and samples in other languages. They take nothing from a registry or proxy."""
+class ModulesCase(ProgramsCase):
+    """What tests of modules have in common."""
 
     def succeed(self, what, folder, env, *commands):
         """Counts for each command whether it succeeds; the test ends if one doesn't."""
@@ -26,8 +26,8 @@ class LanguagesTest(ProgramsCase):
             self.assertEqual(run.returncode, 0, (words, (run.stdout + run.stderr)[-2000:]))
             self.see(f"{what}: {' '.join(map(str, words))}", True)
 
-    def see_example(self, what, program, prefix):
-        """A program in another language: files of all lengths, whole and cut by a byte, and what it says, after a prefix."""
+    def see_example(self, what, program, prefix, texts=MEANINGS):
+        """A program in another language: files of all lengths, whole and cut by a byte, and what it says, after a prefix: these texts."""
         for length in LENGTHS:
             text = plain_of(length)
             data = self.sealed(text)
@@ -36,7 +36,7 @@ class LanguagesTest(ProgramsCase):
             run = subprocess.run([program, "pw"], cwd=self.room, input=data[:-1], capture_output=True)
             is_cut = text.startswith(run.stdout) and len(run.stdout) <= length // 65_536 * 65_536
             self.see(f"{what}: {length} bytes, cut", run.returncode == 1 and is_cut)
-        self.see_reports(what, program, prefix)
+        self.see_reports(what, program, prefix, texts)
         self.see_streams_that_fail(what, program)
 
     def see_sample(self, what, words, last):
@@ -60,6 +60,10 @@ class LanguagesTest(ProgramsCase):
             self.write("notes.age", data[:end])
             run = subprocess.run(words, cwd=self.room, capture_output=True, text=True)
             self.see(f"the sample in {what}, cut", (run.returncode, run.stderr[:31]) == (1, "the file is damaged or cut off:"), run.stderr)
+
+
+class LanguagesTest(ModulesCase):
+    """The crates and samples in other languages. They take nothing from a registry."""
 
     @needs("cc")
     def test_c(self):
@@ -148,37 +152,3 @@ class LanguagesTest(ProgramsCase):
         env["PKG_CONFIG_PATH"] = str(self.path("a folder"))
         run = build()
         self.see("pkg-config finds it in a folder with a space", run.returncode == 0 and "warning: " not in run.stderr, run.stderr[-2000:])
-
-    @needs("go")
-    def test_go(self):
-        """Builds the Go module and its example, and runs its tests: with the library in its folder, vendored, and with the one that
-        pkg-config finds."""
-        program, user = self.path("decrypt-go"), self.path("user")
-        user.mkdir()
-        # (Go takes no folder whose name has a space, neither from a go.mod nor from pkg-config)
-        found = (LIBRARY / "pkgconfig" / "age_c.pc").read_text()
-        for name, folder in (("module", TOP / "bindings" / "go"), ("library", LIBRARY), ("private", TOP / "bindings" / "c")):
-            self.path(name).symlink_to(folder)
-            found = found.replace(str(folder).replace(" ", "\\ "), str(self.path(name)))
-        self.write("age_c.pc", found.encode())
-        (user / "go.mod").write_text(
-            "module user\n\ngo 1.19\n\nrequire kudebafon.example/agefile v0.0.0\n\nreplace kudebafon.example/agefile => ../module\n")
-        (user / "main.go").write_text(sample_of("go"))
-        env = {
-            "GOCACHE": str(LIBRARY / "gocache"), "GOPROXY": "off", "GOFLAGS": "-buildvcs=false", "PKG_CONFIG_PATH": str(self.room),
-            "LD_LIBRARY_PATH": str(LIBRARY),
-        }
-        commands = [
-            ["go", "build", "-o", program, "./decrypt"], ["go", "vet", "./..."], "go test -race -vet=off -count=1 .".split(),
-            ["sh", "-c", f"cd {user} && go mod vendor && go build -mod=vendor -o vendored ."],
-        ]
-        for tool, words in (("gofmt", ["sh", "-c", 'test -z "$(gofmt -l .)"']), ("pkg-config", "go test -tags age_c_system -run TestFiles .".split())):
-            if shutil.which(tool):
-                commands.append(words)
-            else:
-                self.leave_out(f"Go with {tool}", f"needs {tool}")
-        self.succeed("Go", TOP / "bindings" / "go", env, *commands)
-        self.see_example("Go", program, "agefile: ")
-        self.see_sample("Go", [user / "vendored"], b"")
-        self.see_copy("Go")
-        self.see_cut_samples("Go", [user / "vendored"])
