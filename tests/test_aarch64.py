@@ -9,6 +9,7 @@ import subprocess
 import sys
 import tempfile
 
+from tests import test_go
 from tests.case import Case, needs
 from tools.libraries import kit
 from tools.workspace import TOP
@@ -126,12 +127,12 @@ class ArmTest(Case):
     @needs("go")
     def test_go(self):
         """The Go module is built for ARM, with the library inside, and decrypts there."""
-        module = self.path("go")
+        module, user = self.path("go"), self.path("user")
         shutil.copytree(TOP / "bindings/go", module)
-        for name in ("bindings/c/age_c.h", "bindings/out/aarch64/libage_c.a"):
-            shutil.copy(TOP / name, module)
+        shutil.copy(TOP / "bindings/out/aarch64/libagefile.a", module / "libagefile_arm64.a")
+        test_go.write_user(user, "../go")
         env = {**os.environ, "GOOS": "linux", "GOARCH": "arm64", "CGO_ENABLED": "1", "CC": CC, "GOPROXY": "off", "GOFLAGS": "-mod=mod", "GOTOOLCHAIN": "local"}
-        built = subprocess.run(["go", "build", "-o", self.path("by-go"), "./decrypt"], cwd=module, env=env, capture_output=True, text=True)
+        built = subprocess.run(["go", "build", "-o", self.path("by-go"), "."], cwd=user, env=env, capture_output=True, text=True)
         self.see("the Go module is built for ARM", built.returncode == 0, built.stderr)
         self.write("pass", b"correct horse\n")
         self.write("plain", os.urandom(200_000))

@@ -43,7 +43,7 @@ KINDS = {
     "system": {26, 252},
 }
 
-# What the Go and Rust modules say of faults, before the number and name.
+# What the Rust module says of faults, before the number and name.
 MEANINGS = {
     "1 NotAge": "the file isn't an age file", "13 WrongKey": "the passphrase or key doesn't open the file",
     "17 ChunkDamaged": "the file is damaged or cut off", "21 Trailing": "something was appended to the file",

@@ -1,5 +1,5 @@
-"""Builds the Rust crates, the Go module and the programs in bindings/README.md, runs their tests, and compares what their programs say of files
-with what age_tool says."""
+"""Builds the Rust crates and the programs in bindings/README.md, runs their tests, and compares what their programs say of files with what
+age_tool says."""
 import os
 import pathlib
 import re
@@ -31,8 +31,8 @@ RUST = {
 }
 
 
-class LanguagesTest(ProgramsCase):
-    """The crates, modules and samples in other languages. They take nothing from a registry or proxy."""
+class ModulesCase(ProgramsCase):
+    """What tests of modules have in common."""
 
     def succeed(self, what, folder, env, *commands):
         """Counts for each command whether it succeeds; the test ends if one doesn't."""
@@ -75,6 +75,10 @@ class LanguagesTest(ProgramsCase):
             self.write("notes.age", data[:end])
             run = subprocess.run(words, cwd=self.room, capture_output=True, text=True)
             self.see(f"the sample in {what}, cut", run.returncode == 1 and run.stderr.startswith(said), run.stderr)
+
+
+class LanguagesTest(ModulesCase):
+    """The crates and samples in other languages. They take nothing from a registry."""
 
     @needs("cc")
     def test_c(self):
@@ -200,37 +204,3 @@ class LanguagesTest(ProgramsCase):
         env["PKG_CONFIG_PATH"] = str(self.path("a folder"))
         run = build()
         self.see("pkg-config finds it in a folder with a space", run.returncode == 0 and "warning: " not in run.stderr, run.stderr[-2000:])
-
-    @needs("go")
-    def test_go(self):
-        """Builds the Go module and its example, and runs its tests: with the library in its folder, vendored, and with the one that
-        pkg-config finds."""
-        program, user = self.path("decrypt-go"), self.path("user")
-        user.mkdir()
-        # (Go takes no folder whose name has a space, neither from a go.mod nor from pkg-config)
-        found = (LIBRARY / "pkgconfig" / "age_c.pc").read_text()
-        for name, folder in (("module", TOP / "bindings" / "go"), ("library", LIBRARY), ("private", TOP / "bindings" / "c")):
-            self.path(name).symlink_to(folder)
-            found = found.replace(str(folder).replace(" ", "\\ "), str(self.path(name)))
-        self.write("age_c.pc", found.encode())
-        (user / "go.mod").write_text(
-            "module user\n\ngo 1.19\n\nrequire kudebafon.example/agefile v0.0.0\n\nreplace kudebafon.example/agefile => ../module\n")
-        (user / "main.go").write_text(sample_of("go"))
-        env = {
-            "GOCACHE": str(LIBRARY / "gocache"), "GOPROXY": "off", "GOFLAGS": "-buildvcs=false", "PKG_CONFIG_PATH": str(self.room),
-            "LD_LIBRARY_PATH": str(LIBRARY),
-        }
-        commands = [
-            ["go", "build", "-o", program, "./decrypt"], ["go", "vet", "./..."], "go test -race -vet=off -count=1 .".split(),
-            ["sh", "-c", f"cd {user} && go mod vendor && go build -mod=vendor -o vendored ."],
-        ]
-        for tool, words in (("gofmt", ["sh", "-c", 'test -z "$(gofmt -l .)"']), ("pkg-config", "go test -tags age_c_system -run TestFiles .".split())):
-            if shutil.which(tool):
-                commands.append(words)
-            else:
-                self.leave_out(f"Go with {tool}", f"needs {tool}")
-        self.succeed("Go", TOP / "bindings" / "go", env, *commands)
-        self.see_example("Go", program, "agefile: ")
-        self.see_sample("Go", [user / "vendored"], b"")
-        self.see_copy("Go")
-        self.see_cut_samples("Go", [user / "vendored"])

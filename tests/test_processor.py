@@ -7,6 +7,7 @@ import subprocess
 import sys
 import unittest
 
+from tests import test_go
 from tests.bindings import PYTHON, BindingsCase, plain_of, setUpModule
 from tests.case import needs
 from tools.workspace import LIBRARY, TOP
@@ -26,10 +27,10 @@ import (
 )
 
 func TestOldProcessor(t *testing.T) {
-	if _, err := Create(io.Discard, []byte("pw"), 1); err != errProcessor {
+	if _, err := Encrypt(io.Discard, pw()); numberOf(err) != 252 {
 		t.Error(err)
 	}
-	if _, _, err := ReadHeader(bytes.NewReader(nil)); err != errProcessor {
+	if _, err := Inspect(bytes.NewReader(nil)); numberOf(err) != 252 {
 		t.Error(err)
 	}
 }
@@ -60,7 +61,7 @@ class ProcessorTest(BindingsCase):
             made = self.path(name)
             words = ["cc", "-std=c11", "-O1", f"-I{TOP / 'include'}", "-o", made, TOP / "bindings" / "c" / "decrypt.c", *library]
             subprocess.run(words, check=True)
-            self.see_refused(f"C, {name}", [made, "pw"], 2)
+            self.see_refused(f"C, {name}", [made, "pw"], 1, b"252 NoProcessor")
 
     def test_python(self):
         env = {**os.environ, "PYTHONPATH": str(PYTHON), "PYTHONDONTWRITEBYTECODE": "1"}
@@ -75,14 +76,14 @@ class ProcessorTest(BindingsCase):
 
     @needs("go")
     def test_go(self):
-        module = self.path("go")
+        module, user = self.path("go"), self.path("user")
         shutil.copytree(TOP / "bindings" / "go", module)
-        for it in (TOP / "bindings" / "c" / "age_c.h", LIBRARY / "libage_c.a"):
-            shutil.copy(it, module)
+        shutil.copy(LIBRARY / "libagefile.a", module / "libagefile_amd64.a")
         env = {**os.environ, "GOCACHE": str(LIBRARY / "gocache"), "GOPROXY": "off", "GOFLAGS": "-buildvcs=false"}
         (module / "processor_test.go").write_text(GO_TEST)
-        for words in (["build", "-o", self.path("decrypt-go"), "./decrypt"], ["test", "-c", "-o", self.path("tests-go"), "."]):
-            subprocess.run(["go", *words], cwd=module, env=env, check=True, capture_output=True)
-        self.see_refused("Go", [self.path("decrypt-go"), "pw"], 1)
+        test_go.write_user(user, "../go")
+        for words, folder in ((["build", "-o", self.path("decrypt-go"), "."], user), (["test", "-c", "-o", self.path("tests-go"), "."], module)):
+            subprocess.run(["go", *words], cwd=folder, env=env, check=True, capture_output=True)
+        self.see_refused("Go", [self.path("decrypt-go"), "pw"], 1, b"(252 NoProcessor)")
         run = self.on(OLD[0], [self.path("tests-go"), "-test.run", "TestOldProcessor"])
         self.see("Go, what writes and what reads a header", run.returncode == 0, run.stdout)

@@ -15,7 +15,7 @@ from tools.workspace import LIBRARY, PROGRAM, TOP, library, program
 
 # In the place of what builds: the program and the library that were built.
 STUBS = {
-    "bindings/build": f"#!/bin/sh\nmkdir -p bindings/out && cp '{LIBRARY}'/libage* bindings/out && cp bindings/c/age_c.h '{LIBRARY}/libage_c.a' bindings/go\n",
+    "bindings/build": f"#!/bin/sh\nmkdir -p bindings/out && cp '{LIBRARY}'/libage* bindings/out && cp '{LIBRARY}/libagefile.a' bindings/go/libagefile_amd64.a\n",
     "release/static": f"#!/bin/sh\nfor it in \"$1\" \"$2\" \"$2.o\"; do cp '{PROGRAM}' \"$it\"; done\n",
 }
 EARLIER, LATER, DAY = 1_800_000_000, 1_800_000_100, "2027-01-15"
@@ -35,7 +35,7 @@ class ReleaseTest(Case):
         library()
         program()
         self.top = self.path("a b")
-        shutil.copytree(TOP, self.top, ignore=shutil.ignore_patterns("out", ".git", "target", "__pycache__", "libage_c.a", "tests", "edits"))
+        shutil.copytree(TOP, self.top, ignore=shutil.ignore_patterns("out", ".git", "target", "__pycache__", "libagefile_*.a", "tests", "edits"))
         for name, script in STUBS.items():
             (self.top / name).write_text(script)
         self.git("init", "-q")

@@ -1,6 +1,6 @@
 """Threads with age files of their own: nothing that changes is shared by two objects. Python runs tests/threads.py, for some seconds, in
-each Python from 3.9 on that this machine has (pyenv's, Debian's, this one), side by side. Go's threads are in bindings/go/own_test.go,
-which test_languages runs under the race detector; C's are here, under the thread sanitizer."""
+each Python from 3.9 on that this machine has (pyenv's, Debian's, this one), side by side. Go's threads are in bindings/go/writer_test.go,
+which test_go runs under the race detector; C's are here, under the thread sanitizer."""
 import ast
 import os
 import pathlib

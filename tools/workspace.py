@@ -83,6 +83,11 @@ def library():
     return LIBRARY
 
 
+def go_module():
+    """The path of the Go module."""
+    return (TOP / "bindings" / "go" / "go.mod").read_text().split()[1]
+
+
 def answer_help(head):
     """Prints the head of a script and ends, if that is what the words ask for."""
     if {"-h", "--help"} & {*sys.argv[1:]}:

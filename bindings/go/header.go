@@ -1,68 +1,95 @@
 package agefile
 
-/*
-#include "age_c.h"
-*/
-import "C"
-
 import (
-	"bytes"
+	"errors"
 	"io"
-	"strings"
 )
 
-// A Header is what the header of a file says, before anything is opened. Nobody has confirmed it:
-// whoever can change the file can change it.
+// A Header is what the header of a file says, before anything is opened. Nobody has confirmed it: whoever can change the file can change
+// it.
 type Header struct {
 	Len     int      // how many bytes it has
-	Work    uint32   // the work factor that it demands of a passphrase; 0 if none opens the file
+	Work    int      // the work factor that it demands of a passphrase; 0 if none opens the file
 	Stanzas []Stanza // a hostile header has up to 174,000
 }
 
-// A Stanza is what one recipient, or a passphrase, finds the file key in.
-type Stanza struct {
-	Type string   // as "X25519"
-	Args []string // its arguments, without the type
-	Body []byte
+// Inspect returns what the header of a file says. It reads up to 64 KiB more than that of the file.
+func Inspect(src io.Reader) (*Header, error) {
+	if src == nil {
+		return nil, errNil
+	}
+	f, err := frontOf(&source{file: src})
+	return f.header, err
 }
 
-// ReadHeader reads the header of a file, and returns it with what reads the file from its
-// beginning.
-func ReadHeader(file io.Reader) (*Header, io.Reader, error) {
-	if file == nil {
-		return nil, nil, errNil
-	}
-	h, r := &Header{}, &Reader{file: &source{file: file}, block: make([]byte, C.AGE_C_BLOCK)}
-	look := func(front []byte, _ *C.age_c_reader) C.uint32_t { return h.look(front) }
-	if err := r.begin(Key{open: look}); err != nil {
-		return nil, nil, err
-	}
-	return h, io.MultiReader(bytes.NewReader(r.front), r.file), nil
+// A front is the header of a file, and what was read for it: less than a block more than it and the nonce.
+type front struct {
+	header  *Header
+	bytes   []byte
+	refused error // for what no key opens it
 }
 
-// look takes what the header that these bytes begin with says.
-func (h *Header) look(front []byte) C.uint32_t {
-	var size, count C.size_t
-	var work C.uint32_t
-	answer := C.age_c_header(place(front), length(front), &size, &count, &work)
-	if answer != 0 {
-		return answer
+// frontOf reads until the header is complete, or until another byte can't help.
+func frontOf(src *source) (f front, err error) {
+	probe, err := decoderByKey(make([]byte, fileKeyLen)) // which says when that is: it has the key of no file
+	if err != nil {
+		return f, err
 	}
-	h.Len, h.Work = int(size), uint32(work)
-	return h.lookAtStanzas(front[:size], count)
+	defer probe.free()
+	for room := make([]byte, chunkLen); err == nil && probe.payloadAt() == 0; {
+		n, err := src.some(room)
+		if err == io.EOF {
+			break
+		}
+		if err != nil {
+			return f, err
+		}
+		f.bytes = append(f.bytes, room[:n]...)
+		var fault *Fault
+		if _, err := probe.decode(room[:n], nil); errors.As(err, &fault) && !errors.Is(err, ErrNotWhole) {
+			return f, err
+		} else if fault != nil && fault.Number != macMismatch {
+			f.refused = err
+		}
+		if fault != nil {
+			break
+		}
+	}
+	f.header, err = headerOf(f.bytes)
+	return f, err
 }
 
-// lookAtStanzas takes the stanzas of a header that has so many.
-func (h *Header) lookAtStanzas(front []byte, count C.size_t) C.uint32_t {
-	var written C.size_t
-	places, bodies := make([]C.age_c_stanza, count), make([]byte, len(front))
-	answer := C.age_c_stanzas(place(front), length(front), &places[0], count, &count,
-		place(bodies), length(bodies), &written)
-	h.Stanzas = make([]Stanza, count)
-	for i, it := range places[:count] {
-		words := strings.Split(string(front[it.args_at:it.args_at+it.args_len]), " ")
-		body := bodies[it.body_at : it.body_at+it.body_len : it.body_at+it.body_len]
-		h.Stanzas[i] = Stanza{Type: words[0], Args: words[1:], Body: body}
+// open gives a decoder whose header one of the identities has opened, and which was given all that was read.
+func (f front) open(by []Identity) (decoder, error) {
+	if f.refused != nil {
+		return decoder{}, f.refused
 	}
-	return answer
+	err := outOfRange("there must be an identity")
+	for _, it := range by {
+		var d decoder
+		if d, err = decoderBy(it, f.header.Stanzas); err == nil {
+			if err = f.openIn(d); err != nil {
+				d.free()
+			}
+		}
+		if !errors.Is(err, ErrWrongKey) {
+			return d, err
+		}
+	}
+	return decoder{}, err
+}
+
+func (f front) openIn(d decoder) error {
+	for left := f.bytes; len(left) > 0; {
+		n := least(len(left), chunkLen)
+		if _, err := d.decode(left[:n], nil); err != nil {
+			return err
+		}
+		left = left[n:]
+	}
+	if d.payloadAt() > 0 {
+		return nil
+	}
+	_, err := d.end(nil) // the file ends in the nonce: a fault
+	return err
 }

@@ -1,221 +1,100 @@
 package agefile
 
-/*
-#include "age_c.h"
-*/
-import "C"
-
 import (
 	"errors"
 	"fmt"
 	"io"
 )
 
-// A Reader reads the plaintext of an age file from its beginning to its end. One goroutine at a
-// time may use it.
+var (
+	errSeek     = errors.New("agefile: what the file is read from can't seek")
+	errWhence   = errors.New("agefile: Seek from nowhere")
+	errNegative = errors.New("agefile: a place before the beginning")
+	errGrown    = errors.New("agefile: the file became longer")
+)
+
+// A Reader reads the plaintext of an age file. One goroutine at a time may use it. It holds 197 KiB.
+//
+// It returns all of the plaintext before a damaged chunk, then no byte and a *Fault. If a read of the source fails, that error is returned,
+// and the next Read goes on.
 type Reader struct {
-	file   io.Reader
-	reader C.age_c_reader
-	front  []byte // what was read of the header
-	block  []byte // where a block is read
-	have   int    // how much of it was
-	chunk  []byte // where the text of a block goes
-	text   []byte // the part of it that isn't returned yet
-	err    error  // how the text ends
+	self    *Reader // which a copy isn't
+	src     *source
+	seeker  io.Seeker // the source, if it can seek
+	base    int64     // where the file begins in it
+	decoder decoder
+	block   []byte // where the file is read
+	lack    int    // how many bytes the block lacks that is open
+	chunk   []byte // where the text of a block goes
+	text    []byte // the part of it that isn't returned yet
+	at      int64  // the place of the next byte in the plaintext
+	err     error  // how the text ends
 }
 
-// Open opens the header of a file. It reads no more of the file than it needs, apart from what
-// comes in the same read.
-func Open(file io.Reader, key Key) (*Reader, error) {
-	if key.open == nil {
-		return nil, errors.New("agefile: a Key that is none: make one by Passphrase, FileKey or SharedSecret")
-	}
-	if file == nil {
+// Decrypt opens the header of a file by the first identity that can. It reads no more of the file than it needs, apart from what comes in
+// the same read. If src is an io.Seeker that can seek, the file begins where that stands, and the Reader can seek, too.
+func Decrypt(src io.Reader, by ...Identity) (*Reader, error) {
+	if src == nil {
 		return nil, errNil
 	}
-	r := &Reader{file: &source{file: file}, block: make([]byte, C.AGE_C_BLOCK), chunk: make([]byte, C.AGE_C_CHUNK)}
-	if err := r.begin(key); err != nil {
+	r := &Reader{src: &source{file: src}, block: make([]byte, blockLen), chunk: make([]byte, chunkLen)}
+	r.self = r
+	if it, ok := src.(io.Seeker); ok {
+		if at, err := it.Seek(0, io.SeekCurrent); err == nil {
+			r.seeker, r.base = it, at
+		}
+	}
+	f, err := frontOf(r.src)
+	if err != nil {
 		return nil, err
 	}
-	r.have = copy(r.block, r.front[r.reader.payload_at:]) // which was read at once, and is less than a block
-	r.front = nil
+	if r.decoder, err = f.open(by); err != nil {
+		return nil, err
+	}
+	r.lack = blockLen - (len(f.bytes) - int(r.decoder.payloadAt()))
 	return r, nil
 }
 
-// begin reads until the header is complete, or until another byte can't help.
-func (r *Reader) begin(key Key) error {
-	if !runsHere() {
-		return errProcessor
-	}
-	for {
-		seen := length(r.front)
-		err := r.more()
-		if err != nil && err != io.EOF {
-			return err
-		}
-		if err == nil && C.age_c_may_open(place(r.front), length(r.front), seen) != 0 {
-			continue
-		}
-		switch answer := key.open(r.front, &r.reader); {
-		case answer == 0:
-			return nil
-		case answer != C.AGE_C_MORE || err == io.EOF:
-			fault := headerFault(answer, key.rules...)
-			fault.byKey = key.byKey
-			return fault
-		}
-	}
-}
-
-// more reads as many bytes of the file's beginning as there are, at most a chunk, and at least one.
-func (r *Reader) more() error {
-	room := r.block[:C.AGE_C_CHUNK]
-	if left := C.AGE_C_FRONT_MAX - len(r.front); left < len(room) {
-		room = room[:left]
-	}
-	n, err := readSome(r.file, room)
-	r.front = append(r.front, room[:n]...)
-	return err
-}
-
-// A source gives what comes with an error first, and the error at the next read: it may come only once.
-type source struct {
-	file io.Reader
-	err  error
-}
-
-func (s *source) Read(room []byte) (int, error) {
-	if err := s.err; err != nil {
-		s.err = nil
-		return 0, err
-	}
-	n, err := s.file.Read(room)
-	if n > 0 {
-		s.err, err = err, nil
-	}
-	return n, err
-}
-
-// readSome reads at least a byte of a source, or says why there is none.
-func readSome(file io.Reader, room []byte) (int, error) {
-	for idle := 0; idle < 100; idle++ {
-		n, err := file.Read(room)
-		if n < 0 || n > len(room) {
-			return 0, errRead
-		}
-		if n > 0 || err != nil {
-			return n, ofSource(err)
-		}
-	}
-	return 0, io.ErrNoProgress
-}
-
-// cutSource is what a source that was truncated itself says, such as the body of a response. It is
-// ErrTruncated, and no longer io.ErrUnexpectedEOF or io.EOF.
-type cutSource struct{ err error }
-
-func (s *cutSource) Error() string { return "agefile: what the file is read from: " + s.err.Error() }
-
-func (s *cutSource) Is(target error) bool { return target == ErrTruncated }
-
-// As finds what the source said, as a *url.Error, by which programs try again. (Unwrap would lead to io.EOF.)
-func (s *cutSource) As(target any) bool { return errors.As(s.err, target) }
-
-// ofSource is the error of a source as it is passed on. errors.Is may not find an end in it: net/http's
-// wraps io.EOF if the server hangs up.
-func ofSource(err error) error {
-	if err != io.EOF && errors.Is(err, io.EOF) || errors.Is(err, io.ErrUnexpectedEOF) {
-		return &cutSource{err}
-	}
-	return err
-}
-
-// writeAll writes bytes, and says how many were taken, and why not all were. Without bytes it
-// doesn't call Write: that of an http.ResponseWriter would send status 200 before anything was
-// authenticated, and one that makes its file at the first call would make it.
-func writeAll(out io.Writer, text []byte) (int, error) {
-	if len(text) == 0 {
-		return 0, nil
-	}
-	n, err := out.Write(text)
-	if n < 0 || n > len(text) {
-		return 0, errWrite
-	}
-	if err == nil && n < len(text) {
-		err = io.ErrShortWrite
-	}
-	return n, err
-}
-
-var errNotOpen = errors.New("agefile: a Reader, File or Writer that wasn't opened by Open, OpenAt or Create")
-
-var errNil = errors.New("agefile: the file is nil")
-
-var errOut = errors.New("agefile: out is nil")
-
-var errRead = errors.New("agefile: a Read returned a count that is out of range")
-
-var errWrite = errors.New("agefile: a Write returned a count that is out of range")
-
-// read reads on to the end of the block, or of the file, which is io.EOF. What came before a failed
-// read is kept.
-func (r *Reader) read() error {
-	for r.have < len(r.block) {
-		n, err := readSome(r.file, r.block[r.have:])
-		if r.have += n; err != nil {
-			return err
-		}
-	}
-	return nil
-}
-
-// String hides the key and the plaintext.
-func (r *Reader) String() string { return "agefile.Reader" }
-
-// GoString does as String.
-func (r *Reader) GoString() string { return r.String() }
-
 // Format hides the key and the plaintext in every verb.
-func (r *Reader) Format(state fmt.State, _ rune) { io.WriteString(state, r.String()) }
+func (r Reader) Format(state fmt.State, _ rune) { io.WriteString(state, "agefile.Reader") }
 
-// next opens the next block, or what is left at the end, into a chunk's room.
+// next opens what comes next of the file, into a chunk's room.
 func (r *Reader) next(room []byte) (int, error) {
 	if r.err != nil {
 		return 0, r.err
 	}
-	err := r.read()
-	if err != nil && err != io.EOF {
+	n, err := r.src.some(r.block[:r.lack])
+	switch err {
+	case nil:
+		if r.lack -= n; r.lack == 0 {
+			r.lack = blockLen
+		}
+		n, r.err = r.decoder.decode(r.block[:n], room)
+	case io.EOF:
+		if n, r.err = r.decoder.end(room); r.err == nil {
+			r.err = io.EOF
+		}
+	default:
 		return 0, err
 	}
-	var written C.size_t
-	var answer C.uint32_t
-	block := r.block[:r.have]
-	if r.have = 0; err == io.EOF {
-		answer = C.age_c_end(&r.reader, place(block), length(block), place(room), length(room), &written)
-		r.err = io.EOF
-	} else {
-		answer = C.age_c_block(&r.reader, place(block), length(block), place(room), length(room), &written)
+	if r.err != nil && r.seeker == nil {
+		r.decoder.free() // it has the file key, and isn't used again
 	}
-	if answer != 0 {
-		r.err = blockFault(answer, &r.reader)
+	if n > 0 {
+		return n, nil
 	}
-	if r.err != nil {
-		r.reader = C.age_c_reader{} // which held the file key
-	}
-	if answer != 0 || written == 0 {
-		return 0, r.err
-	}
-	return int(written), nil
+	return 0, r.err
 }
 
 // Read implements io.Reader.
 func (r *Reader) Read(into []byte) (int, error) {
-	if r.file == nil {
-		return 0, errNotOpen
+	if err := own(r.self, r); err != nil {
+		return 0, err
 	}
 	for len(r.text) == 0 && len(into) > 0 {
-		if len(into) >= C.AGE_C_CHUNK {
+		if len(into) >= chunkLen {
 			if n, err := r.next(into); n > 0 || err != nil {
+				r.at += int64(n)
 				return n, err
 			}
 		} else if n, err := r.next(r.chunk); err != nil {
@@ -225,29 +104,95 @@ func (r *Reader) Read(into []byte) (int, error) {
 		}
 	}
 	n := copy(into, r.text)
-	r.text = r.text[n:]
+	r.text, r.at = r.text[n:], r.at+int64(n)
 	return n, nil
 }
 
 // WriteTo implements io.WriterTo.
-func (r *Reader) WriteTo(out io.Writer) (int64, error) {
-	if r.file == nil {
-		return 0, errNotOpen
+func (r *Reader) WriteTo(dst io.Writer) (int64, error) {
+	if err := own(r.self, r); err != nil {
+		return 0, err
 	}
-	var all int64
-	for {
-		n, err := writeAll(out, r.text)
-		r.text, all = r.text[n:], all+int64(n)
-		if err != nil {
-			return all, err
+	for begun := r.at; ; {
+		n, err := writeAll(dst, r.text)
+		if r.text, r.at = r.text[n:], r.at+int64(n); err != nil {
+			return r.at - begun, err
 		}
-		count, err := r.next(r.chunk)
-		if err == io.EOF {
-			return all, nil
+		if n, err = r.next(r.chunk); err == io.EOF {
+			return r.at - begun, nil
+		} else if err != nil {
+			return r.at - begun, err
 		}
-		if err != nil {
-			return all, err
-		}
-		r.text = r.chunk[:count]
+		r.text = r.chunk[:n]
 	}
+}
+
+// Seek implements io.Seeker, if the source can seek; else it only tells the place. A place after the end is the end to Read. From the end
+// it opens the last chunk, which proves where that is. After an error, no Read succeeds until a Seek does.
+func (r *Reader) Seek(offset int64, whence int) (int64, error) {
+	if err := own(r.self, r); err != nil {
+		return 0, err
+	}
+	at, err := offset, error(nil)
+	switch {
+	case whence == io.SeekCurrent && offset == 0:
+		return r.at, nil
+	case r.seeker == nil:
+		return r.at, errSeek
+	case whence == io.SeekCurrent:
+		at += r.at
+	case whence == io.SeekEnd:
+		var size int64
+		size, err = r.size()
+		at += size
+	case whence != io.SeekStart:
+		err = errWhence
+	}
+	if err == nil && at < 0 {
+		err = errNegative
+	}
+	if err == nil {
+		err = r.goTo(at)
+	}
+	return r.at, err
+}
+
+// goTo makes the next byte that of a place.
+func (r *Reader) goTo(at int64) error {
+	end, err := r.seeker.Seek(0, io.SeekEnd)
+	offset := int64(0)
+	if err == nil {
+		offset, err = r.decoder.seek(at, end-r.base)
+	}
+	if err == nil {
+		_, err = r.seeker.Seek(r.base+offset, io.SeekStart)
+	}
+	r.src.err, r.lack, r.text, r.err = nil, blockLen, nil, err
+	if err == nil {
+		r.at = at
+	}
+	return err
+}
+
+// size is the length of the plaintext, which its last chunk proves. It leaves the reader there.
+func (r *Reader) size() (int64, error) {
+	end, err := r.seeker.Seek(0, io.SeekEnd)
+	if err != nil {
+		return 0, err
+	}
+	size, err := r.decoder.size(end - r.base)
+	if err == nil {
+		err = r.goTo(size)
+	}
+	if err == nil {
+		_, err = r.Read(make([]byte, 1))
+	}
+	if err == nil {
+		r.err = errGrown
+		return 0, errGrown
+	}
+	if err == io.EOF {
+		err = nil
+	}
+	return size, err
 }

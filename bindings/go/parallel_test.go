@@ -4,32 +4,25 @@ import (
 	"bytes"
 	"errors"
 	"io"
+	"math"
 	"runtime"
 	"sync/atomic"
 	"testing"
 	"time"
 )
 
-// memory is what is written to at places.
-type memory []byte
+// memoryAt is what is written to at places.
+type memoryAt []byte
 
-func (m memory) WriteAt(p []byte, at int64) (int, error) {
+func (m memoryAt) WriteAt(p []byte, at int64) (int, error) {
 	if at+int64(len(p)) > int64(len(m)) {
 		return 0, io.ErrShortBuffer
 	}
 	return copy(m[at:], p), nil
 }
 
-// brief writes less than it is given, and says nothing.
-type brief struct{}
-
-func (brief) WriteAt(p []byte, at int64) (int, error) { return len(p) - 1, nil }
-
-func (brief) Write(p []byte) (int, error) {
-	if len(p) == 0 {
-		return 0, nil
-	}
-	return len(p) - 1, nil
+func decryptTo(dst io.WriterAt, data []byte, workers int) (int64, error) {
+	return DecryptTo(dst, bytes.NewReader(data), int64(len(data)), workers, pw())
 }
 
 func TestDecryptTo(t *testing.T) {
@@ -37,11 +30,15 @@ func TestDecryptTo(t *testing.T) {
 		text := textOf(n)
 		data := sealed(text)
 		for _, workers := range []int{1, 2, 3, 7, 64} {
-			out := make(memory, n)
-			size, err := DecryptTo(out, bytes.NewReader(data), int64(len(data)), pw(), workers)
-			if err != nil || size != int64(n) || !bytes.Equal(out, text) {
+			out := make(memoryAt, n)
+			if size, err := decryptTo(out, data, workers); err != nil || size != int64(n) || !bytes.Equal(out, text) {
 				t.Errorf("%d bytes, %d workers: %d, %v", n, workers, size, err)
 			}
+		}
+	}
+	for _, n := range []int{math.MinInt, -1, 0, maxWorkers + 1, 1 << 50, math.MaxInt} {
+		if _, err := decryptTo(make(memoryAt, 200_000), sealed(nil), n); numberOf(err) != 255 {
+			t.Error(n, "workers:", err)
 		}
 	}
 }
@@ -50,35 +47,30 @@ func TestDecryptTo(t *testing.T) {
 func TestDecryptToFaults(t *testing.T) {
 	const n = 9*65_536 + 1_000
 	data := sealed(textOf(n))
-	begin := len(data) - n - 10*16
+	begin := payloadOf(data, n)
 	for _, chunks := range [][]int{{0}, {8}, {3, 4}, {7, 2}, {6, 5, 1}, {9}} {
-		bad, first := append([]byte{}, data...), int64(chunks[0])
+		bad, first := data, chunks[0]
 		for _, it := range chunks {
-			bad[begin+it*65_552+5] ^= 1
-			first = min64(first, int64(it))
+			bad, first = flipped(bad, begin+it*65_552+5), least(first, it)
 		}
 		for _, workers := range []int{1, 2, 5} {
-			_, err := DecryptTo(make(memory, n), bytes.NewReader(bad), int64(len(bad)), pw(), workers)
+			_, err := decryptTo(make(memoryAt, n), bad, workers)
 			var fault *Fault
-			if !errors.As(err, &fault) || fault.Number != NumberChunkDamaged || fault.Chunk != first {
+			if !errors.As(err, &fault) || fault.Name() != "ChunkDamaged" || fault.Chunk != int64(first) {
 				t.Errorf("damage in %v, %d workers: %v", chunks, workers, err)
 			}
 		}
 	}
-	whole, size := bytes.NewReader(data), int64(len(data))
-	if _, err := DecryptTo(make(memory, 300_000), whole, size, pw(), 4); err != io.ErrShortBuffer {
-		t.Error(err)
-	}
-	if _, err := DecryptTo(brief{}, whole, size, pw(), 4); err != io.ErrShortWrite {
-		t.Error(err)
-	}
-	for _, err := range []error{
-		second(DecryptTo(nil, whole, size, pw(), 4)), second(DecryptTo(brief{}, whole, size, pw(), 0)),
-		second(DecryptTo(brief{}, whole, size-1, pw(), 4)), second(DecryptTo(brief{}, nil, size, pw(), 4)),
-	} {
-		if err == nil {
-			t.Error("no error")
+	for _, it := range []struct {
+		dst  io.WriterAt
+		want error
+	}{{make(memoryAt, 300_000), io.ErrShortBuffer}, {brief{}, io.ErrShortWrite}, {miscounts(-1), errWrite}, {miscounts(1 << 25), errWrite}} {
+		if _, err := decryptTo(it.dst, data, 4); err != it.want {
+			t.Error(err, it.want)
 		}
+	}
+	if _, err := decryptTo(brief{}, data[:len(data)-1], 4); !errors.Is(err, ErrNotWhole) {
+		t.Error(err)
 	}
 }
 
@@ -99,11 +91,9 @@ func (p pausing) ReadAt(into []byte, at int64) (int, error) {
 func TestDecryptToGoesOn(t *testing.T) {
 	const n = 40 * 65_536
 	data := sealed(textOf(n))
-	begin := len(data) - n - 40*16
-	for _, it := range []int{18, 21} {
-		data[begin+it*65_552+5] ^= 1
-	}
-	_, err := DecryptTo(make(memory, n), pausing{bytes.NewReader(data), int64(begin)}, int64(len(data)), pw(), 2)
+	begin := payloadOf(data, n)
+	data = flipped(data, begin+18*65_552+5, begin+21*65_552+5)
+	_, err := DecryptTo(make(memoryAt, n), pausing{bytes.NewReader(data), int64(begin)}, int64(len(data)), 2, pw())
 	var fault *Fault
 	if !errors.As(err, &fault) || fault.Chunk != 18 {
 		t.Error(err)
@@ -130,9 +120,8 @@ func (h halting) WriteAt(p []byte, at int64) (int, error) {
 
 // A part stops if one before it failed.
 func TestDecryptToStops(t *testing.T) {
-	data, writes := sealed(make([]byte, 160*65_536)), int32(0)
-	out := halting{&writes, make(chan struct{})}
-	_, err := DecryptTo(out, bytes.NewReader(data), int64(len(data)), pw(), 2)
+	writes := int32(0)
+	_, err := decryptTo(halting{&writes, make(chan struct{})}, sealed(make([]byte, 160*65_536)), 2)
 	if err != io.ErrClosedPipe || writes > 2 {
 		t.Error(err, writes)
 	}
@@ -151,7 +140,7 @@ func (e ending) WriteAt(p []byte, at int64) (int, error) {
 // A part whose goroutine ends isn't written, and a panic is the caller's.
 func TestDecryptToEnds(t *testing.T) {
 	data := sealed(textOf(200_000))
-	if n, err := DecryptTo(ending(runtime.Goexit), bytes.NewReader(data), int64(len(data)), pw(), 4); n != 0 || err == nil {
+	if n, err := decryptTo(ending(runtime.Goexit), data, 4); n != 0 || err == nil {
 		t.Error("a part is missing:", n, err)
 	}
 	defer func() {
@@ -159,6 +148,6 @@ func TestDecryptToEnds(t *testing.T) {
 			t.Error(it)
 		}
 	}()
-	_, err := DecryptTo(ending(func() { panic("a sink") }), bytes.NewReader(data), int64(len(data)), pw(), 4)
+	_, err := decryptTo(ending(func() { panic("a sink") }), data, 4)
 	t.Error("no panic:", err)
 }
