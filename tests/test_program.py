@@ -9,7 +9,7 @@ import resource
 import subprocess
 import time
 
-from tests.case import SECONDS, Case, twice, without_advice
+from tests.case import SECONDS, Case, needs, twice, without_advice
 from tests.files import Feeding, FilesCase, waits_for
 from tools import terminal
 from tools.manual import sentence, tables
@@ -95,6 +95,24 @@ class ProgramTest(Case):
             self.ends(f"a name of {length:,} characters", self.decrypt("n" * length, "back"), 1, b"", said)
         said = b"age_tool: 26 Read\nage_tool: can't read /proc/self/mem: Input/output error\n"
         self.ends("a file that can't be read", self.encrypt("10 /proc/self/mem back"), 1, b"", said)
+
+    # ---- the order of files
+
+    @needs("strace")
+    def test_order_of_opening(self):
+        """What opens IN comes first, and OUT last, which exists here. No file is opened before it is its turn, or twice."""
+        for name, held in (("random", bytes(48)), ("script", b"end\n"), ("cut.age", self.age[:150_000]), ("out", b"")):
+            self.write(name, held)
+        self.decrypt("--save", "position", "cut.age", "old")
+        for words, names in (
+            ("encrypt --pass pass --log 1 --random random plain out", "pass random plain out"),
+            ("decrypt --pass pass --save saved plain.age out", "pass plain.age saved.new out"),
+            ("resume --position position --old old --pass pass --save saved plain.age out", "pass position old plain.age saved.new out"),
+            ("drill --pass pass script plain.age", "pass script plain.age"), ("inspect plain.age", "plain.age"),
+        ):
+            subprocess.run(["strace", "-o", "log", "-e", "trace=open,openat", self.program, *words.split()], cwd=self.room, capture_output=True, timeout=SECONDS)
+            opened = [it.decode() for it in re.findall(rb'(?m)^open(?:at\(AT_FDCWD, |\()"([^/"]+)"', self.read("log")) if it != b"."]
+            self.see(words, opened == names.split(), opened)
 
     # ---- closed streams
 
