@@ -208,7 +208,7 @@ impl<R: Read + Seek> Blocks<R> {
         let at = self.begin + raw.payload_at() + chunk * AGEFILE_BLOCK as u64;
         self.source.seek(SeekFrom::Start(at)).map_err(of_source)?;
         let (mut have, mut n) = (0, 1);
-        while n > 0 {
+        while n > 0 && have < AGEFILE_BLOCK {
             n = read_some(&mut self.source, &mut self.block[have..])?;
             have += n;
         }

@@ -135,7 +135,7 @@ fn tries_a_slow_header_rarely() {
     assert_eq!(number(open(Pieces(&long[..], 10, false))).0, 9);
     let endless = [&file[..at], &b"-> a\n"[..], &vec![b'A'; 2_000_000]].concat();
     assert!(matches!(number(open(Pieces(&endless[..], 10, false))).0, 4 | 7));
-    assert!(begun.elapsed().as_secs() < 10);
+    assert!(begun.elapsed().as_secs() < 60);
 }
 
 #[test]
