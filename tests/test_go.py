@@ -14,8 +14,9 @@ from tests.test_languages import ModulesCase
 from tools.workspace import LIBRARY, TOP, go_module
 
 MODULE = TOP / "bindings" / "go"
-# Where Debian's packages have their sources of Go.
+# Where Debian's packages have their sources of Go, and what is needed of them: golang-filippo-age-dev and what that uses.
 DEBIAN = pathlib.Path("/usr/share/gocode")
+OF_AGE = ("filippo.io/age/agessh", "filippo.io/edwards25519", "golang.org/x/crypto/ssh", "golang.org/x/sys/cpu")
 # What the module says of faults, before the number and name.
 TEXTS = {
     "1 NotAge": "the file doesn't begin as an age file does", "13 WrongKey": "the passphrase or key doesn't open the file",
@@ -77,11 +78,9 @@ class GoTest(ModulesCase):
         """Twenty seconds of files that a fuzzer chooses."""
         self.succeed("Go", MODULE, {**self.env, "GOFLAGS": ""}, "go test -run - -fuzz FuzzDecode -fuzztime 20s -parallel 2 .".split())
 
-    @unittest.skipUnless((DEBIAN / "src/filippo.io/age").is_dir(), "needs Debian's golang-filippo-age-dev")
+    @unittest.skipUnless(all((DEBIAN / "src" / it).is_dir() for it in OF_AGE), "needs filippo.io/age")
     def test_keys_of_age(self):
         """The module that adapts the keys of filippo.io/age, over Debian's copy of that. (Its own way to name modules needs no network.)"""
-        if not all((DEBIAN / "src" / it).is_dir() for it in ("golang.org/x/crypto/ssh", "filippo.io/edwards25519")):
-            self.skipTest("needs Debian's golang-golang-x-crypto-dev and golang-filippo-edwards25519-dev")
         module = self.path("gopath/src") / go_module()
         shutil.copytree(MODULE, module)
         shutil.copytree(TOP / "bindings" / "tests", module.parent / "tests")
