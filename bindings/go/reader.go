@@ -128,7 +128,8 @@ func (r *Reader) WriteTo(dst io.Writer) (int64, error) {
 }
 
 // Seek implements io.Seeker, if the source can seek; else it only tells the place. A place after the end is the end to Read. From the end
-// it opens the last chunk, which proves where that is. After an error, no Read succeeds until a Seek does.
+// it opens the last chunk, which proves where that is. After an error the place is as before; if the source failed, no Read succeeds until a
+// Seek does.
 func (r *Reader) Seek(offset int64, whence int) (int64, error) {
 	if err := own(r.self, r); err != nil {
 		return 0, err
@@ -174,10 +175,12 @@ func (r *Reader) goTo(at int64) error {
 	return err
 }
 
-// size is the length of the plaintext, which its last chunk proves. It leaves the reader there.
+// size is the length of the plaintext, which its last chunk proves. The place stays.
 func (r *Reader) size() (int64, error) {
+	was := r.at
 	end, err := r.seeker.Seek(0, io.SeekEnd)
 	if err != nil {
+		r.err = err
 		return 0, err
 	}
 	size, err := r.decoder.size(end - r.base)
@@ -185,14 +188,12 @@ func (r *Reader) size() (int64, error) {
 		err = r.goTo(size)
 	}
 	if err == nil {
-		_, err = r.Read(make([]byte, 1))
+		if _, err = r.Read(make([]byte, 1)); err == nil {
+			err = errGrown
+		}
 	}
-	if err == nil {
-		r.err = errGrown
-		return 0, errGrown
-	}
-	if err == io.EOF {
-		err = nil
+	if back := r.goTo(was); err == io.EOF {
+		err = back
 	}
 	return size, err
 }

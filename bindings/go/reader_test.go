@@ -323,7 +323,11 @@ func TestSeekToTheEnd(t *testing.T) {
 		if _, err := r.Seek(0, io.SeekEnd); !errors.Is(err, ErrNotWhole) {
 			t.Error(n, "cut", err)
 		}
-		if _, err := r.Read(make([]byte, 9)); err == nil && n < 65_536 || err == io.EOF {
+		if at := must(r.Seek(0, io.SeekCurrent)); at != 0 {
+			t.Error(n, "cut, at", at)
+		}
+		got := make([]byte, 9)
+		if count, err := io.ReadFull(r, got); (err == nil) != (n > 65_536) || errors.Is(err, io.EOF) || !bytes.Equal(got[:count], text[:count]) {
 			t.Error(n, "cut, after a Seek that failed", err)
 		}
 		if n > 65_536 { // what comes before the damage is still there
@@ -354,7 +358,7 @@ func TestSeeksThatFail(t *testing.T) {
 	for _, it := range []struct {
 		offset int64
 		whence int
-	}{{-1, io.SeekStart}, {-11, io.SeekCurrent}, {5, 9}} {
+	}{{-1, io.SeekStart}, {-11, io.SeekCurrent}, {-1001, io.SeekEnd}, {5, 9}} {
 		if at, err := r.Seek(it.offset, it.whence); at != 10 || err == nil {
 			t.Error(it, at, err)
 		}
