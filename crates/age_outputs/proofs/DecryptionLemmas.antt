@@ -19,14 +19,14 @@ use Rattle.age_command.specs.{allows_by, refuses_by}
 use Rattle.age_command.specs.declared.ending.Ending.{Ending}
 use Rattle.age_command.specs.declared.identity.Identity.{Identity}
 use Rattle.age_outputs.proofs.EngineLemmas.{the_some}
-use Rattle.age_outputs.specs.{Reached, missing_at}
+use Rattle.age_outputs.specs.{Reached}
 use Rattle.age_outputs.specs.Left.{start_of}
 use Rattle.age_outputs.specs.declared.decrypt_command.OldText.{OldText}
 use Rattle.age_outputs.specs.declared.output.Writing.{Writing}
 use Rattle.age_outputs.specs.inner.{Concludes, IsNewOld, IsPlacedBy, IsSameOld, RunsEngine, earlier_of}
 use Rattle.age_outputs.specs.inner.{end_of, goes_on, own_of}
-use Rattle.age_outputs.specs.inner.Engines.{Engine, GoesOn, decrypt_engine, kept_for, EndsText, IsPlaced}
-use Rattle.age_outputs.specs.inner.Engines.{StopsText, PortsOf}
+use Rattle.age_outputs.specs.inner.Engines.{missing_at, Engine, GoesOn, decrypt_engine, kept_for, EndsText}
+use Rattle.age_outputs.specs.inner.Engines.{IsPlaced, StopsText, PortsOf}
 
 -- ---- The position of a stop, by the marks of its run.
 

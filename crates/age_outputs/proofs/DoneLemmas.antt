@@ -21,9 +21,9 @@ use Rattle.age_cli_args.specs.declared.request.Request.{Request}
 use Rattle.age_cli_args.specs.declared.request.Request.TheVariants.{Encrypt, Decrypt, Resume}
 use Rattle.age_command.specs.{allows_by, refuses_by}
 use Rattle.age_command.specs.declared.identity.Identity.{Identity}
-use Rattle.age_outputs.specs.Commands.{WasRead, missing_at}
+use Rattle.age_outputs.specs.Commands.{WasRead}
 use Rattle.age_outputs.specs.Done.{CameFirst, IsFileBy, IsRestBy, OutHolds, LeavesFor}
-use Rattle.age_outputs.specs.inner.Engines.{HasEngineEnded, LeavesText, Returned, decrypt_engine}
+use Rattle.age_outputs.specs.inner.Engines.{missing_at, HasEngineEnded, LeavesText, Returned, decrypt_engine}
 use Rattle.age_outputs.specs.inner.Engines.{encrypt_engine, kept_for, OfEngine}
 
 -- ---- What a file gave, by what came.

@@ -37,12 +37,12 @@ use Rattle.age_command.specs.declared.identity.Identity.{Identity}
 use Rattle.age_outputs.proofs.DecryptionLemmas.{if_some}
 use Rattle.age_outputs.proofs.DoneLemmas.{old_gave}
 use Rattle.age_outputs.specs.Acts.{IsDue, IsSaved}
-use Rattle.age_outputs.specs.Commands.{WasRead, missing_at}
+use Rattle.age_outputs.specs.Commands.{WasRead}
 use Rattle.age_outputs.specs.Done.{CameFirst, paths_of}
 use Rattle.age_outputs.specs.Left.{IsThereUnlessFailed, start_of, GivesFile, IsBeforeRun, IsRunOf, IsSavedBy}
 use Rattle.age_outputs.specs.Left.{Left, SavesOf, Stops, StopsOf, save_of}
-use Rattle.age_outputs.specs.inner.Engines.{Engine, HasEngineStopped, IsPlaced, OfEngine, Returned}
-use Rattle.age_outputs.specs.inner.Engines.{decrypt_engine, encrypt_engine, kept_for}
+use Rattle.age_outputs.specs.inner.Engines.{missing_at, Engine, HasEngineStopped, IsPlaced, OfEngine}
+use Rattle.age_outputs.specs.inner.Engines.{Returned, decrypt_engine, encrypt_engine, kept_for}
 
 -- ---- The position that was saved.
 

@@ -1,16 +1,14 @@
 -- What the commands that write OUT find in the options and the files.
-use Rattle.std.specs.Prelude.{◌≡◌, ℕ, List, [], ◌++◌, length, Option, ◌==◌, if◌then◌else◌}
+use Rattle.std.specs.Prelude.{◌≡◌, ℕ, List, [], ◌++◌, length, Option}
+use Rattle.clap.specs.Words.{Text}
 use Rattle.age_io.specs.{SourceView}
 use Rattle.age_keys.specs.{IsAllowed}
 use Rattle.age_sealing.specs.{SecretView}
-use Rattle.age_position.specs.declared.position.Position.{Position}
 use Rattle.age_fileset.specs.{Outcome, Found, Gave, reading_of}
 use Rattle.age_fileset.specs.declared.files.Missing.{Missing}
-use Rattle.age_fileset.specs.declared.files.Missing.TheVariants.{Empty, Fails}
 use Rattle.age_cli_args.specs.{option_text}
 use Rattle.age_cli_args.specs.declared.request.Encrypting.{Encrypting}
 use Rattle.age_command.specs.{random_name, IsPassphraseIn}
-use Rattle.clap.specs.Words.{Text}
 
 -- ---- What was read of a file.
 
@@ -40,9 +38,3 @@ pub record MakesSecret (GaveAll Gave : Text → List ℕ → Type 0) (asked : En
   pub key_length : length s.key ≡ 16
   pub salt_length : length s.salt ≡ 16
   pub nonce_length : length s.nonce ≡ 16
-
--- ---- Where `resume` begins.
-
--- at chunk 0 nothing of the earlier output is needed, and a missing one counts as empty
-abbrev pub missing_at : Position → Missing
-missing_at position = if position.index == 0 then Empty else Fails

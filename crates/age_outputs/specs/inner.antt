@@ -20,13 +20,13 @@ use Rattle.age_command.specs.declared.ending.Ending.{Ending}
 use Rattle.age_calls.specs.{Closes, EndedFile, IsAtName, OutFile, TouchesItself, IsUntouched}
 use Rattle.age_outputs.specs.Acts.{IsDue, IsSaved}
 use Rattle.age_outputs.specs.Left.{stop_ending, IsThereUnlessFailed, Spares}
-use Rattle.age_outputs.specs.inner.Engines.{Engine}
+use Rattle.age_outputs.specs.inner.Engines.{Engine, missing_at}
 use Rattle.age_outputs.specs.declared.interruption.Reached.{Reached}
 use Rattle.age_chunk.specs.{chunk_length}
 use Rattle.age_opening.specs.{IsMarked, MarksView, Resumption, resumption}
 use Rattle.age_intake.specs.{Ports, ports}
 use Rattle.age_sealing.specs.{SecretView}
-use Rattle.age_outputs.specs.Commands.{missing_at, MakesSecret}
+use Rattle.age_outputs.specs.Commands.{MakesSecret}
 use Rattle.age_position.specs.declared.position.Position.{Position}
 use Rattle.age_options.specs.declared.ClobberOption.TheVariants.{Refused}
 use Rattle.age_cli_args.specs.declared.request.Paths.{Paths}

@@ -5,7 +5,7 @@ ghost use Rattle.age_fileset.specs.{CameSince, HasGivenAll};
 ghost use Rattle.age_cli_args.specs.declared.request.Request.TheVariants.{Resume};
 ghost use Rattle.age_position.specs.{position_text};
 ghost use Rattle.age_outputs.specs.Acts.{Acts, Finally};
-ghost use Rattle.age_outputs.specs.{missing_at};
+ghost use Rattle.age_outputs.specs.inner.Engines.{missing_at};
 ghost use Rattle.age_outputs.specs.inner.{IsNewOld, OpensFiles};
 
 use crate::decrypt_command::{OldText, Outputs, Ready, decrypt_ready, identify};

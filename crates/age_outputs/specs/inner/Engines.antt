@@ -1,7 +1,7 @@
 -- What the engine of a command promises, and what became of the files then. Private: no public contract
 -- cites this module.
 use Rattle.std.specs.Prelude.{◌≡◌, ℕ, true, Result, List, [], ◌∷◌, Option, Some, None, is_some, ◌++◌, ◌≢◌}
-use Rattle.std.specs.Prelude.{◌⊎◌, IfSome, IsSomeAnd, ◌<◌, ◌≤◌}
+use Rattle.std.specs.Prelude.{◌==◌, if◌then◌else◌, ◌⊎◌, IfSome, IsSomeAnd, ◌<◌, ◌≤◌}
 use Rattle.clap.specs.Words.{Text}
 use Rattle.age_io.specs.{SourceView, SinkView}
 use Rattle.age_options.specs.declared.ClobberOption.TheVariants.{Refused}
@@ -23,7 +23,8 @@ use Rattle.age_opening.specs.declared.decryption.Stopped.{Stopped}
 use Rattle.age_calls.specs.{EndedFile, IsAtName, TouchesItself, IsThere, IsOnDisk, IsUntouched}
 use Rattle.age_fileset.specs.{FilesView, Outcome, Absent, Settled, HasGiven, HasGivenAll, Entry, PutsOnly}
 use Rattle.age_fileset.specs.{entry, Put}
-use Rattle.age_fileset.specs.declared.files.Missing.TheVariants.{Fails}
+use Rattle.age_fileset.specs.declared.files.Missing.{Missing}
+use Rattle.age_fileset.specs.declared.files.Missing.TheVariants.{Empty, Fails}
 use Rattle.age_cli_args.specs.{option_text}
 use Rattle.age_cli_args.specs.declared.request.Decrypting.{Decrypting}
 use Rattle.age_cli_args.specs.declared.request.Paths.{Paths}
@@ -33,9 +34,15 @@ use Rattle.age_command.specs.{allows_by, refuses_by, MakesBy}
 use Rattle.age_command.specs.declared.ending.Ending.{Ending}
 use Rattle.age_command.specs.declared.identity.Identity.{Identity}
 use Rattle.age_outputs.specs.Acts.{IsDue, IsSaved}
-use Rattle.age_outputs.specs.Commands.{MakesSecret, WasRead, missing_at}
+use Rattle.age_outputs.specs.Commands.{MakesSecret, WasRead}
 use Rattle.age_outputs.specs.Done.{IsAnsweredOnce}
 use Rattle.age_outputs.specs.Left.{stop_ending, IsThereUnlessFailed, start_of}
+
+-- ---- Where `resume` begins.
+
+-- at chunk 0 nothing of the earlier output is needed, and a missing one counts as empty
+abbrev pub missing_at : Position → Missing
+missing_at position = if position.index == 0 then Empty else Fails
 
 -- ---- What the engine of a command promises of its source and its sink, before and after.
 
