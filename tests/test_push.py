@@ -10,7 +10,7 @@ import sys
 from unittest import mock
 
 from tests.bindings import LENGTHS, PYTHON, BindingsCase, agefile, plain_of, python_with, raised, setUpModule
-from tests.test_python_files import interrupted_at, together
+from tests.test_python_files import Interruption, interrupted_at, together
 from tools.workspace import LIBRARY
 
 FILES = 300
@@ -94,6 +94,13 @@ def changed(rnd, data):
     elif how == 3:
         held += b"x" * rnd.choice([1, 70_000])
     return bytes(held)
+
+
+def interrupt_within():
+    """Raises what a signal's handler does, unless _call() has just returned: then it is for its caller to know."""
+    at = sys._getframe(1).f_locals
+    if at["event"] != "return" or at["frame"].f_code.co_name != "_call":
+        raise Interruption
 
 
 def encrypted(text, size):
@@ -306,20 +313,22 @@ class PushTest(BindingsCase):
         data = sealed(text)
         for made, given, right in (
             (lambda: agefile.Decryptor(passphrase="pw"), data, lambda got: got == text),
-            (lambda: agefile.Encryptor(passphrase="pw", work=1), text, lambda got: agefile.decrypt(got, passphrase="pw") == text),
+            (lambda: agefile.Encryptor(passphrase="pw", work=1), text, lambda got: agefile.decrypt(got, passphrase="pw") in (text, text[:100_000])),
         ):
-            turn, wrong = 0, []
-            while turn < 200:
-                it = made()
-                begin = it.update(given[:100_000])
-                if not interrupted_at(turn, package, lambda: it.update(given[100_000:])):
-                    break
-                try:
-                    wrong += [] if right(begin + it.update(given[100_000:]) + it.finish()) else [turn]
-                except (OSError, ValueError, agefile.AgeError):
-                    pass
-                turn += 1
-            self.see(f"{type(it).__name__}: {turn} interruptions", wrong == [] and turn > 10, wrong)
+            for is_again in (True, False):
+                turn, wrong = 0, []
+                while turn < 200:
+                    it, returned = made(), []
+                    begin = it.update(given[:100_000])
+                    if not interrupted_at(turn, package, lambda: returned.append(it.update(given[100_000:])), interrupt_within):
+                        break
+                    turn += 1
+                    if returned:
+                        continue
+                    with contextlib.suppress(OSError, ValueError, agefile.AgeError):
+                        got = begin + (it.update(given[100_000:]) if is_again else b"") + it.finish()
+                        wrong += [] if right(got) else [turn]
+                self.see(f"{type(it).__name__}, again {is_again}: {turn} interruptions", wrong == [] and turn > 10, wrong)
 
     def test_two_threads(self):
         """Calls of two threads on one object are whole."""

@@ -2,6 +2,7 @@
 sinks that don't keep to the rules."""
 import errno
 import io
+import itertools
 import os
 import signal
 import sys
@@ -175,8 +176,8 @@ class OddFilesTest(BindingsCase):
     def test_a_shorter_file(self):
         """A file whose size was asked, and in whose place one with the same key is put that is shorter: to no read is its end the end."""
         text = b"".join(b"%d,line\n" % it for it in range(60_000))
-        data, shorter = self.sealed(text), self.sealed(text[:5 * 65_536 + 100])
-        for what, read in WAYS.items():
+        data, ends = self.sealed(text), [self.sealed(text[:5 * 65_536 + more]) for more in (100, 0)]
+        for (what, read), shorter in itertools.product(WAYS.items(), ends):
             under = io.BytesIO(data)
             file = agefile.open(under, file_key=KEY)
             self.see(f"its size, before {what}", file.size == len(text))

@@ -175,7 +175,7 @@ class ReleaseTest(Case):
                  and all(run("dpkg", "--compare-versions", own, "ge", it).returncode == 0 for it in asked), own, asked)
         self.see("the module was compiled", any((place / "agefile" / "__pycache__").iterdir()))
         documents = self.path("root/usr/share/doc/python3-agefile")
-        self.see("what the module names is there", all((documents / it).exists() for it in ("copyright", "bindings/README.md", "docs/FAULTS.md")))
+        self.see("what the module names is there", all((documents / it).exists() for it in ("copyright", "bindings/README.md", "bindings/python/README.md", "docs/FAULTS.md")))
         if shutil.which("lintian"):
             for package in sorted(self.path("out").glob("*.deb")):
                 ended = run("lintian", "--no-cfg", "--profile", "debian", package)

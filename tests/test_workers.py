@@ -6,6 +6,7 @@ import signal
 import subprocess
 import threading
 import time
+from unittest import mock
 
 from tests.bindings import BLOCK, KEY, LENGTHS, PYTHON, BindingsCase, agefile, flipped, limited, plain_of, python_with, raised, setUpModule
 from tests.test_languages import sample_of
@@ -45,26 +46,30 @@ class WorkersTest(BindingsCase):
 
     def test_an_interruption(self):
         """A signal's handler that raises while threads decrypt: none of them goes on."""
-        data, begun = self.sealed(bytes(600 * 65_536)), threading.active_count()
+        data, begun, really = self.sealed(bytes(600 * 65_536)), threading.active_count(), agefile._coders.Decoder.open_at
+        opened = []
+
+        def slowly(*words):
+            opened.append(words[1])
+            time.sleep(0.002)
+            return really(*words)
 
         def interrupts(*_):
             raise KeyboardInterrupt
 
-        kept = signal.signal(signal.SIGALRM, interrupts)
-        try:
-            found = []
-            for seconds in (0.001, 0.01, 0.03):
+        kept, limit, found = signal.signal(signal.SIGALRM, interrupts), time.monotonic() + 60, []
+        with mock.patch.object(agefile._coders.Decoder, "open_at", slowly):
+            for seconds in (0.001, 0.01, 0.03, 0.1):
                 signal.setitimer(signal.ITIMER_REAL, seconds)
                 found.append(raised(KeyboardInterrupt, agefile.decrypt, data, file_key=KEY, workers=4))
                 signal.setitimer(signal.ITIMER_REAL, 0)
-        finally:
-            signal.setitimer(signal.ITIMER_REAL, 0)
-            signal.signal(signal.SIGALRM, kept)
+                while threading.active_count() > begun and time.monotonic() < limit:
+                    time.sleep(0.01)
+                count = len(opened)
+                opened.clear()
+                self.see(f"chunks that are opened: {count}", threading.active_count() == begun and count < 600 + 1 - found[-1], found)
+        signal.signal(signal.SIGALRM, kept)
         self.see("interruptions", any(found), found)
-        limit = time.monotonic() + 60
-        while threading.active_count() > begun and time.monotonic() < limit:
-            time.sleep(0.01)
-        self.see("threads that go on", threading.active_count() == begun)
 
     def test_ends_that_move(self):
         """A full chunk that is the last of a shorter file, and one that isn't the last at the end: a fault, by any workers."""

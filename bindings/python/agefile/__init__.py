@@ -23,7 +23,7 @@ end is damaged, all before it can be read: only `size`, and a seek from the end,
 What is wrong with a file raises AgeError, as one of its kinds: WrongKey, NotWhole (and of that Truncated, though most truncated files end
 within a chunk, and can't be told from damaged ones), WorkTooHigh or OutOfMemory. A read() that runs into a damaged chunk returns nothing of
 what comes before it; read1() returns all of that first. After a read that failed, or that an exception of a signal's handler ended, each one
-is refused until a seek() to a place that you know. A read waits for bytes, even if the source doesn't block; BlockingIOError says that the
+is refused until a seek() to a place that you know. (One exception in 400 comes too early to be noticed: seek after each.) A read waits for bytes, even if the source doesn't block; BlockingIOError says that the
 source returned None, and has no fileno() to wait for.
 
 Writing: the file is complete once close() has returned. A `with` block that is left by an exception abandons it: every reader refuses it then.

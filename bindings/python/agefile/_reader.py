@@ -55,6 +55,7 @@ class Chunks(io.RawIOBase):
         self._end = -1  # where the plaintext ends, once that is known
         self._place = 0
         self._fault: Exception | None = None  # of each read until a seek
+        self._lost = OSError(LOST)
 
     # ---- chunks
 
@@ -135,22 +136,24 @@ class Chunks(io.RawIOBase):
             raise ValueError("the file is closed")
 
     def readinto(self, room: Any, /) -> int:
-        count: int = self._reading(self._read_some, memoryview(room).cast("B"))
-        self._fault = None  # (the last that can be interrupted)
+        before, self._fault = self._fault, self._lost  # until it returns: what comes between may be interrupted
+        count: int = self._reading(before, self._read_some, room)
+        self._fault = None
         return count
 
     def readall(self) -> bytes:
-        text: bytes = self._reading(self._read_all)
+        before, self._fault = self._fault, self._lost
+        text: bytes = self._reading(before, self._read_all)
         self._fault = None
         return text
 
-    def _reading(self, call: Any, *words: Any) -> Any:
-        """Makes a call that reads, after which each one is refused, until its caller says that it returned."""
+    def _reading(self, before: Exception | None, call: Any, *words: Any) -> Any:
+        """Makes a call that reads, unless there was a fault before. Its own fault is that of each one then."""
         with self._lock:
             self._see_open()
-            if self._fault is not None:
-                raise again(self._fault)
-            self._fault = OSError(LOST)
+            self._fault = before or self._fault
+            if before is not None:
+                raise again(before)
             try:
                 return call(*words)
             except AgeError as fault:
@@ -163,7 +166,8 @@ class Chunks(io.RawIOBase):
             text.write(room[:count])
         return text.getvalue()
 
-    def _read_some(self, room: memoryview) -> int:
+    def _read_some(self, given: Any) -> int:
+        room = memoryview(given).cast("B")
         while len(room) > 0 and (self._end < 0 or self._place < self._end):
             number, at = divmod(self._place, CHUNK)
             if number == self._number and at < self._count:

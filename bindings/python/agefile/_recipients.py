@@ -13,6 +13,7 @@ from ._keys import NINE, Pair, bech32_decoded, lines_of, wrapping_key, x25519_of
 from ._library import C
 
 LENGTH = 62  # of a recipient
+STANZA = 98  # bytes of a stanza
 STANZAS_MAX = (1 << 20) - 70  # bytes of all stanzas: a header has at most 1 MiB, and 70 bytes beside them
 
 
@@ -72,14 +73,13 @@ def wrapped(file_key: bytes, stanzas: bytes) -> HeldKey:
 
 def wrapped_for(points: list[bytes]) -> HeldKey:
     """A new file key that is wrapped for these recipients. Nothing is returned unless the library opens each stanza."""
+    if len(points) * STANZA > STANZAS_MAX:
+        raise ValueError(f"{len(points):,} recipients are too many: a header has room for {STANZAS_MAX // STANZA:,}")
     file_key = os.urandom(16)
     made = [stanza_of(it, file_key) for it in points]
-    stanzas = b"".join(stanza for stanza, _ in made)
-    if len(stanzas) > STANZAS_MAX:
-        raise ValueError(f"{len(points):,} recipients are too many: their stanzas have at most {STANZAS_MAX:,} bytes")
     for stanza, pair in made:
         decoder = Decoder(of_pair(pair))
         answer, _ = decoder.decode(Encoder(wrapped(file_key, stanza)).encode(b""))
         if answer != 0 or not decoder.payload_at:
             raise decoder.fault(answer)
-    return wrapped(file_key, stanzas)
+    return wrapped(file_key, b"".join(stanza for stanza, _ in made))
