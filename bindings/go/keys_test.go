@@ -162,8 +162,10 @@ func TestStanzas(t *testing.T) {
 			t.Errorf("%+v: %v", it, err)
 		}
 	}
-	if _, err := Encrypt(io.Discard, given{}); numberOf(err) != 255 {
-		t.Error("no stanza:", err)
+	for _, to := range [][]Recipient{{given{}}, {given{}, all}, {all, given{}}} { // nobody could open it for that one
+		if _, err := Encrypt(io.Discard, to...); numberOf(err) != 255 {
+			t.Error("no stanza:", err)
+		}
 	}
 	if _, err := Encrypt(io.Discard, failingKey{errFull}); err != errFull {
 		t.Error(err)
