@@ -49,7 +49,7 @@ pub fn decrypt_to<R: Read + Seek>(
     thread::scope(|scope| {
         let (_stop, mut threads) = (Stop(&parts.next), Vec::new());
         for _ in 0..workers {
-            threads.push(thread::Builder::new().spawn_scoped(scope, &work)?);
+            threads.push(thread::Builder::new().spawn_scoped(scope, work)?);
         }
         let ended = threads.into_iter().map(|it| it.join().unwrap_or_else(|it| resume_unwind(it)));
         let first = ended.filter_map(Result::err).min_by_key(|it| it.0);

@@ -118,6 +118,8 @@ fn failures_are_reported() {
     let mut file = Encryptor::new(&[&pw()]).wrap(Broken).unwrap();
     file.write_all(b"text").unwrap();
     let mut errors = vec![file.flush().unwrap_err(), file.finish().map(drop).unwrap_err()];
+    let file = Encryptor::new(&[&pw()]).wrap(Broken).unwrap();
+    errors.push(file.finish().map(drop).unwrap_err());
     for end in [0, 30, data.len() - 65_552, data.len() - 100, data.len()] {
         errors.push(open((&data[..end]).chain(Broken)).map(read_all).map_or_else(
             |error| error,
