@@ -136,7 +136,7 @@ class ProgramTest(AgefileCase):
         words = "decrypt --save position cut part".split()
         for what, run in (("a file", lambda: self.run_agefile(*words, "--pass", "pass")), ("typed", lambda: self.at_terminal(*words, answers=[b"correct horse\n"]))):
             ended = run()
-            command = ended.stderr.decode().rpartition("to go on from there: ")[2].partition("\n")[0].replace(" NEW", " whole").replace(" PASS ", " pass ")
+            command = ended.stderr.decode().rpartition("to go on from there: ")[2].partition("\n")[0].replace(" NEW", " whole").replace(" FILE ", " pass ")
             self.see(f"{what}: the command", command.startswith("age_tool resume --position position --old part --pass pass "), ended.stderr)
             self.write("cut", self.age)
             env = {**os.environ, "PATH": f"{self.agefile.parent}:{os.environ['PATH']}"}
