@@ -15,6 +15,7 @@
 
 enum { MOST = 1 << 20 };
 
+/* What is written goes through all of it, however it is written, so that the processor's caches are as full. */
 static uint8_t out[AGEFILE_ROOM(MOST)];
 static size_t piece = MOST;
 
@@ -42,7 +43,7 @@ static uint32_t by_feeds(const age_c_reader *reader, const uint8_t *payload, siz
     for (size_t at = 0; answer == 0 && at < len;) {
         size_t size = len - at < piece ? len - at : piece, used = 0, taken;
         for (; answer == 0 && used < size; used += taken, *all += written)
-            answer = age_c_feed(&stream, payload + at + used, size - used, &taken, out, AGE_C_BLOCK, &written);
+            answer = age_c_feed(&stream, payload + at + used, size - used, &taken, out + *all % MOST, AGE_C_BLOCK, &written);
         at += size;
     }
     if (answer == 0) answer = age_c_finish(&stream, out, sizeof out, &written);
@@ -58,7 +59,7 @@ static uint32_t write_again(const uint8_t *text, size_t len, size_t *all) {
     for (size_t at = 0; answer == 0 && at < len;) {
         size_t size = len - at < piece ? len - at : piece, used = 0, taken;
         for (; answer == 0 && used < size; used += taken, *all += written)
-            answer = age_c_feed_text(&stream, text + at + used, size - used, &taken, out, AGE_C_BLOCK, &written);
+            answer = age_c_feed_text(&stream, text + at + used, size - used, &taken, out + *all % MOST, AGE_C_BLOCK, &written);
         at += size;
     }
     if (answer == 0) answer = age_c_finish_text(&stream, out, sizeof out, &written);
