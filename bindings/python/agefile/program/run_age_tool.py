@@ -15,8 +15,11 @@ SECRET_AT = 10  # from which number on age_tool gets a descriptor of a secret: b
 
 
 def age_tool() -> str:
-    """The age_tool that came with this program: the one that stands, or is linked, beside it."""
-    found = os.path.realpath(f"{os.path.dirname(PLACE) if os.path.isfile(PLACE) else PLACE}/age_tool")
+    """The age_tool that came with this program: the one that stands, or is linked, beside it; in a checkout, that at its top."""
+    folder = os.path.dirname(PLACE) if os.path.isfile(PLACE) else PLACE
+    if folder.endswith("/bindings/python/agefile/program"):
+        folder = folder.removesuffix("/bindings/python/agefile/program")
+    found = os.path.realpath(f"{folder}/age_tool")
     if not os.access(found, os.X_OK):
         raise Fault(f"there is no program {shown(found)}, which comes with agefile: install the release again")
     if BUILD.startswith("(of "):  # (a checkout's is built from its own sources)
