@@ -61,7 +61,7 @@ fn goes_on_after_a_fault() {
     let mut data = sealed(&text);
     let begin = payload_of(&data, text.len());
     data[begin + BLOCK + 100] ^= 1;
-    let mut file = open(Cursor::new(data.clone())).unwrap();
+    let mut file = open(Cursor::new(&data)).unwrap();
     for (place, wrong) in
         [(0, false), (70_000, true), (140_000, false), (65_536, true), (199_990, false)]
     {
@@ -76,13 +76,14 @@ fn goes_on_after_a_fault() {
     let place = file.stream_position().unwrap();
     assert!(file.seek(SeekFrom::Current(-300_000)).is_err());
     assert_eq!(file.stream_position().unwrap(), place);
-    // a source that was repaired
+    // a source that was repaired: a seek to the same place reads it again
+    let under = Shared(Rc::new(RefCell::new(Cursor::new(data))));
+    let mut file = open(under.clone()).unwrap();
     file.seek(SeekFrom::Start(65_536)).unwrap();
-    assert!(file.read(&mut [0; 1]).is_err());
-    let mut source = file.into_inner();
-    source.get_mut()[begin + BLOCK + 100] ^= 1;
-    source.set_position(0);
-    assert!(read_all(open(source).unwrap()).0 == text);
+    assert!(file.read(&mut [0; 1]).is_err() && file.read(&mut [0; 1]).is_err());
+    under.0.borrow_mut().get_mut()[begin + BLOCK + 100] ^= 1;
+    assert_eq!(file.seek(SeekFrom::Current(0)).unwrap(), 65_536);
+    assert!(read_all(file).0 == text[65_536..]);
 }
 
 /// A file whose end is damaged is read in order up to its fault; its size, and a place from its end,

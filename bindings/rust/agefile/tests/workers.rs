@@ -111,6 +111,15 @@ fn goes_on_before_a_fault() {
     };
     let error = decrypt_to(out, || Ok(Cursor::new(&data)), &[&pw()], 2).unwrap_err();
     assert_eq!(number(Err::<(), _>(error)), (17, Some(1)));
+    let late = |_: &[u8], at| {
+        if at == 0 {
+            std::thread::sleep(std::time::Duration::from_millis(300));
+            return Err(ErrorKind::WriteZero.into());
+        }
+        Ok(())
+    };
+    let error = decrypt_to(late, || Ok(Cursor::new(&data)), &[&pw()], 2).unwrap_err();
+    assert_eq!(error.kind(), ErrorKind::WriteZero);
 }
 
 /// What another thread does once this one has begun: so slowly that its end has seconds to get out.
