@@ -114,7 +114,8 @@ uint64_t agefile_fault_chunk(const agefile_decoder *it);
 /* ---- any place of a file whose header is open; AGEFILE_MISUSED before ---- */
 
 /* The next plaintext is that from byte `place` on: give the file from *offset on. With the file's length, a place
- * beyond the end is the end; UINT64_MAX if that isn't known. */
+ * beyond the end is the end; UINT64_MAX if that isn't known. At the first byte of a chunk the one before is opened
+ * too, so that its fault is answered. */
 AGEFILE_MUST_CHECK int agefile_decode_seek(agefile_decoder *it, uint64_t place, uint64_t file_len, uint64_t *offset);
 /* Opens one chunk by its block, which stands at agefile_payload_at + chunk * AGEFILE_BLOCK: a full one, or what the file
  * still has. *is_last says whether the plaintext ends with it. It depends on no other call, and changes nothing. */

@@ -220,7 +220,7 @@ class ProgramTest(AgefileCase):
             for version in ("age_tool 1.2.9 (of 0123456789)", "age_tool 11.3.0", ""):
                 beside.write_text(f"#!/bin/sh\necho '{version}'\n")
                 beside.chmod(0o755)
-                said = f"agefile: .*/bin/age_tool is version {re.escape(version[9:] or 'unknown')}, and this is agefile 1[.].*: .*\n"
+                said = f"agefile: .*/bin/age_tool is version {re.escape(version[9:] or 'unknown')}, and this is agefile 2[.].*: .*\n"
                 self.ends(f"it is {version}", self.run_agefile("inspect", "age", env=env), 1, form(said.replace("is version 1.2.9", "is version '?1.2.9")))
             beside.write_bytes(b"\0")
             self.ends("it can't run", self.run_agefile("inspect", "age", env=env), 1, form("agefile: can't run .*"))

@@ -46,12 +46,12 @@ def read(front):
     library = bindings.module()._library
     size, count, work, written = ctypes.c_size_t(), ctypes.c_size_t(), ctypes.c_uint32(), ctypes.c_size_t()
     most = ctypes.c_size_t(len(front))
-    answer = library.C.age_c_header(front, most, ctypes.byref(size), ctypes.byref(count), ctypes.byref(work))
+    answer = library.C.agefile_header(front, most, ctypes.byref(size), ctypes.byref(count), ctypes.byref(work))
     if answer != 0:
         return answer, None
     places, bodies = (library.StanzaPlace * count.value)(), ctypes.create_string_buffer(len(front))
     told = ctypes.byref(count), bodies, most, ctypes.byref(written)
-    assert library.C.age_c_stanzas(front, most, places, ctypes.c_size_t(len(places)), *told) == 0
+    assert library.C.agefile_stanzas(front, most, places, ctypes.c_size_t(len(places)), *told) == 0
     return size.value, [stanza(front, bodies.raw[: written.value], it) for it in places[: count.value]]
 
 

@@ -103,7 +103,7 @@ class ReleaseTest(Case):
                 held |= {it: tar.extractfile(it).read() for it in tar.getnames() if it.endswith(("/NOTICES", "2.0.0/LICENSE"))}
         with zipfile.ZipFile(next(self.path("out").glob("*.whl"))) as wheel:
             held |= {it: wheel.read(it) for it in wheel.namelist() if it.endswith("/NOTICES")}
-        self.see("the archives, the wheel and four packages", len(held) == 8, *held)
+        self.see("the archives, the crates, the wheel and four packages", len(held) == 9, *held)
         for name, text in held.items():
             self.see(name, text.startswith(b"These are the owner's terms.\n") and b"no license yet" not in text, text[:200])
 

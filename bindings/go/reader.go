@@ -128,7 +128,7 @@ func (r *Reader) WriteTo(dst io.Writer) (int64, error) {
 }
 
 // Seek implements io.Seeker, if the source can seek; else it only tells the place. A place after the end is the end to Read. From the end
-// it opens the last chunk, which proves where that is. After an error the place is as before; if the source failed, no Read succeeds until a
+// it opens the last chunk, which proves where that is; a Read at the first byte of a chunk opens the one before, too. After an error the place is as before; if the source failed, no Read succeeds until a
 // Seek does.
 func (r *Reader) Seek(offset int64, whence int) (int64, error) {
 	if err := own(r.self, r); err != nil {

@@ -327,7 +327,7 @@ fn are_served(alloc: Global, files: &mut MemFiles) -> bool {
 }
 
 /// Files in memory that count how many were opened, as a caller's own set would.
-#[derive(Debug, Drop)]
+#[derive(Drop)]
 struct Counted {
     files: MemFiles,
     opened: u64,
