@@ -51,7 +51,7 @@ class CheckoutTest(Case):
     def copy_of_sources(self, name):
         """A copy of this checkout, without what was built."""
         to = self.path(name)
-        shutil.copytree(TOP, to, ignore=shutil.ignore_patterns("out", ".git", "target", "__pycache__", "libage_c.a"))
+        shutil.copytree(TOP, to, ignore=shutil.ignore_patterns("out", ".git", "target", "__pycache__", "libagefile*.a"))
         (to / ".git").mkdir()
         return to
 

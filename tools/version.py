@@ -13,7 +13,7 @@ HEADER = TOP / "include" / "agefile.h"
 # The file whose version is replaced in all.
 PROGRAM = TOP / "crates" / "age_cli_args" / "src" / "help.rt"
 # Where it stands, in one of the forms below. (pkg-config's and CMake's files, packages and archives get it as they are made.)
-FILES = ("README.md", "crates/age_cli_args/src/help.rt", "crates/age_c/src/open.rt", "bindings/c/age_c.h", "bindings/python/agefile/*.py", "bindings/python/agefile/program/*.py",
+FILES = ("README.md", "crates/age_cli_args/src/help.rt", "bindings/python/agefile/*.py", "bindings/python/agefile/program/*.py",
          "bindings/rust/Cargo.lock", "bindings/rust/*/Cargo.toml", "docs/*.1", "tests/test_release.py", "tests/test_languages.py")
 
 

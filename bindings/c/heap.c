@@ -1,4 +1,4 @@
-/* The heap that the library calls: malloc's. libage_c.a holds this file; a program that defines
+/* The heap that the library calls: malloc's. libagefile.a holds this file; a program that defines
  * the three functions itself gets its own instead. A size of 0 takes `align` bytes, so that each
  * allocation has an address of its own; no alignment is above malloc's. It includes no header,
  * so that its object doesn't depend on the machine's. */

@@ -55,9 +55,3 @@ const char *agefile_fault_text(int answer) {
 int agefile_fault_kind(int answer) {
     return fault(answer)->kind;
 }
-
-/* Of the calls below, which the modules use. */
-const char *age_c_fault_name(unsigned int answer);
-const char *age_c_fault_name(unsigned int answer) {
-    return answer < 23 || answer == 28 || answer == 254 || answer == 255 ? fault((int)answer)->name : unknown.name;
-}

@@ -1,4 +1,4 @@
-/* Whether the processor can run the library, as include/age_c.h says. It includes no header, so that its object doesn't depend on the
+/* Whether the processor can run the library, for core.h. It includes no header, so that its object doesn't depend on the
  * machine's, and is compiled for any processor. */
 unsigned int age_c_runs_here(void);
 

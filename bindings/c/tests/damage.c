@@ -11,8 +11,7 @@
  * status has to be 1: so this test can fail.
  */
 #define _GNU_SOURCE
-#include "age_c.h"
-#include "sealing.h"
+#include "agefile.h"
 
 #include <signal.h>
 #include <stdarg.h>
@@ -20,13 +19,14 @@
 #include <stdlib.h>
 #include <string.h>
 #include <sys/mman.h>
+#include <sys/random.h>
 #include <time.h>
 #include <unistd.h>
 
 #define PAGE ((size_t)4096)
 #define TAG ((size_t)16)
 #define NONCE ((size_t)16)
-#define MOST ((size_t)8 * AGE_C_BLOCK) /* bytes of a damaged file */
+#define MOST ((size_t)8 * AGEFILE_BLOCK) /* bytes of a damaged file */
 #define UNTOUCHED 9
 
 /* ---- random numbers ---- */
@@ -56,7 +56,7 @@ enum { OPENED, TEXT, AFTER, WHOLE, STAYS, RULES };
 static const char *const rules[RULES] = {
     "a header opens if, and only if, no byte of it differs",
     "the text is that of the blocks before the first that differs, all of it",
-    "a call that doesn't return 0 writes nothing, and changes no more than it may",
+    "a call that doesn't return 0 writes nothing, and one without room changes nothing",
     "an end returns 0 if, and only if, no byte of the file differs",
     "a fault stays, and nothing comes after the end",
 };
@@ -95,7 +95,7 @@ struct room {
     uint8_t *begin;
     size_t size;
 };
-static struct room given_room, out_room, reader_room;
+static struct room given_room, out_room;
 
 static struct room room_of(size_t most) {
     size_t size = (most + PAGE - 1) / PAGE * PAGE;
@@ -133,21 +133,38 @@ static const size_t lengths[] = {
 static struct file files[FILES_HERE];
 static const uint8_t pass[] = {'p', 'w'};
 
+static uint8_t noise[48];
+
+/* The library draws these, so that the file key is known, and each file comes again. */
+ssize_t getrandom(void *to, size_t count, unsigned flags) {
+    (void)flags;
+    randomize(noise, sizeof noise);
+    memcpy(to, noise, count);
+    return (ssize_t)count;
+}
+
+static agefile_key by_pass(void) {
+    agefile_key key = agefile_passphrase(pass, sizeof pass);
+    key.work = 1;
+    return key;
+}
+
 static struct file sealed(size_t text_len) {
-    uint8_t noise[48];
-    size_t blocks = text_len / AGE_C_CHUNK + 1, room = AGE_C_SEAL_FRONT + blocks * AGE_C_BLOCK;
+    size_t room = agefile_sealed_len(by_pass(), text_len), stanzas;
     struct file made = {malloc(text_len + 1), malloc(room), {0}, text_len, 0, 0};
+    uint32_t work;
     if (made.text == NULL || made.bytes == NULL) exit(2);
     randomize(made.text, text_len);
-    randomize(noise, sizeof noise);
+    if (agefile_encrypt(by_pass(), made.text, text_len, made.bytes, room, &made.len) != 0) exit(2);
+    if (agefile_header(made.bytes, made.len, &made.front, &stanzas, &work) != 0) exit(2);
+    made.front += NONCE;
     memcpy(made.key, noise, sizeof made.key);
-    made.len = sealed_file(noise, made.text, text_len, made.bytes, room, &made.front);
     return made;
 }
 
 /* ---- damage ---- */
 
-static uint8_t bytes[MOST + AGE_C_BLOCK], spare[AGE_C_BLOCK];
+static uint8_t bytes[MOST + AGEFILE_BLOCK], spare[AGEFILE_BLOCK];
 static size_t len;
 
 static size_t least(size_t a, size_t b) {
@@ -166,7 +183,7 @@ static void splice(size_t at, size_t gone, const uint8_t *more, size_t count) {
 
 /* a place in the file: anywhere, in its front, or within 20 bytes of a block's edge */
 static size_t place(const struct file *of) {
-    size_t edge = of->front + below(4) * AGE_C_BLOCK + below(41);
+    size_t edge = of->front + below(4) * AGEFILE_BLOCK + below(41);
     switch (next() % 4) {
     case 0: return below(len + 1);
     case 1: return least(len, below(of->front + 1));
@@ -177,9 +194,9 @@ static size_t place(const struct file *of) {
 
 /* the place of one of the file's blocks, and its length (0 if there is none) */
 static size_t some_block(const struct file *of, size_t *size) {
-    size_t blocks = len > of->front ? (len - of->front + AGE_C_BLOCK - 1) / AGE_C_BLOCK : 0;
-    size_t at = of->front + (blocks ? below(blocks) : 0) * AGE_C_BLOCK;
-    *size = blocks ? least(AGE_C_BLOCK, len - at) : 0;
+    size_t blocks = len > of->front ? (len - of->front + AGEFILE_BLOCK - 1) / AGEFILE_BLOCK : 0;
+    size_t at = of->front + (blocks ? below(blocks) : 0) * AGEFILE_BLOCK;
+    *size = blocks ? least(AGEFILE_BLOCK, len - at) : 0;
     return at;
 }
 
@@ -189,7 +206,7 @@ static void change(const struct file *of) {
 }
 
 static void swap(const struct file *of) {
-    static uint8_t first[AGE_C_BLOCK], second[AGE_C_BLOCK];
+    static uint8_t first[AGEFILE_BLOCK], second[AGEFILE_BLOCK];
     size_t first_size, second_size, a = some_block(of, &first_size), b = some_block(of, &second_size);
     if (a >= b) return;
     memcpy(first, bytes + a, first_size);
@@ -211,9 +228,9 @@ static void take_out(const struct file *of) {
 /* a block of another file, in the place of one or before it */
 static void graft(const struct file *of) {
     const struct file *from = &files[below(FILES_HERE)];
-    size_t size, at = some_block(of, &size), blocks = (from->len - from->front + AGE_C_BLOCK - 1) / AGE_C_BLOCK;
-    size_t other = from->front + below(blocks) * AGE_C_BLOCK;
-    splice(at, next() % 4 ? size : 0, from->bytes + other, least(AGE_C_BLOCK, from->len - other));
+    size_t size, at = some_block(of, &size), blocks = (from->len - from->front + AGEFILE_BLOCK - 1) / AGEFILE_BLOCK;
+    size_t other = from->front + below(blocks) * AGEFILE_BLOCK;
+    splice(at, next() % 4 ? size : 0, from->bytes + other, least(AGEFILE_BLOCK, from->len - other));
 }
 
 /* bytes that weren't there: of a header, random, zeros or newlines */
@@ -233,7 +250,7 @@ static void damage_once(const struct file *of) {
     uint8_t zeros[40] = {0};
     switch (next() % 10) {
     case 0: len = place(of); break;
-    case 1: len = least(len, of->front + below(4) * AGE_C_BLOCK); break;
+    case 1: len = least(len, of->front + below(4) * AGEFILE_BLOCK); break;
     case 2: change(of); break;
     case 3: swap(of); break;
     case 4: repeat(of); break;
@@ -273,9 +290,9 @@ static struct wanted wanted(const struct file *of) {
     struct wanted it = {0, is_undamaged(of), 0};
     it.opens = len >= of->front && memcmp(bytes, of->bytes, of->front - NONCE) == 0;
     if (!it.opens || memcmp(bytes + of->front - NONCE, of->bytes + of->front - NONCE, NONCE) != 0) return it;
-    for (size_t at = of->front; at < len && at < of->len; at += AGE_C_BLOCK) {
-        size_t size = least(AGE_C_BLOCK, len - at);
-        if (size != least(AGE_C_BLOCK, of->len - at) || memcmp(bytes + at, of->bytes + at, size) != 0) break;
+    for (size_t at = of->front; at < len && at < of->len; at += AGEFILE_BLOCK) {
+        size_t size = least(AGEFILE_BLOCK, len - at);
+        if (size != least(AGEFILE_BLOCK, of->len - at) || memcmp(bytes + at, of->bytes + at, size) != 0) break;
         it.text_len += size - TAG;
     }
     return it;
@@ -283,124 +300,129 @@ static struct wanted wanted(const struct file *of) {
 
 /* ---- readers: the library's, and some that are wrong on purpose ---- */
 
-typedef uint32_t taking(age_c_reader *, const uint8_t *, size_t, uint8_t *, size_t, size_t *);
-static taking *block = age_c_block, *end = age_c_end;
+static agefile_decoder *decoder;
 static const struct file *now; /* the file that was damaged */
+static uint64_t chunk;         /* the number of the next block of the file */
 static int header_is_unchecked;
 
-static uint32_t ignores_end(age_c_reader *reader, const uint8_t *at, size_t size, uint8_t *out, size_t room, size_t *written) {
-    uint32_t answer = age_c_end(reader, at, size, out, room, written);
-    return answer == AGE_C_MISUSED ? answer : 0;
+/* Gives a decoder a block or, as the file ends, what is left of one. */
+typedef int reading(const uint8_t *, size_t, int, uint8_t *, size_t, size_t *);
+
+static int reads(const uint8_t *at, size_t size, int is_end, uint8_t *out, size_t room, size_t *written) {
+    size_t n;
+    int answer = agefile_decode(decoder, at, size, out, room, written);
+    if (answer || !is_end) return answer;
+    n = *written;
+    answer = agefile_decode_end(decoder, out + n, room - n, written);
+    *written += n;
+    return answer;
 }
 
-static uint32_t takes_cut(age_c_reader *reader, const uint8_t *at, size_t size, uint8_t *out, size_t room, size_t *written) {
-    uint32_t answer = age_c_end(reader, at, size, out, room, written);
-    return answer == 20 ? 0 : answer;
+static int ignores_end(const uint8_t *at, size_t size, int is_end, uint8_t *out, size_t room, size_t *written) {
+    int answer = reads(at, size, is_end, out, room, written);
+    return is_end ? 0 : answer;
 }
 
-static uint32_t refuses_end(age_c_reader *reader, const uint8_t *at, size_t size, uint8_t *out, size_t room, size_t *written) {
-    uint32_t answer = age_c_end(reader, at, size, out, room, written);
-    return answer == 0 && reader->chunk > 0 ? 17 : answer;
+static int takes_cut(const uint8_t *at, size_t size, int is_end, uint8_t *out, size_t room, size_t *written) {
+    int answer = reads(at, size, is_end, out, room, written);
+    return is_end && answer == AGEFILE_TRUNCATED ? 0 : answer;
 }
 
-static uint32_t skips_block(age_c_reader *reader, const uint8_t *at, size_t size, uint8_t *out, size_t room, size_t *written) {
-    age_c_reader before = *reader;
-    uint32_t answer = age_c_block(reader, at, size, out, room, written);
-    if (answer != 17) return answer;
-    *reader = before;
-    reader->chunk++;
+static int refuses_end(const uint8_t *at, size_t size, int is_end, uint8_t *out, size_t room, size_t *written) {
+    int answer = reads(at, size, is_end, out, room, written);
+    return is_end && answer == 0 && chunk > 0 ? AGEFILE_CHUNK_DAMAGED : answer;
+}
+
+static int skips_block(const uint8_t *at, size_t size, int is_end, uint8_t *out, size_t room, size_t *written) {
+    int last, answer = reads(at, size, is_end, out, room, written);
+    if (answer != AGEFILE_CHUNK_DAMAGED || is_end) return answer;
+    if (agefile_open_at(decoder, chunk, at, size, out, room, written, &last) != 0) *written = 0;
     return 0;
 }
 
-static uint32_t any_order(age_c_reader *reader, const uint8_t *at, size_t size, uint8_t *out, size_t room, size_t *written) {
-    age_c_reader before = *reader, tried = before;
-    uint32_t answer = age_c_block(reader, at, size, out, room, written);
-    for (tried.chunk = 0; answer == 17 && tried.chunk < 5; tried.chunk++) {
-        age_c_reader copy = tried;
-        if (age_c_block(&copy, at, size, out, room, written) != 0) continue;
-        *reader = before;
-        reader->chunk++;
-        return 0;
-    }
+static int any_order(const uint8_t *at, size_t size, int is_end, uint8_t *out, size_t room, size_t *written) {
+    int last, answer = reads(at, size, is_end, out, room, written);
+    for (uint64_t other = 0; answer == AGEFILE_CHUNK_DAMAGED && !is_end && other < 5; other++)
+        if (agefile_open_at(decoder, other, at, size, out, room, written, &last) == 0) answer = 0;
     return answer;
 }
 
-static uint32_t writes_after(age_c_reader *reader, const uint8_t *at, size_t size, uint8_t *out, size_t room, size_t *written) {
-    uint32_t answer = age_c_block(reader, at, size, out, room, written);
-    if (answer == 17) out[room - 1]++;
+static int writes_after(const uint8_t *at, size_t size, int is_end, uint8_t *out, size_t room, size_t *written) {
+    int answer = reads(at, size, is_end, out, room, written);
+    if (answer == AGEFILE_CHUNK_DAMAGED) out[room - 1]++;
     return answer;
 }
 
-static uint32_t forgets(age_c_reader *reader, const uint8_t *at, size_t size, uint8_t *out, size_t room, size_t *written) {
+static int forgets(const uint8_t *at, size_t size, int is_end, uint8_t *out, size_t room, size_t *written) {
     static int turns;
-    uint32_t answer = age_c_block(reader, at, size, out, room, written);
-    if (answer == 17 && ++turns % 3 == 0) reader->state = 1;
+    int answer = reads(at, size, is_end, out, room, written);
+    size_t none;
+    if (answer == AGEFILE_CHUNK_DAMAGED && ++turns % 3 == 0 && agefile_decoder_begin(decoder, agefile_file_key(now->key)) == 0
+        && agefile_decode(decoder, now->bytes, now->front, NULL, 0, &none) != 0)
+        exit(2);
     return answer;
 }
 
-static uint32_t reads_past(age_c_reader *reader, const uint8_t *at, size_t size, uint8_t *out, size_t room, size_t *written) {
-    uint32_t answer = age_c_end(reader, at, size, out, room, written);
-    return ((const volatile uint8_t *)at)[size] == 0 && answer == 0 ? 0 : answer;
+static int reads_past(const uint8_t *at, size_t size, int is_end, uint8_t *out, size_t room, size_t *written) {
+    int answer = reads(at, size, is_end, out, room, written);
+    return is_end && ((const volatile uint8_t *)at)[size] == 0 && answer == 0 ? 0 : answer;
 }
 
 static const struct flaw {
     const char *name;
-    taking *block, *end;
+    reading *read;
     int header_is_unchecked;
 } flaws[] = {
-    {"ignores-end", age_c_block, ignores_end, 0},
-    {"takes-cut", age_c_block, takes_cut, 0},
-    {"refuses-end", age_c_block, refuses_end, 0},
-    {"skips-block", skips_block, age_c_end, 0},
-    {"any-order", any_order, age_c_end, 0},
-    {"writes-after", writes_after, age_c_end, 0},
-    {"forgets-fault", forgets, age_c_end, 0},
-    {"reads-past", age_c_block, reads_past, 0},
-    {"unchecked-header", age_c_block, age_c_end, 1},
+    {"ignores-end", ignores_end, 0}, {"takes-cut", takes_cut, 0},       {"refuses-end", refuses_end, 0},
+    {"skips-block", skips_block, 0}, {"any-order", any_order, 0},       {"writes-after", writes_after, 0},
+    {"forgets-fault", forgets, 0},   {"reads-past", reads_past, 0},     {"unchecked-header", reads, 1},
 };
+static reading *reader = reads;
 
 /* ---- reading ---- */
 
-static uint32_t opened(const uint8_t *front, size_t have, age_c_reader *reader, int by_key) {
-    if (header_is_unchecked) front = now->bytes, have = now->front;
-    if (by_key) return age_c_open_key(front, have, now->key, sizeof now->key, reader);
-    return age_c_open_passphrase(front, have, pass, sizeof pass, 1, reader);
+/* Gives bytes of the file's front, of which no plaintext comes. */
+static int given(size_t from, size_t to) {
+    const uint8_t *front = header_is_unchecked ? now->bytes : bytes;
+    size_t n = 0;
+    int answer = from < to ? agefile_decode(decoder, copied(front + from, to - from), to - from, NULL, 0, &n) : 0;
+    if (n != 0) report(AFTER, "the header gives %zu bytes of text", n);
+    return answer;
 }
 
-/* Opens the file's header, perhaps after a part of it. */
-static int opens(age_c_reader *reader, struct wanted want) {
-    int by_key = (int)(next() % 4), is_part = next() % 4 == 0;
-    size_t part = least(len, below(now->front + 100));
-    memset(reader, UNTOUCHED, sizeof *reader);
-    for (int turn = !is_part; turn < 2; turn++) {
-        size_t have = turn ? len : part;
-        uint32_t answer = opened(copied(bytes, have), have, reader, by_key != 0);
-        int has_to = want.opens && have >= now->front;
-        if ((answer == 0) != has_to) report(OPENED, "%zu bytes of a file's front of %zu: answer %u", have, now->front, answer);
-        if (answer != 0 && !is_untouched((const uint8_t *)reader, sizeof *reader))
-            report(AFTER, "answer %u, and the reader changed", answer);
-        if (answer == 0) {
-            if (reader->payload_at != now->front || reader->state != 1 || reader->chunk != 0)
-                report(OPENED, "payload at %llu, not %zu", (unsigned long long)reader->payload_at, now->front);
-            return answer == 0 && has_to;
-        }
+/* What comes of a file whose header isn't open after as many bytes as the writer's had. */
+static void stays_shut(int answer) {
+    size_t n = 0;
+    for (size_t at = now->front, size; answer == 0 && at < len; at += size) {
+        size = least(60000, len - at);
+        answer = agefile_decode(decoder, copied(bytes + at, size), size, NULL, 0, &n);
     }
-    return 0;
+    if (answer == 0) answer = agefile_decode_end(decoder, NULL, 0, &n);
+    if (answer == 0 || n != 0 || agefile_payload_at(decoder) != 0) report(OPENED, "the header of another file: answer %d", answer);
+}
+
+/* Opens the file's header, perhaps in two parts. */
+static int opens(struct wanted want) {
+    size_t have = header_is_unchecked ? now->front : least(len, now->front), part = next() % 4 == 0 ? below(have + 1) : 0;
+    int answer = agefile_decoder_begin(decoder, next() % 4 ? agefile_file_key(now->key) : by_pass());
+    if (answer == 0) answer = given(0, part);
+    if (answer == 0) answer = given(part, have);
+    int is_open = answer == 0 && agefile_payload_at(decoder) != 0;
+    if (is_open != want.opens) report(OPENED, "%zu bytes of a file's front of %zu: answer %d", have, now->front, answer);
+    if (is_open && agefile_payload_at(decoder) != now->front)
+        report(OPENED, "payload at %llu, not %zu", (unsigned long long)agefile_payload_at(decoder), now->front);
+    if (!is_open) stays_shut(answer);
+    return is_open && want.opens;
 }
 
 /* one call: what it wrote has to be the text from `got` on, and nothing if it isn't 0 */
-static uint32_t called(age_c_reader *reader, const uint8_t *from, size_t size, int is_end, size_t *got) {
-    age_c_reader before = *reader;
-    size_t room = AGE_C_CHUNK + (next() % 2 ? 0 : below(100)), written = 77;
+static int called(const uint8_t *from, size_t size, int is_end, size_t *got) {
+    size_t room = AGEFILE_CHUNK + (next() % 2 ? 0 : below(100)), written = 77;
     uint8_t *out = fitted(out_room, room);
     memset(out, UNTOUCHED, room);
-    uint32_t answer = (is_end ? end : block)(reader, copied(from, size), size, out, room, &written);
+    int answer = reader(copied(from, size), size, is_end, out, room, &written);
     if (answer != 0) {
-        int is_fault = answer >= 17 && answer <= 22 && reader->state == answer;
-        before.state = is_fault ? answer : before.state;
-        before.fault_chunk = is_fault ? reader->fault_chunk : before.fault_chunk;
-        if (written != 0 || !is_untouched(out, room)) report(AFTER, "answer %u, and %zu bytes or more were written", answer, written);
-        if (memcmp(&before, reader, sizeof before) != 0) report(AFTER, "answer %u, and more than the fault changed", answer);
+        if (written != 0 || !is_untouched(out, room)) report(AFTER, "answer %d, and %zu bytes or more were written", answer, written);
         return answer;
     }
     if (written > room || written > now->text_len - *got || memcmp(out, now->text + *got, written) != 0)
@@ -410,39 +432,37 @@ static uint32_t called(age_c_reader *reader, const uint8_t *from, size_t size, i
     return 0;
 }
 
-/* Calls that don't fit, which change nothing, so that what comes after them is as if they weren't. */
-static void misuse(age_c_reader *reader, size_t *got) {
-    static const size_t sizes[] = {0, 1, 16, AGE_C_BLOCK - 1, AGE_C_BLOCK + 1};
-    int is_end = (int)(next() % 2);
-    age_c_reader before = *reader;
-    uint32_t answer = called(reader, now->bytes, is_end ? AGE_C_BLOCK : sizes[below(5)], is_end, got);
-    if (answer != AGE_C_MISUSED || memcmp(&before, reader, sizeof before) != 0) report(AFTER, "a call that doesn't fit: answer %u", answer);
+/* A call without room for its text, which changes nothing, so that what comes after it is as if it weren't. */
+static void misuse(void) {
+    size_t room = AGEFILE_CHUNK - 1 - below(100), written = 77;
+    uint8_t *out = fitted(out_room, room);
+    memset(out, UNTOUCHED, room);
+    int answer = agefile_decode(decoder, copied(now->bytes, AGEFILE_BLOCK), AGEFILE_BLOCK, out, room, &written);
+    if (answer != AGEFILE_NO_ROOM || written != 0 || !is_untouched(out, room)) report(AFTER, "a call without room: answer %d", answer);
 }
 
 /* Calls after a fault, with blocks that would be right: each has to return that fault again. */
-static void stays(age_c_reader *reader, uint32_t fault, size_t got) {
-    uint64_t chunk = reader->fault_chunk;
-    size_t blocks = (now->len - now->front) / AGE_C_BLOCK, was = got;
+static void stays(int fault, size_t got) {
+    uint64_t of = agefile_fault_chunk(decoder);
+    size_t blocks = (now->len - now->front) / AGEFILE_BLOCK, was = got;
     for (size_t left = 4; left > 0; left--) {
-        size_t right = reader->chunk < blocks ? reader->chunk : 0, at = now->front + right * AGE_C_BLOCK;
+        size_t right = chunk < blocks ? (size_t)chunk : 0, at = now->front + right * AGEFILE_BLOCK;
         int is_end = blocks == 0 || next() % 3 == 0;
-        if (is_end) at = now->front + blocks * AGE_C_BLOCK;
-        if (next() % 8 == 0) misuse(reader, &got);
-        uint32_t answer = called(reader, now->bytes + at, is_end ? now->len - at : AGE_C_BLOCK, is_end, &got);
-        if (answer != fault || reader->fault_chunk != chunk || got != was)
-            report(STAYS, "after fault %u of chunk %llu came %u, of %llu", fault, (unsigned long long)chunk, answer,
-                   (unsigned long long)reader->fault_chunk);
+        if (is_end) at = now->front + blocks * AGEFILE_BLOCK;
+        int answer = called(now->bytes + at, is_end ? now->len - at : AGEFILE_BLOCK, is_end, &got);
+        if (answer != fault || agefile_fault_chunk(decoder) != of || got != was)
+            report(STAYS, "after fault %d of chunk %lld came %d, of %lld", fault, (long long)of, answer, (long long)agefile_fault_chunk(decoder));
     }
 }
 
 /* Calls after the end: only another end without bytes may return 0. */
-static void ends(age_c_reader *reader, size_t got) {
+static void ends(size_t got) {
     size_t was = got;
-    if (next() % 2 && called(reader, bytes, 0, 1, &got) != 0) report(STAYS, "a second end isn't 0");
-    size_t size = next() % 2 ? AGE_C_BLOCK : 1 + below(AGE_C_BLOCK - 1);
-    uint32_t answer = called(reader, now->bytes, least(size, now->len), size != AGE_C_BLOCK || size > now->len, &got);
-    if (answer != 21 || got != was) report(STAYS, "after the end came %u", answer);
-    else stays(reader, 21, got);
+    if (next() % 2 && called(bytes, 0, 1, &got) != 0) report(STAYS, "a second end isn't 0");
+    size_t size = next() % 2 ? AGEFILE_BLOCK : 1 + below(AGEFILE_BLOCK - 1);
+    int answer = called(now->bytes, least(size, now->len), size != AGEFILE_BLOCK || size > now->len, &got);
+    if (answer != AGEFILE_TRAILING || got != was) report(STAYS, "after the end came %d", answer);
+    else stays(AGEFILE_TRAILING, got);
 }
 
 static long headers_open, with_text, with_fault[23];
@@ -450,27 +470,26 @@ static long headers_open, with_text, with_fault[23];
 /* Reads the file, and compares what comes with what has to. */
 static void read_file(void) {
     struct wanted want = wanted(now);
-    age_c_reader *reader = (age_c_reader *)(void *)fitted(reader_room, sizeof *reader);
     size_t got = 0, at, size;
-    uint32_t answer;
-    uint64_t blocks = 0;
-    if (!opens(reader, want)) return;
+    int answer;
+    chunk = 0;
+    if (!opens(want)) return;
     headers_open++;
     at = now->front;
     do {
-        if (next() % 16 == 0) misuse(reader, &got);
-        size = least(AGE_C_BLOCK, len - at);
-        answer = called(reader, bytes + at, size, size < AGE_C_BLOCK, &got);
+        if (next() % 16 == 0 && now->len >= AGEFILE_BLOCK) misuse();
+        size = least(AGEFILE_BLOCK, len - at);
+        answer = called(bytes + at, size, size < AGEFILE_BLOCK, &got);
         at += size;
-        blocks += answer == 0 && size == AGE_C_BLOCK;
-    } while (answer == 0 && size == AGE_C_BLOCK);
+        chunk += answer == 0 && size == AGEFILE_BLOCK;
+    } while (answer == 0 && size == AGEFILE_BLOCK);
     with_text += got > 0;
     with_fault[answer < 23 ? answer : 0]++;
     if (got != want.text_len) report(TEXT, "%zu bytes of text came, not %zu", got, want.text_len);
-    if ((answer == 0) != want.whole) report(WHOLE, "the end returned %u", answer);
-    if (answer != 0 && reader->fault_chunk + (answer == 21) != blocks) report(WHOLE, "the fault names another chunk");
-    if (answer != 0) stays(reader, answer, got);
-    else ends(reader, got);
+    if ((answer == 0) != want.whole) report(WHOLE, "the end returned %d", answer);
+    if (answer != 0 && agefile_fault_chunk(decoder) != (answer == AGEFILE_TRAILING ? UINT64_MAX : chunk)) report(WHOLE, "the fault names another chunk");
+    if (answer != 0) stays(answer, got);
+    else ends(got);
 }
 
 static const struct flaw *flaw_of(const char *name) {
@@ -490,9 +509,9 @@ static void prepare(void) {
     if (sigaction(SIGSEGV, &action, NULL) != 0) exit(2);
     file_seed = 1;
     for (size_t i = 0; i < FILES_HERE; i++) files[i] = sealed(lengths[i]);
-    given_room = room_of(MOST + AGE_C_BLOCK);
-    out_room = room_of(AGE_C_CHUNK + 100);
-    reader_room = room_of(sizeof(age_c_reader));
+    given_room = room_of(MOST + AGEFILE_BLOCK);
+    out_room = room_of(AGEFILE_CHUNK + 100);
+    if (agefile_decoder_new(&decoder, by_pass()) != 0) exit(2);
 }
 
 /* Damages and reads this many files, and now and then reads one as it is. */
@@ -520,7 +539,7 @@ int main(int argc, char **argv) {
     seed = argc > 2 ? strtoull(argv[2], NULL, 10) : (uint64_t)time(NULL);
     if (argc > 3) {
         const struct flaw *flaw = flaw_of(argv[3]);
-        block = flaw->block, end = flaw->end, header_is_unchecked = flaw->header_is_unchecked;
+        reader = flaw->read, header_is_unchecked = flaw->header_is_unchecked;
     }
     printf("seed %llu\n", (unsigned long long)seed);
     prepare();
@@ -529,6 +548,7 @@ int main(int argc, char **argv) {
         failed += wrong[rule] != 0;
         printf("wrong %ld times: %s\n", wrong[rule], rules[rule]);
     }
+    agefile_decoder_free(decoder);
     printf("%ld passed, %ld failed\n", RULES - failed, failed);
     return failed != 0;
 }
