@@ -56,6 +56,7 @@ fn places_at_and_beyond_the_end() {
 
 /// Whatever was read and sought before, what comes is the text from the place on.
 #[test]
+#[allow(clippy::seek_from_current)] // (stream_position tells the place, and doesn't seek)
 fn goes_on_after_a_fault() {
     let text = text_of(200_000);
     let mut data = sealed(&text);
@@ -82,7 +83,7 @@ fn goes_on_after_a_fault() {
     file.seek(SeekFrom::Start(65_536)).unwrap();
     assert!(file.read(&mut [0; 1]).is_err() && file.read(&mut [0; 1]).is_err());
     under.0.borrow_mut().get_mut()[begin + BLOCK + 100] ^= 1;
-    assert_eq!(file.stream_position().unwrap(), 65_536);
+    assert_eq!(file.seek(SeekFrom::Current(0)).unwrap(), 65_536);
     assert!(read_all(file).0 == text[65_536..]);
 }
 
