@@ -21,7 +21,7 @@ use Rattle.age_stream.proofs.{fresh_outcome}
 use Rattle.age_stream.proofs.LawLemmas.{closed_stays}
 use Rattle.age_stream.proofs.SegmentLemmas.{segment_right as released_is_written}
 use Rattle.age_stream.proofs.ReplayLemmas.{rest_is_right as rest_is_authentic}
-use Rattle.age_c.specs.{Reader, Answers, answer_of, misused, reader_status, AllAnswer, AnswersAreCalls, AreCalls, AreCallsAuthentic, AreParts, AreUndamaged}
+use Rattle.age_c.specs.{Reader, answer_of, misused, reader_status, AllAnswer, AreCalls, AreCallsAuthentic, AreParts, AreUndamaged}
 use Rattle.age_c.specs.{Call, CallsAreWritten, CanBeUsed, GoesTo, IsAt, IsCall, IsTextRight, Part, PartsAreWritten, SameFile, after_block, after_call}
 use Rattle.age_c.specs.{after_end, given_by, last_reader, reader_text, segment_from, texts_of, OpeningsAreParts}
 use Rattle.age_c.specs.inner.{key_of_reader as key_of}
@@ -348,15 +348,6 @@ module _ {State : Type 0} (reader : State → Reader) where
 pub calls_are_written : CallsAreWritten
 calls_are_written r start h limit calls are text few =
     any_calls (λ r. r) IsAt (λ r s at. at.timely) (λ r s at. at.status) r start h limit calls are text few
-
--- what a call promises makes it one of a list
-pub a_call : {State : Type 0} (Fits : Type 0) (Does : ℕ → List ℕ → State → Type 0) (old new : State) (answer written : ℕ) (before after : List ℕ)
-    (Takes Ends : Type 0) → Answers Fits Does old new answer written before after → (Does answer (take written after) new → Takes × Ends)
-    → ((answer ≡ misused) × (new ≡ old) × (take written after ≡ [])) ⊎ ((answer ≢ misused) × Takes × Ends)
-a_call Fits Does old new answer written before after Takes Ends it does = grind (arith, common_steps, eqb_tells)
-
-pub answers_are_calls : AnswersAreCalls
-answers_are_calls old new bytes before after answer written = grind (arith, common_steps, a_call, false≢true)
 
 -- ---- Seeks.
 

@@ -14,7 +14,8 @@ use Rattle.age_stanza.proofs.LineLemmas.{spaced}
 use Rattle.age_stanza.proofs.{All-back, length-body, written_next, length-text}
 use Rattle.age_keys.specs.{IsScryptStanza}
 use Rattle.age_keys.proofs.{work_factor_some}
-use Rattle.age_c.specs.{HasStanza, IsWork, HasStanzas, bodies_of, HasHead, HasFront, EndsAt}
+use Rattle.age_c.specs.{HasStanza, IsWork, HasStanzas, bodies_of, HasHead, HasFront}
+use Rattle.age_c.specs.inner.Tries.{EndsAt}
 use borrow.Rule.Slice.PartMut.{put_mid}
 use Rattle.age_c.specs.declared.stanza_place.StanzaPlace.{StanzaPlace}
 use Rattle.age_c.specs.inner.{place_of, places_from}

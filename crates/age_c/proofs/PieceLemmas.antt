@@ -8,7 +8,8 @@ use borrow.Rule.Slice.PartMut.{post_of, put_mid, same_len_mid}
 use Rattle.age_c.specs.{misused, AreDecodeCalls, DecodeCall, Decodes, DecodesMore, FeedsStream, IsDecodeCall, decode_call, decoder_last}
 use Rattle.age_c.specs.{Answers, AreTextCalls, EncodesMore, FeedsText, IsTextCall, IsTextCallOn, RefusesText, TextCall, WritesOrRefuses}
 use Rattle.age_c.specs.{stream_after, text_call_of}
-use Rattle.age_c.specs.{IsPieceCall, IsStreamCall, IsTextPieceCall, KeepsRoom, KeepsTextRoom}
+use Rattle.age_c.specs.{IsPieceCall, IsTextPieceCall}
+use Rattle.age_c.specs.inner.{IsStreamCall, KeepsRoom, KeepsTextRoom}
 use Rattle.age_c.specs.inner.{DecodesOne, EncodesOne}
 use Rattle.age_c.specs.declared.decoder.Decoder.{Decoder}
 use Rattle.age_c.specs.declared.write_stream.WriteStream.{WriteStream}
@@ -110,7 +111,7 @@ next_fits old new piece out part at n done count it is_open keeps le same =
       );
     }
 
--- a call of `age_c_decode` is one
+-- a call of `decode` is one
 pub one_of : (old new : Decoder) (piece before after : List ℕ) (answer taken written : ℕ)
     → (answer ≢ misused → Decodes (λ answer text new. FeedsStream piece old.stream answer taken text new) old new answer written before after)
     → (answer ≡ misused → (new ≡ old) × (written ≡ 0)) → DecodesOne old new (take taken piece) (take written after)
@@ -185,7 +186,7 @@ text_piece_more old mid new piece out part at n done count k all one le fits =
     (text_more old mid new (take at piece) (take done out) (take n (drop at piece)) (take count part) all
     (subst (λ (r : List ℕ). EncodesOne mid new (take n r) (take count part)) (take_rest piece at) one)))
 
--- a call of `age_c_feed_text` is one
+-- a call of `feed_text` is one
 pub text_one_of : (old new : WriteStream) (piece before after : List ℕ) (answer taken written : ℕ)
     → Answers (IsTextCall old piece before) (WritesOrRefuses (FeedsText piece taken old) (RefusesText piece old) old) old new answer written before after
     → (answer ≢ 0 → taken ≡ 0) → EncodesOne old new (take taken piece) (take written after)

@@ -3,22 +3,21 @@ use Rattle.std.proofs.lemmas.Grind.{common_steps}
 use Rattle.std.proofs.Common.{inl, inr, ◌≡◌, ◌≢◌, ℕ, ◌+◌, ◌<◌, ◌≤◌, refl, ap, sym, subst, ◌∙◌, arith, List, [], ◌++◌, length, take, true, false}
 use Rattle.std.specs.Prelude.{Some, min, ◌-◌}
 use Rattle.std.specs.List.{flat_map}
-use Rattle.std.proofs.lemmas.Bool.{cases_lt, false≢true}
+use Rattle.std.proofs.lemmas.Bool.{cases_lt}
 use Rattle.std.proofs.lemmas.List.{append-nil, length-take, nil_from_length}
-use Rattle.age_chunk.specs.{block_length, chunk_length, payload}
-use Rattle.age_keys.specs.{box, unbox}
+use Rattle.age_chunk.specs.{block_length, chunk_length}
+use Rattle.age_keys.specs.{unbox}
 use Rattle.age_stream.specs.Segment.{Segment}
-use Rattle.age_stream.specs.{Outcome, fresh, with_end, with_piece}
+use Rattle.age_stream.specs.{Outcome, with_end, with_piece}
 use Rattle.age_stream.specs.declared.step.Status.TheVariants.{Open}
 use Rattle.age_stream.proofs.{going, going_part, piece_nil}
 use Rattle.age_stream.proofs.GoingLemmas.{pieces_join}
-use Rattle.age_c.specs.{Reader, answer_of, reader_status, IsAt, IsBlockCall, SameFile, TakesBlock, TakesEnd, after_block, after_end, reader_outcome}
-use Rattle.age_c.specs.{reader_text, AnswersAreFeedCalls, FeedsAreWritten, FeedsStream, FinishesStream, IsStreamCall, StreamMoves}
-use Rattle.age_c.specs.{PiecesReadBack, StreamIsAt, bytes_written, held_block, text_taken}
+use Rattle.age_c.specs.{Reader, answer_of, reader_status, IsAt, SameFile, TakesBlock, TakesEnd, after_block, after_end, reader_outcome}
+use Rattle.age_c.specs.{reader_text, FeedsStream, FinishesStream, StreamMoves}
+use Rattle.age_c.specs.inner.{IsBlockCall, IsStreamCall}
+use Rattle.age_c.specs.{StreamIsAt, held_block}
 use Rattle.age_c.specs.declared.stream.Stream.{Stream}
-use Rattle.age_c.proofs.CallLemmas.{Timely, a_call, any_calls, timely_piece}
 use Rattle.age_c.proofs.ReaderLemmas.{some_is, unchanged}
-use Rattle.age_c.proofs.WriterLemmas.{payload_written, few_chunks}
 
 -- a part of a block releases nothing
 part_same : (r : Reader) (blocks : Segment) (part : List ℕ) → IsAt r blocks
@@ -141,15 +140,7 @@ finishes answer text old new ends zero = record {
   done = ends.done;
 }
 
--- ---- a list of calls
-
-pub feeds_are_written : FeedsAreWritten
-feeds_are_written s start at empty limit calls are text few =
-    any_calls (λ s. s.reader) StreamIsAt (λ s g h. subst Timely (sym h.given) (timely_piece h.blocks (held_block s) h.at.timely))
-    (λ s g h. h.at.status ∙ ap (λ (o : Outcome). Some o.status) (sym (stream_same s g h))) s start
-    (nothing_held s (fresh start) empty at) limit calls are text few
-
--- ---- answers are calls
+-- ---- an end
 
 -- an end that is given no bytes
 pub ends_with_none : (old : Stream) (answer : ℕ) (text : List ℕ) (new : Stream) → StreamMoves with_end old answer text new
@@ -161,28 +152,3 @@ ends_with_none old answer text new moves = record {
   answer_is = moves.answer_is;
   nothing = moves.nothing;
 }
-
-pub answers_are_feed_calls : AnswersAreFeedCalls
-answers_are_feed_calls old new piece before after answer taken written = (
-  λ it. a_call _ _ old new answer written before after _ _ it (λ feeds. (feeds.moves, λ is. absurd (false≢true is))),
-  λ it. a_call _ _ old new answer written before after _ _ it
-      (λ ends. (ends_with_none old answer (take written after) new ends.moves, λ is zero. ends.done zero)),
-)
-
--- ---- the round trip
-
-pub pieces_read_back : PiecesReadBack
-pieces_read_back header key nonce front w texts last writes s at empty has_key has_nonce calls are given closed =
-    let text = text_taken texts in
-    let few = few_chunks header key nonce front w texts last writes in
-    let right = feeds_are_written s 0 at empty (omega arith) calls are text few in
-    let written : payload (box s.reader.file_key s.reader.nonce) chunk_length text ≡ bytes_written texts ++ last.bytes =
-    ap (λ (k : List ℕ). payload (box k s.reader.nonce) chunk_length text) (has_key ∙ sym writes.begins.has_key)
-    ∙ (ap (λ (n : List ℕ). payload (box w.writer.file_key n) chunk_length text) (has_nonce ∙ sym writes.begins.has_nonce)
-    ∙ payload_written header key nonce front w texts last writes) in
-    right.whole closed (omega arith) (given ∙ ap (λ (b : List ℕ). record {
-      start = 0;
-      bytes = b;
-      ended = true;
-      late = false;
-    }) (sym written))

@@ -15,8 +15,8 @@ use Rattle.age_c.specs.declared.writer.Writer.{Writer}
 use Rattle.age_keys.specs.inner.{seals}
 use Rattle.age_c.specs.inner.{key_of_writer as key_of, SealsChunk, SealsLast, HoldsText}
 use Rattle.age_c.specs.{HasSealed, SameKeys, blocks_of, WritesOrRefuses, FeedsText, FinishesText, HasTaken, TakesText, held_chunk, Answers, AnswersAreTextCalls}
-use Rattle.age_c.specs.{AreTextCalls, IsTextCallOn, TextCall, TextsAreFiles, WritesFile, bytes_written, stream_after, text_taken}
-use Rattle.age_keys.specs.{box}
+use Rattle.age_c.specs.{AreTextCalls, IsBegun, IsTextCallOn, TextCall, bytes_written, stream_after, text_taken}
+use Rattle.age_keys.specs.{FileOf, box}
 use Rattle.age_stanza.specs.declared.header.Header.{Header}
 use Rattle.age_c.specs.declared.write_stream.WriteStream.{WriteStream}
 
@@ -206,6 +206,16 @@ all_calls (c ∷ calls) s text h are =
 nothing_taken : (s : WriteStream) → HasSealed s.writer [] → s.held ≡ 0 → HasTaken s []
 nothing_taken s h empty = grind (arith, common_steps)
 
+-- a file that was written: a call wrote what stands before the payload, the stream held nothing, and any
+-- calls were made on it, and then an end that answered 0
+pub record WritesFile (header : Header) (key nonce front : List ℕ) (s : WriteStream) (calls : List TextCall) (last : TextCall) : Type 0 where
+  pub begins : IsBegun header key nonce front s.writer
+  pub empty : s.held ≡ 0
+  pub are : AreTextCalls s calls
+  pub is_call : IsTextCallOn (stream_after s calls) last
+  pub is_end : last.is_end ≡ true
+  pub zero : last.answer ≡ 0
+
 module _ (header : Header) (key nonce front : List ℕ) (s : WriteStream) (calls : List TextCall)
     (last : TextCall) (it : WritesFile header key nonce front s calls last) where
   after : After s [] (text_taken calls) (bytes_written calls) (stream_after s calls)
@@ -223,7 +233,12 @@ module _ (header : Header) (key nonce front : List ℕ) (s : WriteStream) (calls
   pub few_chunks : chunk_count chunk_length (text_taken calls) ≤ chunk_limit
   few_chunks = ends.few (text_taken calls) after.taken
 
-pub texts_are_files : TextsAreFiles
+-- all of it is the age file of the plaintext that the calls took, which has as few chunks as the law of
+-- readers asks for
+pub texts_are_files : (header : Header) (key nonce front : List ℕ) (s : WriteStream) (calls : List TextCall) (last : TextCall)
+    → WritesFile header key nonce front s calls last
+    → FileOf header key nonce (text_taken calls) (front ++ (bytes_written calls ++ last.bytes))
+    × (chunk_count chunk_length (text_taken calls) ≤ chunk_limit)
 texts_are_files header key nonce front s calls last it =
     let begins = it.begins in
     let text = text_taken calls in (

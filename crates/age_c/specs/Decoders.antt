@@ -189,7 +189,7 @@ decode_call is_end bytes answer text wrote after = record {
   wrote = wrote;
 }
 
--- what `age_c_decode` and `age_c_decode_end` promise makes each of them a call on the decoder, also
+-- what `decode` and `age_c_decode_end` promise makes each of them a call on the decoder, also
 -- one that is misused
 abbrev pub AnswersAreDecodeCalls : Type 0
 AnswersAreDecodeCalls = (old new : Decoder) (piece before after : List ℕ) (answer taken written : ℕ)

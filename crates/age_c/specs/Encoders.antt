@@ -55,7 +55,8 @@ pub record IsTextPieceCall (s : WriteStream) (piece : List ℕ) (room : ℕ) : T
   pub some : s.held ≡ 0 → s.writer.chunk ≡ 0
   pub enough : room_to_write s.held piece ≤ room
 
--- the stream took this plaintext, and wrote these bytes, by calls that `texts_are_files` speaks of
+-- the stream took this plaintext, and wrote these bytes, by calls that `encoders_write_files`
+-- speaks of
 pub record EncodesMore (old new : WriteStream) (text bytes : List ℕ) : Type 0 where
   pub calls : List TextCall
   pub are : AreTextCalls old calls

@@ -13,7 +13,7 @@ use Rattle.age_stream.specs.declared.step.Status.TheVariants.{Open}
 use Rattle.age_stream.specs.{IsClosed, IsAuthentic, IsPrefixOf, IsFirstWrong}
 use Rattle.age_keys.specs.{unbox, Opens, Refuses, key_fault_number, box}
 use Rattle.age_keys.specs.{KeyFault}
-use Rattle.age_c.specs.Calls.{reader_status, more, Answers, answer_of, misused}
+use Rattle.age_c.specs.Calls.{reader_status, more, answer_of, misused}
 use Rattle.age_c.specs.declared.reader.Reader.{Reader}
 use Rattle.age_c.specs.declared.start.StartFault.{StartFault}
 use Rattle.age_c.specs.declared.start.StartFault.TheVariants.{More, Head, Key}
@@ -141,20 +141,6 @@ pub record GoesTo (chunk : ℕ) (old new : Reader) : Type 0 where
   pub unrefused : new.fault_chunk ≡ 0
   pub same : SameFile old new
 
--- the call isn't misused: the reader can be used, and there is a full block, and room for its
--- plaintext
-pub record IsBlockCall (r : Reader) (block out : List ℕ) : Type 0 where
-  pub usable : CanBeUsed r
-  pub whole : length block ≡ block_length
-  pub room : chunk_length ≤ length out
-
--- the call of an end isn't misused: the reader can be used, what is left is shorter than a block,
--- and there is room for its plaintext
-pub record IsEndCall (r : Reader) (rest out : List ℕ) : Type 0 where
-  pub usable : CanBeUsed r
-  pub short : length rest < block_length
-  pub room : chunk_length ≤ length out
-
 -- ---- What a list of calls does.
 
 -- a call: whether it is an end, the bytes that it took, what it answered and wrote, and the reader,
@@ -209,15 +195,6 @@ call_of is_end bytes answer written out after = record {
   text = take written out;
   after = after;
 }
-
--- what `age_c_block` and `age_c_end` promise (`Answers`, with the same arguments as in their
--- contracts) makes each of them a call on the reader: so a law about lists of calls holds of them
-abbrev pub AnswersAreCalls : Type 0
-AnswersAreCalls = (old new : Reader) (bytes before after : List ℕ) (answer written : ℕ)
-    → (Answers (IsBlockCall old bytes before) (TakesBlock (after_block bytes) old) old new answer written
-    before after → IsCall (λ r. r) IsAt old (call_of false bytes answer written after new))
-    × (Answers (IsEndCall old bytes before) (TakesEnd bytes old) old new answer written before after
-    → IsCall (λ r. r) IsAt old (call_of true bytes answer written after new))
 
 -- ---- What any calls gave to one reader, and what they answered.
 

@@ -1,22 +1,18 @@
 -- A stream, which takes pieces of any length: what one call does to it, and what a caller may rely
 -- on after any calls.
-use Rattle.std.specs.Prelude.{◌≡◌, ◌≢◌, ℕ, ◌+◌, ◌*◌, ◌/◌, ◌<◌, ◌≤◌, List, [], ◌++◌, length, take, drop, Bool, true}
-use Rattle.std.specs.Prelude.{◌∷◌, false}
-use Rattle.age_chunk.specs.{block_length, chunk_length, chunk_limit, chunk_count, tag_length}
-use Rattle.age_stanza.specs.declared.header.Header.{Header}
-use Rattle.age_stream.specs.{with_end, with_piece, fresh, IsClosed}
-use Rattle.age_stream.specs.declared.step.Status.TheVariants.{Open}
-use Rattle.age_stream.specs.Segment.{Segment}
-use Rattle.age_c.specs.Calls.{Answers}
-use Rattle.age_c.specs.Readers.{CanBeUsed, IsAt, reader_outcome, Moves, Call, IsCall, AreCalls, call_of}
-use Rattle.age_c.specs.Readers.{segment_from, texts_of, AllAnswer, IsTextRight}
-use Rattle.age_c.specs.declared.stream.Stream.{Stream}
 use Rattle.std.specs.List.{flat_map}
-use Rattle.age_keys.specs.{box, unbox, FileOf}
+use Rattle.std.specs.Prelude.{◌≡◌, ◌≢◌, ℕ, ◌+◌, ◌*◌, ◌/◌, ◌<◌, ◌≤◌, List, [], length, take, Bool, true, ◌∷◌}
+use Rattle.std.specs.Prelude.{false}
+use Rattle.age_chunk.specs.{block_length, chunk_length, tag_length}
+use Rattle.age_stream.specs.{with_end, with_piece}
+use Rattle.age_stream.specs.Segment.{Segment}
+use Rattle.age_stream.specs.declared.step.Status.TheVariants.{Open}
+use Rattle.age_c.specs.Calls.{Answers}
+use Rattle.age_c.specs.Readers.{CanBeUsed, IsAt, reader_outcome, Moves}
+use Rattle.age_c.specs.Writers.{WritesOrRefuses, FeedsText, FinishesText, IsTextCall, IsLastTextCall}
+use Rattle.age_c.specs.Writers.{RefusesText, TakesText}
+use Rattle.age_c.specs.declared.stream.Stream.{Stream}
 use Rattle.age_c.specs.declared.write_stream.WriteStream.{WriteStream}
-use Rattle.age_c.specs.Writers.{IsBegun, WritesOrRefuses, FeedsText, FinishesText, IsTextCall}
-use Rattle.age_c.specs.Writers.{IsLastTextCall, RefusesText}
-use Rattle.age_c.specs.Writers.{TakesText}
 
 -- ---- A stream that reads: what its numbers and bytes stand for, and what one call does to it.
 
@@ -54,23 +50,10 @@ pub record FeedsStream (piece : List ℕ) (old : Stream) (answer taken : ℕ) (t
 abbrev pub room_to_feed : ℕ → List ℕ → ℕ
 room_to_feed held piece = (held + length piece) / block_length * chunk_length
 
--- the stream can take what is left of the piece, and there is room for that if there was for all
-pub record KeepsRoom (piece : List ℕ) (old : Stream) (taken written : ℕ) (new : Stream) : Type 0 where
-  pub usable : CanBeUsed new.reader
-  pub short : new.held < block_length
-  pub room : room_to_feed new.held (drop taken piece) + written ≤ room_to_feed old.held piece
-
 -- an end answers 0 only once the last chunk was opened
 pub record FinishesStream (old : Stream) (answer : ℕ) (text : List ℕ) (new : Stream) : Type 0 where
   pub moves : StreamMoves with_end old answer text new
   pub done : answer ≡ 0 → new.reader.state ≡ 3
-
--- the call isn't misused: the stream can be used, and there is room for a chunk's plaintext, if the
--- piece fills the block that is open
-pub record IsStreamCall (s : Stream) (piece out : List ℕ) : Type 0 where
-  pub usable : CanBeUsed s.reader
-  pub short : s.held < block_length
-  pub room : block_length ≤ s.held + length piece → chunk_length ≤ length out
 
 -- the call of an end isn't misused: the stream can be used, and there is room for the plaintext of what
 -- it holds
@@ -78,28 +61,6 @@ pub record IsFinishCall (s : Stream) (out : List ℕ) : Type 0 where
   pub usable : CanBeUsed s.reader
   pub short : s.held < block_length
   pub room : s.held ≤ length out + tag_length
-
--- ---- What any calls on a stream that reads do.
-
--- the headline for a caller whose pieces have any length: what `IsTextRight` says holds after any
--- calls on a stream that holds nothing and whose reader is at a chunk and was given nothing, as it
--- is at chunk 0 after an `age_c_open_..`, and at the chunk that it goes to after `age_c_seek`
-abbrev pub FeedsAreWritten : Type 0
-FeedsAreWritten = (s : Stream) (start : ℕ) → IsAt s.reader (fresh start) → s.held ≡ 0
-    → start < chunk_limit → (calls : List (Call Stream))
-    → AreCalls (λ s. s.reader) StreamIsAt s calls → (text : List ℕ)
-    → chunk_count chunk_length text ≤ chunk_limit
-    → IsTextRight (λ s. s.reader) s.reader text start calls
-
--- what `age_c_feed` and `age_c_finish` promise (`Answers`, with the same arguments as in their
--- contracts) makes each of them a call on the stream
-abbrev pub AnswersAreFeedCalls : Type 0
-AnswersAreFeedCalls = (old new : Stream) (piece before after : List ℕ) (answer taken written : ℕ)
-    → (Answers (IsStreamCall old piece before)
-    (λ answer text new. FeedsStream piece old answer taken text new) old new answer written before after
-    → IsCall (λ s. s.reader) StreamIsAt old (call_of false (take taken piece) answer written after new))
-    × (Answers (IsFinishCall old before) (FinishesStream old) old new answer written before after
-    → IsCall (λ s. s.reader) StreamIsAt old (call_of true [] answer written after new))
 
 -- ---- What any calls on a stream that writes do.
 
@@ -138,27 +99,6 @@ text_taken calls = flat_map (λ (c : TextCall). c.text) calls
 abbrev pub bytes_written : List TextCall → List ℕ
 bytes_written calls = flat_map (λ (c : TextCall). c.bytes) calls
 
--- a file that was written in pieces: `age_c_seal_passphrase` or `age_c_seal_key` wrote what stands
--- before the payload, the stream held nothing, and any calls were made on it, and then an end that
--- answered 0
-pub record WritesFile (header : Header) (key nonce front : List ℕ) (s : WriteStream)
-    (calls : List TextCall) (last : TextCall) : Type 0 where
-  pub begins : IsBegun header key nonce front s.writer
-  pub empty : s.held ≡ 0
-  pub are : AreTextCalls s calls
-  pub is_call : IsTextCallOn (stream_after s calls) last
-  pub is_end : last.is_end ≡ true
-  pub zero : last.answer ≡ 0
-
--- all of it is the age file of the plaintext that the calls took, with the header, the file key and
--- the nonce that it was begun with; and the plaintext has as few chunks as the law of readers asks
--- for
-abbrev pub TextsAreFiles : Type 0
-TextsAreFiles = (header : Header) (key nonce front : List ℕ) (s : WriteStream)
-    (calls : List TextCall) (last : TextCall) → WritesFile header key nonce front s calls last
-    → FileOf header key nonce (text_taken calls) (front ++ (bytes_written calls ++ last.bytes))
-    × (chunk_count chunk_length (text_taken calls) ≤ chunk_limit)
-
 -- a call as its caller sees it
 abbrev pub text_call_of : Bool → List ℕ → ℕ → ℕ → List ℕ → WriteStream → TextCall
 text_call_of is_end text answer written out after = record {
@@ -169,7 +109,7 @@ text_call_of is_end text answer written out after = record {
   after = after;
 }
 
--- what `age_c_feed_text` and `age_c_finish_text` promise makes each of them a call on the stream
+-- what `feed_text` and `age_c_finish_text` promise makes each of them a call on the stream
 abbrev pub AnswersAreTextCalls : Type 0
 AnswersAreTextCalls = (old new : WriteStream) (piece before after : List ℕ) (answer taken written : ℕ)
     → (Answers (IsTextCall old piece before) (WritesOrRefuses (FeedsText piece taken old)
@@ -179,23 +119,3 @@ AnswersAreTextCalls = (old new : WriteStream) (piece before after : List ℕ) (a
     × (Answers (IsLastTextCall old before) (WritesOrRefuses (FinishesText old) (λ _. ⊥) old)
     old new answer written before after
     → IsTextCallOn old (text_call_of true [] answer written after new))
-
--- ---- What was written in pieces reads back in pieces.
-
--- a stream at the beginning of a payload with the keys of this file, given what was written of its
--- payload in any pieces, and then its end, gives the plaintext, and 0 each time; unless a full last
--- block opens as one before the last too
-abbrev pub PiecesReadBack : Type 0
-PiecesReadBack = (header : Header) (key nonce front : List ℕ) (w : WriteStream)
-    (texts : List TextCall) (last : TextCall) → WritesFile header key nonce front w texts last
-    → (s : Stream) → IsAt s.reader (fresh 0) → s.held ≡ 0 → s.reader.file_key ≡ key
-    → s.reader.nonce ≡ nonce → (calls : List (Call Stream))
-    → AreCalls (λ s. s.reader) StreamIsAt s calls → segment_from (fresh 0) calls ≡ record {
-      start = 0;
-      bytes = bytes_written texts ++ last.bytes;
-      ended = true;
-      late = false;
-    }
-    → IsClosed (box s.reader.file_key s.reader.nonce) (unbox s.reader.file_key s.reader.nonce)
-    chunk_length (text_taken texts)
-    → (texts_of calls ≡ text_taken texts) × AllAnswer 0 calls

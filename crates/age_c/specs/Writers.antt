@@ -151,14 +151,6 @@ pub record FeedsText (piece : List ℕ) (taken : ℕ) (old : WriteStream) (bytes
 abbrev pub room_to_write : ℕ → List ℕ → ℕ
 room_to_write held piece = (held + length piece - 1) / chunk_length * block_length
 
--- the stream can take what is left of the piece, and there is room for that if there was for all
-pub record KeepsTextRoom (piece : List ℕ) (old : WriteStream) (taken written : ℕ) (new : WriteStream)
-    : Type 0 where
-  pub usable : CanSeal new.writer
-  pub short : new.held ≤ chunk_length
-  pub some : new.held ≡ 0 → new.writer.chunk ≡ 0
-  pub room : room_to_write new.held (drop taken piece) + written ≤ room_to_write old.held piece
-
 -- a feed is refused only if its chunk would be one too many: a byte comes, the chunk that is held is
 -- full, and it can only be the last
 pub record RefusesText (piece : List ℕ) (old : WriteStream) (answer : ℕ) : Type 0 where

@@ -1,7 +1,7 @@
 -- What only private code cites, of readers and of what writes.
 use Rattle.std.specs.Prelude.{ℕ, List, [], ◌≡◌, ◌≢◌, ◌++◌, Some, true, false, ◌+◌, ◌<◌, ◌≤◌, Bool, Result}
 use Rattle.std.specs.Prelude.{IfErr}
-use Rattle.std.specs.Prelude.{◌-◌, ◌∷◌, length, min, take, replicate}
+use Rattle.std.specs.Prelude.{◌-◌, ◌∷◌, drop, length, min, take, replicate}
 use Rattle.std.specs.Bool.{OnTrue}
 use Rattle.std.specs.List.{flat_map}
 use Rattle.age_chunk.specs.{chunk_length, block_length, chunk_limit, chunk_count, payload}
@@ -21,15 +21,17 @@ use Rattle.age_c.specs.declared.start.StartFault.TheVariants.{Key}
 use Rattle.age_stanza.specs.{stanza_text, end_line, line, version}
 use Rattle.age_stanza.specs.declared.header.Stanza.{Stanza}
 use Rattle.age_c.specs.declared.stanza_place.StanzaPlace.{StanzaPlace}
-use Rattle.age_c.specs.Streams.{held_block}
+use Rattle.age_c.specs.Streams.{held_block, room_to_feed}
 use Rattle.age_c.specs.declared.stream.Stream.{Stream}
 use Rattle.age_c.specs.Writers.{CanSeal, HasLines, HasSealed, IsFileFront, SameKeys, blocks_of, held_chunk}
+use Rattle.age_c.specs.Writers.{room_to_write}
 use Rattle.age_stanza.specs.declared.header.Header.{Header}
 use Rattle.age_c.specs.declared.writer.Writer.{Writer}
 use Rattle.age_c.specs.declared.write_stream.WriteStream.{WriteStream}
 use Rattle.age_c.specs.Decoders.{DecodeCall, IsDecodeCall}
 use Rattle.age_c.specs.Streams.{TextCall, IsTextCallOn}
 use Rattle.age_c.specs.declared.decoder.Decoder.{Decoder}
+pub mod Tries
 
 -- ---- By which key and box a payload is opened, and what the parts of a call do to an opener
 -- and to a reader.
@@ -203,3 +205,33 @@ pub record EncodesOne (old new : WriteStream) (text bytes : List ℕ) : Type 0 w
   pub after : call.after ≡ new
   pub text_is : call.text ≡ text
   pub bytes_are : call.bytes ≡ bytes
+
+-- ---- Calls that aren't misused, and the room that a call leaves.
+
+-- the call isn't misused: the reader can be used, and there is a full block, and room for its
+-- plaintext
+pub record IsBlockCall (r : Reader) (block out : List ℕ) : Type 0 where
+  pub usable : CanBeUsed r
+  pub whole : length block ≡ block_length
+  pub room : chunk_length ≤ length out
+
+-- the stream can take what is left of the piece, and there is room for that if there was for all
+pub record KeepsRoom (piece : List ℕ) (old : Stream) (taken written : ℕ) (new : Stream) : Type 0 where
+  pub usable : CanBeUsed new.reader
+  pub short : new.held < block_length
+  pub room : room_to_feed new.held (drop taken piece) + written ≤ room_to_feed old.held piece
+
+-- the call isn't misused: the stream can be used, and there is room for a chunk's plaintext, if the
+-- piece fills the block that is open
+pub record IsStreamCall (s : Stream) (piece out : List ℕ) : Type 0 where
+  pub usable : CanBeUsed s.reader
+  pub short : s.held < block_length
+  pub room : block_length ≤ s.held + length piece → chunk_length ≤ length out
+
+-- the stream can take what is left of the piece, and there is room for that if there was for all
+pub record KeepsTextRoom (piece : List ℕ) (old : WriteStream) (taken written : ℕ) (new : WriteStream)
+    : Type 0 where
+  pub usable : CanSeal new.writer
+  pub short : new.held ≤ chunk_length
+  pub some : new.held ≡ 0 → new.writer.chunk ≡ 0
+  pub room : room_to_write new.held (drop taken piece) + written ≤ room_to_write old.held piece

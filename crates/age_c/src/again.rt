@@ -1,8 +1,9 @@
-//! The function by which C learns when a header is worth another try.
+//! When a header is worth another try.
 
 ghost use Rattle.std.specs.Prelude.{◌≡◌, ◌≢◌, ℕ, ◌+◌, ◌<◌, ◌≤◌, ◌↔◌, IsTrue, true, false, length};
 ghost use Rattle.age_stanza.specs.declared.header.Header.{Header};
-ghost use Rattle.age_c.specs.{more, EndsAt, IsWorthATry, marks_in, HasFront};
+ghost use Rattle.age_c.specs.{more, HasFront};
+ghost use Rattle.age_c.specs.inner.Tries.{EndsAt, IsWorthATry, marks_in};
 
 use crate::MORE;
 use age_stanza::HEAD_MAX;
@@ -71,13 +72,11 @@ fn marks_in(len: usize) -> u32
     }
 }
 
-/// Whether it is worth a try to open the header that `front` begins with, after an answer of
-/// [`MORE`] here or of an `age_c_open_..` said that its first `seen` bytes weren't enough: 0 if so,
-/// else [`MORE`]. It is worth a try as soon as the header and the nonce are complete, and only a
+/// Whether it is worth a try to open the header that `front` begins with, after its
+/// first `seen` bytes weren't enough: 0 if so, else [`MORE`]. It is worth a try as soon as the header and the nonce are complete, and only a
 /// few times before. So all calls for one header together take time linear in its length, however
 /// small its pieces are.
-#[unsafe(no_mangle)]
-pub extern "C" fn age_c_may_open(front: &[u8], seen: usize) -> u32
+pub(crate) fn may_open(front: &[u8], seen: usize) -> u32
     ensures begun { (header : Header) (len : ℕ) → HasFront front.now header len
         → seen < len + 16 → result ≡ 0 }
     ensures tries { IsWorthATry front.now seen → result ≡ 0 }

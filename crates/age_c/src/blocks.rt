@@ -3,7 +3,8 @@
 ghost use Rattle.std.specs.Prelude.{◌≡◌, ◌≢◌, ◌+◌, ◌<◌, ◌≤◌, [], length, min, take, drop, IfSome, IfNone};
 ghost use Rattle.std.specs.Prelude.{Some, false};
 ghost use Rattle.age_stream.specs.{with_piece, with_end, chunk_bytes, has_failed};
-ghost use Rattle.age_c.specs.{PutsFront, answer_of, reader_status, IsBlockCall, TakesBlock};
+ghost use Rattle.age_c.specs.{PutsFront, answer_of, reader_status, TakesBlock};
+ghost use Rattle.age_c.specs.inner.{IsBlockCall};
 ghost use Rattle.age_c.specs.{TakesEnd, after_block, CanBeUsed};
 ghost use Rattle.age_c.specs.inner.{IsRestCall, Keeps, PassesOn, key_of_reader};
 ghost use Rattle.age_chunk.specs.{chunk_length, block_length, tag_length};

@@ -1,12 +1,12 @@
-//! The functions by which C gives a decoder the payload of a file.
+//! Gives a decoder the payload of a file.
 
 ghost use Rattle.std.specs.Prelude.{◌≡◌, ◌≢◌, ◌-◌, ◌≤◌, length, take, drop};
-ghost use Rattle.age_c.specs.{misused, FeedsStream, FinishesStream, IsStreamCall, IsFinishCall, Decodes};
-ghost use Rattle.age_c.specs.{KeepsRoom};
+ghost use Rattle.age_c.specs.{misused, FeedsStream, FinishesStream, IsFinishCall, Decodes};
+ghost use Rattle.age_c.specs.inner.{IsStreamCall, KeepsRoom};
 
 use crate::MISUSED;
 use crate::decoder::Decoder;
-use crate::feed::{age_c_feed, age_c_finish};
+use crate::feed::{feed_stream, finish_stream};
 
 /// Leaves out the first `skip` of the `count` bytes at the front of `out`, and returns how many are
 /// left there.
@@ -31,8 +31,7 @@ fn pass_over(skip: usize, out: &mut [u8], count: usize) -> usize
 /// and puts the plaintext of a block that is full into `out`, from the place that was sought on;
 /// there is room for 65,536 bytes or more if one is. The answer is 0 or the number of a fault, 17 to 22, with
 /// which the decoder refuses each further call that gives it bytes or an end.
-#[unsafe(no_mangle)]
-pub extern "C" fn age_c_decode(
+pub(crate) fn decode(
     decoder: &mut Decoder,
     piece: &[u8],
     taken: &mut usize,
@@ -58,7 +57,7 @@ pub extern "C" fn age_c_decode(
     if decoder.open != 1 {
         return MISUSED;
     }
-    let answer = age_c_feed(&mut decoder.stream, piece, taken, out, written);
+    let answer = feed_stream(&mut decoder.stream, piece, taken, out, written);
     let count = *written;
     *written = pass_over(decoder.skip, out, count);
     decoder.skip = decoder.skip.saturating_sub(count);
@@ -88,7 +87,7 @@ pub extern "C" fn age_c_decode_end(
     if decoder.open != 1 {
         return MISUSED;
     }
-    let answer = age_c_finish(&mut decoder.stream, out, written);
+    let answer = finish_stream(&mut decoder.stream, out, written);
     let count = *written;
     *written = pass_over(decoder.skip, out, count);
     decoder.skip = decoder.skip.saturating_sub(count);

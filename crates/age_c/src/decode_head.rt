@@ -6,7 +6,7 @@ ghost use Rattle.age_c.specs.{misused, more, IsStarted, IsStartRefusal, HasNoFro
 ghost use Rattle.age_c.specs.{HoldsHead, OpensHead, RefusesHead, held_front};
 ghost use Rattle.age_c.specs.inner.{HoldsFront};
 
-use crate::again::age_c_may_open;
+use crate::again::may_open;
 use crate::decoder::Decoder;
 use crate::reader::Reader;
 use crate::start::{StartFault, start};
@@ -53,7 +53,7 @@ fn try_head<U: Unlock>(
     ensures meant { IfErr result (λ answer. answer ≢ 255) }
     ensures cut { IfErr result (λ answer. answer ≡ more → ended ≡ true) }
 {
-    if !ended && age_c_may_open(front, seen) != 0 {
+    if !ended && may_open(front, seen) != 0 {
         return Ok(None);
     }
     match start(alloc, unlock, front, &mut Steps::new()) {

@@ -1,16 +1,17 @@
 //! The function by which C gives a decoder a whole piece of a payload.
 
 ghost use Rattle.std.specs.Prelude.{◌≡◌, ◌≢◌, ◌<◌, ◌≤◌, ◌↔◌, IsTrue, length, take};
-ghost use Rattle.age_c.specs.{misused, DecodesMore, IsPieceCall, IsStreamCall, KeepsRoom};
+ghost use Rattle.age_c.specs.{misused, DecodesMore, IsPieceCall};
+ghost use Rattle.age_c.specs.inner.{IsStreamCall, KeepsRoom};
 ghost use Rattle.age_c.specs.inner.{DecodesOne};
 
 use crate::MISUSED;
 use crate::blocks::status_at;
-use crate::decode::age_c_decode;
+use crate::decode::decode;
 use crate::decoder::Decoder;
 use age_chunk::{BLOCK_LEN, CHUNK_LEN};
 
-/// Takes bytes from the front of a piece by [`age_c_decode`]. Returns the answer, how many were
+/// Takes bytes from the front of a piece by [`decode`]. Returns the answer, how many were
 /// taken, and how many bytes of plaintext were put into `out`.
 fn take_some(decoder: &mut Decoder, piece: &[u8], out: &mut [u8]) -> (u32, usize, usize)
     ensures one { DecodesOne decoder.old decoder.new (take result.1 piece.now)
@@ -24,7 +25,7 @@ fn take_some(decoder: &mut Decoder, piece: &[u8], out: &mut [u8]) -> (u32, usize
 {
     let mut taken = 0;
     let mut written = 0;
-    let answer = age_c_decode(decoder, piece, &mut taken, out, &mut written);
+    let answer = decode(decoder, piece, &mut taken, out, &mut written);
     (answer, taken, written)
 }
 

@@ -5,8 +5,8 @@ ghost use Rattle.std.specs.Prelude.{◌≡◌};
 ghost use Rattle.age_c.specs.{Begins, BeginsFileFrom, BeginsFileWith, IsStartCall, IsKeyCall};
 ghost use Rattle.age_c.specs.{RefusesLines};
 
-use crate::seal::age_c_seal_passphrase;
-use crate::seal_key::age_c_seal_key;
+use crate::seal::seal_passphrase;
+use crate::seal_key::seal_key;
 use crate::write_stream::WriteStream;
 use std::alloc::Global;
 
@@ -19,7 +19,7 @@ fn forget(stream: &mut WriteStream)
     stream.writer.state = 0;
 }
 
-/// Begins a file under a passphrase, as [`age_c_seal_passphrase`] does, with a stream that holds
+/// Begins a file under a passphrase, as [`seal_passphrase`] does, with a stream that holds
 /// nothing. What it held is forgotten in any case.
 #[unsafe(no_mangle)]
 pub extern "C" fn age_c_encode_passphrase(
@@ -36,10 +36,10 @@ pub extern "C" fn age_c_encode_passphrase(
         written.new out.old out.new }
 {
     forget(stream);
-    age_c_seal_passphrase(alloc, pass, work, random, out, written, &mut stream.writer)
+    seal_passphrase(alloc, pass, work, random, out, written, &mut stream.writer)
 }
 
-/// Begins a file whose key the caller has wrapped, as [`age_c_seal_key`] does, with a stream that
+/// Begins a file whose key the caller has wrapped, as [`seal_key`] does, with a stream that
 /// holds nothing. What it held is forgotten in any case.
 #[unsafe(no_mangle)]
 pub extern "C" fn age_c_encode_key(
@@ -55,5 +55,5 @@ pub extern "C" fn age_c_encode_key(
         written.new out.old out.new }
 {
     forget(stream);
-    age_c_seal_key(alloc, stanzas, random, out, written, &mut stream.writer)
+    seal_key(alloc, stanzas, random, out, written, &mut stream.writer)
 }

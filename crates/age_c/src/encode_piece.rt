@@ -1,15 +1,16 @@
 //! The function by which C gives an encoder a whole piece of a plaintext.
 
 ghost use Rattle.std.specs.Prelude.{◌≡◌, ◌≢◌, ◌<◌, ◌≤◌, ◌↔◌, IsTrue, length, take};
-ghost use Rattle.age_c.specs.{misused, EncodesMore, IsTextCall, IsTextPieceCall, KeepsTextRoom};
+ghost use Rattle.age_c.specs.{misused, EncodesMore, IsTextCall, IsTextPieceCall};
+ghost use Rattle.age_c.specs.inner.{KeepsTextRoom};
 ghost use Rattle.age_c.specs.inner.{EncodesOne};
 
 use crate::MISUSED;
-use crate::feed_text::{age_c_feed_text, can_take};
+use crate::feed_text::{can_take, feed_text};
 use crate::write_stream::WriteStream;
 use age_chunk::{BLOCK_LEN, CHUNK_LEN};
 
-/// Takes bytes from the front of a piece by [`age_c_feed_text`]. Returns the answer, how many were
+/// Takes bytes from the front of a piece by [`feed_text`]. Returns the answer, how many were
 /// taken, and how many bytes were put into `out`.
 fn take_some(stream: &mut WriteStream, piece: &[u8], out: &mut [u8]) -> (u32, usize, usize)
     ensures one { EncodesOne stream.old stream.new (take result.1 piece.now)
@@ -23,7 +24,7 @@ fn take_some(stream: &mut WriteStream, piece: &[u8], out: &mut [u8]) -> (u32, us
 {
     let mut taken = 0;
     let mut written = 0;
-    let answer = age_c_feed_text(stream, piece, &mut taken, out, &mut written);
+    let answer = feed_text(stream, piece, &mut taken, out, &mut written);
     (answer, taken, written)
 }
 

@@ -3,7 +3,8 @@
 ghost use Rattle.std.specs.Prelude.{◌≡◌, ◌≢◌, ◌<◌, ◌≤◌, IfNone, IfSome, Some, length, take};
 ghost use Rattle.age_chunk.specs.{block_length};
 ghost use Rattle.age_c.specs.{Answers, PutsFront, answer_of, misused, reader_status, CanBeUsed, FeedsStream};
-ghost use Rattle.age_c.specs.{FinishesStream, IsFinishCall, IsStreamCall, KeepsRoom};
+ghost use Rattle.age_c.specs.{FinishesStream, IsFinishCall};
+ghost use Rattle.age_c.specs.inner.{IsStreamCall, KeepsRoom};
 ghost use Rattle.age_c.specs.inner.{HoldsPiece};
 
 use crate::MISUSED;
@@ -120,8 +121,7 @@ fn stream_status(stream: &Stream) -> Option<Status>
 /// and puts the plaintext of a block that is full into `out`, which has room for 65,536 bytes or
 /// more if one is. The answer is 0 or the number of a fault, 17 to 22, with which the reader refuses each
 /// further call that gives it bytes or an end.
-#[unsafe(no_mangle)]
-pub extern "C" fn age_c_feed(
+pub(crate) fn feed_stream(
     stream: &mut Stream,
     piece: &[u8],
     taken: &mut usize,
@@ -149,8 +149,7 @@ pub extern "C" fn age_c_feed(
 
 /// The payload ended: what is left of its plaintext is put into `out`, which has room for it: 65,536
 /// bytes always are enough. The plaintext is complete only if the answer is 0.
-#[unsafe(no_mangle)]
-pub extern "C" fn age_c_finish(stream: &mut Stream, out: &mut [u8], written: &mut usize) -> u32
+pub(crate) fn finish_stream(stream: &mut Stream, out: &mut [u8], written: &mut usize) -> u32
     ensures { Answers (IsFinishCall stream.old out.old) (FinishesStream stream.old)
         stream.old stream.new result written.new out.old out.new }
 {

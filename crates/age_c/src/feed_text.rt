@@ -1,9 +1,10 @@
-//! The functions by which C writes a file in pieces of any length.
+//! Writes a file in pieces of any length.
 
 ghost use Rattle.std.specs.Prelude.{◌≡◌, ◌≢◌, ◌+◌, ◌<◌, ◌≤◌, ◌↔◌, IsTrue, true, false, [], length, take};
 ghost use Rattle.age_chunk.specs.{chunk_length, chunk_limit};
 ghost use Rattle.age_c.specs.{Answers, PutsFront, CanSeal, WritesOrRefuses, FeedsText, FinishesText};
-ghost use Rattle.age_c.specs.{IsTextCall, IsLastTextCall, KeepsTextRoom, RefusesText};
+ghost use Rattle.age_c.specs.{IsTextCall, IsLastTextCall, RefusesText};
+ghost use Rattle.age_c.specs.inner.{KeepsTextRoom};
 ghost use Rattle.age_c.specs.inner.{HoldsText};
 
 use crate::MISUSED;
@@ -74,8 +75,7 @@ fn seal_held(stream: &mut WriteStream, piece: &[u8], out: &mut [u8]) -> (usize, 
 /// A chunk that is full is sealed once a byte comes after it, and its block is put into `out`,
 /// which has room for 65,552 bytes or more if one is. A chunk that can only be the last, since a payload has
 /// at most 2^48, is refused with 22, and nothing is changed.
-#[unsafe(no_mangle)]
-pub extern "C" fn age_c_feed_text(
+pub(crate) fn feed_text(
     stream: &mut WriteStream,
     piece: &[u8],
     taken: &mut usize,

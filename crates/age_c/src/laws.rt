@@ -1,37 +1,29 @@
-//! What any list of calls does. A reader and a writer that take turns, or several of either, need
-//! no law: each call takes its reader or writer by reference, and the library keeps nothing else.
+//! What any list of calls does. Decoders and encoders that take turns, or several of either, need no
+//! law: each call takes its own by reference, and the library keeps nothing else.
 
-ghost use Rattle.age_c.specs.{CallsAreWritten, PartsAreWritten, AnswersAreCalls, OpeningsAreParts};
-ghost use Rattle.age_c.specs.{UndamagedOpens, AnswersAreFeedCalls, AnswersAreTextCalls, FeedsAreWritten};
-ghost use Rattle.age_c.specs.{PiecesReadBack, TextsAreFiles, DecodesAreWritten, AnswersAreDecodeCalls};
+ghost use Rattle.age_c.specs.{CallsAreWritten, PartsAreWritten, OpeningsAreParts, UndamagedOpens};
+ghost use Rattle.age_c.specs.{AnswersAreTextCalls, DecodesAreWritten, AnswersAreDecodeCalls};
 ghost use Rattle.age_c.specs.{DecodersAreRight, SoughtIsRight, EncodersWriteFiles, DecodersOpenFiles};
 ghost use Rattle.age_c.specs.{DecodersReadBack, EncodersAreRead, KeysOpen};
 
-/// The headline for a caller: after any calls of [`age_c_block`](crate::age_c_block) and
-/// [`age_c_end`](crate::age_c_end) on a reader that was just begun, or went to a chunk, while no
-/// block opens except as the writer of a plaintext sealed it, what was written is a prefix of that
-/// plaintext from that chunk on, and all of it if the last call is an end that answered 0; then the
-/// chunk begins within the plaintext, so that its length is known. An undamaged payload gives all
-/// of it, and 0 each time.
+/// The headline for a caller who opens chunks: after any calls that give blocks, and the end after
+/// them, to a reader that was just begun, or went to a chunk, while no block opens except as the
+/// writer of a plaintext sealed it, what was written is a prefix of that plaintext from that chunk
+/// on, and all of it if the last call is an end that answered 0; then the chunk begins within the
+/// plaintext, so that its length is known. An undamaged payload gives all of it, and 0 each time.
+/// [`age_c_open_at`](crate::age_c_open_at) makes such calls, as [`openings_are_parts`] says, and so
+/// do those of a decoder, as [`decodes_are_written`] says of these.
 #[tactic(auto, using(crate::proofs::CallLemmas::calls_are_written))]
 pub fn calls_are_written()
     ensures { CallsAreWritten }
 {}
 
-/// The headline for a caller who seeks: what [`calls_are_written`] says holds after each seek, for
-/// any calls of [`age_c_block`](crate::age_c_block), [`age_c_end`](crate::age_c_end) and
-/// [`age_c_seek`](crate::age_c_seek) on one reader. Each plaintext that was written stands in the
-/// writer's plaintext at its place.
+/// What [`calls_are_written`] says holds after each seek, for any seeks and calls on one reader.
+/// Each plaintext that was written stands in the writer's plaintext at its place.
+/// [`age_c_open_at`](crate::age_c_open_at) makes both, as [`openings_are_parts`] says.
 #[tactic(auto, using(crate::proofs::CallLemmas::parts_are_written))]
 pub fn parts_are_written()
     ensures { PartsAreWritten }
-{}
-
-/// What [`age_c_block`](crate::age_c_block) and [`age_c_end`](crate::age_c_end) promise makes each
-/// use of them one of the calls that [`calls_are_written`] speaks of.
-#[tactic(auto, using(crate::proofs::CallLemmas::answers_are_calls))]
-pub fn answers_are_calls()
-    ensures { AnswersAreCalls }
 {}
 
 /// What [`age_c_open_at`](crate::age_c_open_at) promises makes each use of it one of the seeks and
@@ -51,54 +43,19 @@ pub fn undamaged_opens()
     ensures { UndamagedOpens }
 {}
 
-/// The headline for a caller whose pieces have any length: what [`calls_are_written`] says of blocks
-/// and their end holds after any calls of [`age_c_feed`](crate::age_c_feed) and
-/// [`age_c_finish`](crate::age_c_finish), of the bytes that they took.
-#[tactic(auto, using(crate::proofs::StreamLemmas::feeds_are_written))]
-pub fn feeds_are_written()
-    ensures { FeedsAreWritten }
-{}
-
-/// What [`age_c_seal_passphrase`](crate::age_c_seal_passphrase) or
-/// [`age_c_seal_key`](crate::age_c_seal_key), then any calls of
-/// [`age_c_feed_text`](crate::age_c_feed_text), and then one of
-/// [`age_c_finish_text`](crate::age_c_finish_text) that answers 0 write is the age file of the
-/// plaintext that they took.
-pub fn texts_are_files()
-    ensures { TextsAreFiles }
-{}
-
-/// A file that was written in pieces, given to a stream that reads in any other pieces, gives its
-/// plaintext back.
-pub fn pieces_read_back()
-    ensures { PiecesReadBack }
-{}
-
-/// What [`age_c_feed`](crate::age_c_feed) and [`age_c_finish`](crate::age_c_finish) promise makes
-/// each use of them one of the calls that [`feeds_are_written`] and [`pieces_read_back`] speak of.
-pub fn answers_are_feed_calls()
-    ensures { AnswersAreFeedCalls }
-{}
-
-/// What [`age_c_feed_text`](crate::age_c_feed_text) and
-/// [`age_c_finish_text`](crate::age_c_finish_text) promise makes each use of them one of the calls
-/// that [`texts_are_files`] and [`pieces_read_back`] speak of.
-#[tactic(auto, using(crate::proofs::WriterLemmas::answers_are_text_calls))]
-pub fn answers_are_text_calls()
-    ensures { AnswersAreTextCalls }
-{}
-
 /// The headline for a caller who decodes: since its header was opened, or a place was last sought,
-/// what any calls of [`age_c_decode`](crate::age_c_decode) and
+/// what any calls of [`age_c_decode_piece`](crate::age_c_decode_piece) and
 /// [`age_c_decode_end`](crate::age_c_decode_end) on a decoder wrote is a prefix of the plaintext from
-/// that place on, and all of that if the last of them is an end that answered 0.
+/// that place on, and all of that if the last of them is an end that answered 0. (A piece is taken by
+/// several of the calls that this speaks of: `DecodesMore`.)
 #[tactic(auto, using(crate::proofs::DecoderLemmas::decodes_are_written))]
 pub fn decodes_are_written()
     ensures { DecodesAreWritten }
 {}
 
-/// What [`age_c_decode`](crate::age_c_decode) and [`age_c_decode_end`](crate::age_c_decode_end)
-/// promise makes each use of them one of the calls that [`decodes_are_written`] speaks of.
+/// What [`age_c_decode_end`](crate::age_c_decode_end) promises makes each use of it one of the calls
+/// that [`decodes_are_written`] speaks of. So does what `decode` promises, by which
+/// [`age_c_decode_piece`](crate::age_c_decode_piece) takes a piece.
 #[tactic(auto, using(crate::proofs::DecoderLemmas::answers_are_decode_calls))]
 pub fn answers_are_decode_calls()
     ensures { AnswersAreDecodeCalls }
@@ -117,11 +74,20 @@ pub fn sought_is_right()
 {}
 
 /// What a call of `age_c_encode_..` that answered 0, then any calls of
-/// [`age_c_feed_text`](crate::age_c_feed_text), and then one of
+/// [`age_c_encode_piece`](crate::age_c_encode_piece), and then one of
 /// [`age_c_finish_text`](crate::age_c_finish_text) that answered 0 wrote is the age file of what they
-/// took, whatever the encoder was used for before.
+/// took, whatever the encoder was used for before. (A piece is taken by several of the calls that
+/// this speaks of: `EncodesMore`.)
 pub fn encoders_write_files()
     ensures { EncodersWriteFiles }
+{}
+
+/// What [`age_c_finish_text`](crate::age_c_finish_text) promises makes each use of it one of the calls
+/// that [`encoders_write_files`] speaks of. So does what `feed_text` promises, by which
+/// [`age_c_encode_piece`](crate::age_c_encode_piece) takes a piece.
+#[tactic(auto, using(crate::proofs::WriterLemmas::answers_are_text_calls))]
+pub fn answers_are_text_calls()
+    ensures { AnswersAreTextCalls }
 {}
 
 /// A decoder that is given an age file in pieces of any length opens it, unless memory is lacking: a

@@ -3,10 +3,9 @@
 //! `include/agefile.h` of them: it allocates, draws random bytes and wipes.
 //!
 //! A [`Decoder`] takes a file from its first byte on, in pieces of any length, and writes plaintext;
-//! it can be begun again, ended, or sent to any place, at any time. An encoder, a [`WriteStream`],
-//! begins with a passphrase, or with a file key and the stanzas that wrap it, and takes plaintext.
-//! [`Reader`] and [`Writer`] take and give one block after the other, for the modules of other
-//! languages.
+//! it can be begun again, ended, or sent to any place, at any time, and its [`Reader`] opens any
+//! chunk by itself. An encoder, a [`WriteStream`], begins with a passphrase, or with a file key and
+//! the stanzas that wrap it, and takes plaintext.
 //!
 //! Each function may be called with any numbers in what it is given, and with slices of any length.
 //! What doesn't fit returns [`MISUSED`].
@@ -28,9 +27,7 @@ mod feed_text;
 mod header;
 mod laws;
 mod numbers;
-mod open;
 mod open_at;
-mod read;
 mod reader;
 mod seal;
 mod seal_key;
@@ -47,8 +44,7 @@ mod wrap;
 mod write_stream;
 mod writer;
 
-pub use again::age_c_may_open;
-pub use decode::{age_c_decode, age_c_decode_end};
+pub use decode::age_c_decode_end;
 pub use decode_begin::age_c_decode_begin;
 pub use decode_open::{
     age_c_decode_head_key, age_c_decode_head_passphrase, age_c_decode_head_shared,
@@ -58,23 +54,16 @@ pub use decode_seek::age_c_decode_seek;
 pub use decoder::Decoder;
 pub use encode::{age_c_encode_key, age_c_encode_passphrase};
 pub use encode_piece::age_c_encode_piece;
-pub use feed::{age_c_feed, age_c_finish};
-pub use feed_text::{age_c_feed_text, age_c_finish_text};
+pub use feed_text::age_c_finish_text;
 pub use header::{age_c_header, age_c_stanzas};
 pub use laws::{
-    answers_are_calls, answers_are_decode_calls, answers_are_feed_calls, answers_are_text_calls,
-    calls_are_written, decoders_are_right, decoders_open_files, decoders_read_back,
-    decodes_are_written, encoders_are_read, encoders_write_files, feeds_are_written, keys_open,
-    openings_are_parts, parts_are_written, pieces_read_back, sought_is_right, texts_are_files,
+    answers_are_decode_calls, answers_are_text_calls, calls_are_written, decoders_are_right,
+    decoders_open_files, decoders_read_back, decodes_are_written, encoders_are_read,
+    encoders_write_files, keys_open, openings_are_parts, parts_are_written, sought_is_right,
     undamaged_opens,
 };
-pub use open::{age_c_open_key, age_c_open_passphrase, age_c_open_shared, age_c_version};
 pub use open_at::age_c_open_at;
-pub use read::{age_c_block, age_c_end};
 pub use reader::Reader;
-pub use seal::age_c_seal_passphrase;
-pub use seal_key::age_c_seal_key;
-pub use seek::age_c_seek;
 pub use size::age_c_size;
 pub use stanza_place::StanzaPlace;
 pub use stream::Stream;

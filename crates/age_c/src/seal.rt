@@ -1,4 +1,4 @@
-//! The functions by which C writes a file.
+//! Begins a file under a passphrase.
 
 ghost use Rattle.std.specs.Prelude.{◌≡◌, ◌↔◌, IsTrue};
 ghost use Rattle.age_c.specs.{Answers, CanSeal, IsStartCall, WritesOrRefuses, BeginsFileFrom};
@@ -28,8 +28,7 @@ pub(crate) fn can_be_used(writer: &Writer) -> bool
 /// its header and the payload's nonce into `out`, which has room for 256 bytes or more. `random` is
 /// 48 new random bytes: the file key, the stanza's salt and the payload's nonce.
 #[tactic(auto, using(crate::proofs::mac_holds))]
-#[unsafe(no_mangle)]
-pub extern "C" fn age_c_seal_passphrase(
+pub(crate) fn seal_passphrase(
     alloc: Global,
     pass: &[u8],
     work: u32,

@@ -1,4 +1,4 @@
-//! The function by which C begins a file whose key it has wrapped itself.
+//! Begins a file whose key the caller has wrapped.
 
 ghost use Rattle.std.specs.Prelude.{◌≡◌, ◌≤◌, ◌+◌, length, take, drop, IfOk, IfErr};
 ghost use Rattle.age_keys.specs.{IsScryptNotAlone};
@@ -103,8 +103,7 @@ fn parts_of(random: &[u8; RANDOM_LEN]) -> ([u8; 16], [u8; 16])
 /// nonce. The header and the nonce are put into `out`, which has room for 256 bytes more than
 /// `stanzas` has, or more. Lines that no header can have are refused with 3, and a scrypt stanza
 /// beside another with 9.
-#[unsafe(no_mangle)]
-pub extern "C" fn age_c_seal_key(
+pub(crate) fn seal_key(
     alloc: Global,
     stanzas: &[u8],
     random: &[u8],

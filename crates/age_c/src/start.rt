@@ -119,20 +119,3 @@ pub(crate) fn start<U: Unlock>(
         Err(fault) => Err(StartFault::Key(fault)),
     }
 }
-
-/// Keeps a reader that was begun, and answers 0; else the fault's number.
-pub(crate) fn keep_started(started: Result<Reader, StartFault>, reader: &mut Reader) -> u32
-    ensures kept { IfOk started (λ it. (result ≡ 0) × (reader.new ≡ it)) }
-    ensures refused { IfErr started
-        (λ fault. (result ≡ start_fault_number fault) × (reader.new ≡ reader.old)) }
-    ensures some { IfErr started (λ _. result ≢ 0) }
-    ensures meant { result ≢ 255 }
-{
-    match started {
-        Ok(it) => {
-            *reader = it;
-            0
-        }
-        Err(fault) => fault.number(),
-    }
-}

@@ -1,5 +1,5 @@
 use Rattle.std.specs.Prelude.{ℕ, ◌<◌, ◌≤◌}
-use Rattle.age_c.specs.{EndsAt}
+use Rattle.age_c.specs.inner.Tries.{EndsAt}
 use Rattle.age_c.proofs.again.ends_from.Given as goal
 
 abbrev pub invariant-loop-at : goal.invariant-loop-at

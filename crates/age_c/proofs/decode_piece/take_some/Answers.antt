@@ -4,6 +4,6 @@ use Rattle.age_c.proofs.decode_piece.take_some.Goals as goal
 
 pub returns-clause-one : goal.returns-clause-one
 returns-clause-one c =
-    let it = c.age_c_decode-answer in
+    let it = c.decode-answer in
     one_of c.args.decoder.now it.new.decoder c.args.piece.now c.args.out.now it.new.out it.result it.new.taken it.new.written it.ensures.decodes
     (λ is. (it.ensures.idle is, it.ensures.nothing (λ zero. omega (arith, is, zero))))
