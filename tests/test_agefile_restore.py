@@ -103,6 +103,12 @@ class RestoreTest(AgefileCase):
         self.is_through("the same command", self.run_agefile(*COMMAND, input=self.age))
         self.end(run)
 
+    def test_killed_between_names(self):
+        """A run that was killed once the text had its name, and the position not yet, is gone on from."""
+        self.run_agefile(*COMMAND, input=self.age[:5 * BLOCK])
+        os.rename(self.path("out.restore/position"), self.path("out.restore/new-position"))
+        self.is_through("the same command", self.run_agefile(*COMMAND, input=self.age))
+
     def test_cut_sources(self):
         """A stream that breaks off is told, and the next one, from its beginning, goes on; one that is shorter changes nothing."""
         most = 0

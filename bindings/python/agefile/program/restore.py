@@ -124,8 +124,9 @@ class Room:
     def keep(self) -> bool:
         """Keeps what a run saved, or else the one before it, and nothing else: whether there is any."""
         if self.has_new():
-            os.replace(self.new_text, self.text)
-            sync(self.folder)
+            if found_at(self.new_text) is not None:  # (else a run was killed here, which had renamed it)
+                os.replace(self.new_text, self.text)
+                sync(self.folder)
             os.replace(self.new_position, self.position)
             sync(self.folder)
         kept = {self.text, self.position} if os.path.exists(self.position) else set()
