@@ -11,7 +11,6 @@
 
 mod error;
 mod inspect_command;
-mod laws;
 mod names;
 mod print;
 mod program;
@@ -20,11 +19,10 @@ pub use age_cli_args::Request;
 pub use age_command::{Ending, UnsavedError, Usage, UsageError};
 pub use age_fault::FileFault;
 pub use age_fileset::{
-    Action, ErrorContext, Failure, FileError, FileSet, FirstBytes, MemFiles, MemIn, MemOut,
-    Missing, OpenError, OpenFault, Purpose, ReadSummary,
+    Action, ErrorContext, Failure, FileError, FileSet, FirstBytes, Missing, OpenError, OpenFault,
+    Purpose, ReadSummary,
 };
-pub use age_io::{Failed, MemSink, MemSource, Meter, Sink, Source};
+pub use age_io::{Failed, Meter, Sink, Source};
 pub use age_options::{ClobberOption, Durability};
 pub use error::RunError;
-pub use laws::runs_keep_files;
 pub use program::{read_words, run, run_words, status};

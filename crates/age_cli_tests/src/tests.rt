@@ -1,10 +1,12 @@
 ghost use Rattle.std.specs.Prelude.{None};
-ghost use Rattle.age_fileset.specs.{seen_in, size_in};
+ghost use Rattle.age_cli_memory.specs.{seen_in, size_in};
 
 use age_cli::{
-    ClobberOption, Durability, ErrorContext, FileError, FileSet, MemFiles, MemIn, MemOut, MemSink,
-    MemSource, Meter, Missing, OpenError, Purpose, run,
+    ClobberOption, Durability, ErrorContext, FileError, FileSet, Meter, Missing, OpenError,
+    Purpose, run,
 };
+use age_cli_memory::{MemFiles, MemIn, MemOut};
+use age_memory::{MemSink, MemSource};
 use age_messages::{LineStyle, ProgressLine};
 use std::alloc::Global;
 use std::cell::Cell;

@@ -1,7 +1,7 @@
 //! A decryption in memory.
 
 ghost use Rattle.std.specs.Prelude.{◌≡◌, ℕ, List, [], MatchResult, false};
-ghost use Rattle.age_io.specs.{memory_supply};
+ghost use Rattle.age_memory.specs.{memory_supply};
 ghost use Rattle.age_file.specs.{IsUndamagedFile, StopsOutside};
 
 use age_file::{FileFault, MemSink, MemSource, decrypt, undamaged_is_written};

@@ -18,9 +18,9 @@ mod laws;
 pub use age_fault::FileFault;
 pub use age_inspection::{Report, StanzaReport, StanzaReports, inspect, inspect_sized};
 pub use age_io::{
-    Failed, MemSink, MemSource, Memory, Reading, Sink, Source, Tape, Unsent, Writing, flush_all,
-    write_all,
+    Failed, Memory, Reading, Sink, Source, Tape, Unsent, Writing, flush_all, write_all,
 };
+pub use age_memory::{MemSink, MemSource};
 pub use age_opening::{
     Done, Marks, Stopped, authentic_runs, bound_positions, calls_in_a_row, decrypt, decrypt_marked,
     done_gave_text, head_faults_stay, resume, resume_marked, runs_in_a_row, undamaged_is_written,

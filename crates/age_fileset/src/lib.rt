@@ -1,18 +1,15 @@
-//! The files that a command works with: a trait for a set of them, and one over memory.
+//! The files that a command works with: a trait for a set of them.
 //!
 //! A set notes what was opened, created, replaced and ended, in order, and what came of it. For the
 //! machine's files (`age_disk`), contracts see the bytes that they gave and took; for a set over
-//! memory, also what each file holds.
+//! memory (`age_cli_memory`), also what each file holds.
 #![tactic(auto)]
 
 mod error;
 mod files;
 mod log;
-mod mem_entry;
-mod mem_files;
 
 pub use age_options::{Action, ErrorContext, Failure, FirstBytes, ReadSummary};
 pub use error::{FileError, OpenError};
 pub use files::{FileSet, Missing, OpenFault, Purpose};
 pub use log::{Doing, Log};
-pub use mem_files::{MemFiles, MemIn, MemOut};

@@ -1,17 +1,14 @@
 //! Where the bytes of age files come from, and where they go.
 //!
 //! A `Source` gives bytes and a `Sink` takes them. Both count their failures. `Reading` and
-//! `Writing` are those over std's readers and writers, `MemSource` and `MemSink` those over memory,
-//! which also show contracts their bytes, and fail at a call that is planned. A `Metered` source
-//! reports to a `Meter` how many bytes each pull gave. A `List` is what other crates keep elements
-//! in, a `Tape` shows contracts bytes that went by, and a `Seen` any other value.
+//! `Writing` are those over std's readers and writers; those over memory stand in `age_memory`. A
+//! `Metered` source reports to a `Meter` how many bytes each pull gave. A `List` is what other crates
+//! keep elements in, a `Tape` shows contracts bytes that went by, and a `Seen` any other value.
 #![tactic(auto)]
 
 mod failed;
 mod failures;
 mod list;
-mod mem_sink;
-mod mem_source;
 mod meter;
 mod metered;
 mod put;
@@ -23,8 +20,6 @@ mod tape;
 pub use failed::{Failed, Memory, Unsent};
 pub use failures::Failures;
 pub use list::{Bytes, List};
-pub use mem_sink::MemSink;
-pub use mem_source::MemSource;
 pub use meter::Meter;
 pub use metered::Metered;
 pub use put::{flush_all, write_all};

@@ -1,5 +1,5 @@
 use Rattle.std.proofs.Common.{◌++◌, ap, ◌∙◌, None}
-use Rattle.age_io.specs.{Holding}
+use Rattle.age_memory.specs.{Holding}
 use Rattle.age_file.specs.{Kept}
 use Rattle.age_examples.proofs.memory.text_of.Goals as goal
 

@@ -1,0 +1,595 @@
+//! Files over memory.
+
+ghost use Rattle.std.specs.Prelude.{◌≡◌, ◌↔◌, ◌⊎◌, ◌++◌, ◌∷◌, ◌<◌, ◌≤◌, IsTrue, [], true, Some, None, OnOk};
+ghost use Rattle.std.specs.Prelude.{OnErr, IfOk, IsErrOf, IsOk, IfErr, IsOkUnless, Contains, is_some};
+ghost use Rattle.std.specs.Prelude.{option_map, length, false};
+ghost use Rattle.age_io.specs.Taken.{WriteAppends, Keeps};
+ghost use Rattle.age_memory.specs.{Puts, Pulls, Flushes, holds, memory_supply};
+ghost use Rattle.age_io.specs.{ReadConsumes};
+ghost use Rattle.age_cli_memory.specs.{entry_of, empty_with, full_with, PutsEntry, held_by};
+ghost use Rattle.age_fileset.specs.{IsMemoryOr};
+ghost use Rattle.age_fileset.specs.{Found, Gave};
+ghost use Rattle.age_fileset.specs.{Settled, opened_as, looked_as, made_as, put_as};
+ghost use Rattle.age_cli_memory.specs.{ended_with, size_in};
+ghost use Rattle.age_cli_memory.specs.{shown_in, shown_out, seen_in, MemFails, AreTrue};
+ghost use Rattle.age_fileset.specs.{reading_of};
+ghost use Rattle.age_fileset.specs.declared.files.OpenFault.TheVariants.{Fault};
+ghost use Rattle.age_options.specs.declared.ClobberOption.TheVariants.{Refused};
+
+use crate::entry::{MemEntry, Name, bytes_of, put_entry};
+use age_fault::FileFault;
+use age_fileset::{Doing, FileError, FileSet, Log, Missing, OpenError, Purpose};
+use age_io::{Bytes, Failed, Memory, Sink, Source, Tape};
+use age_memory::{MemSink, MemSource};
+use age_options::{ClobberOption, Durability, ErrorContext};
+use std::alloc::{AllocError, Global};
+use std::marker::Model;
+
+/// Files over memory, whose names and bytes contracts see: the list of them, the names that can't
+/// be written, and how many bytes a file that is written can hold.
+#[derive(Drop)]
+pub struct MemFiles {
+    entries: Vec<MemEntry>,
+    refused: Vec<Name>,
+    room: usize,
+    log: Log,
+    ended: Option<MemEnded>,
+}
+
+/// A file over memory that was ended, for contracts alone.
+#[derive(Drop)]
+struct MemEnded {
+    took: Tape,
+    is_closed: bool,
+}
+
+impl Model for MemEnded {
+    ghost use Rattle.std.specs.Prelude.{None, [], false};
+    ghost use Rattle.age_calls.specs.{EndedFile};
+
+    ghost Value = { EndedFile };
+
+    ghost view = { λ e. record {
+      took = e.took;
+      is_closed = e.is_closed;
+      file = None;
+      is_link = false;
+      calls = [];
+      failed = 0;
+    } };
+}
+
+impl Model for MemFiles {
+    ghost use Rattle.age_cli_memory.specs.{Shelf, AreTrue};
+
+    ghost Value = { Shelf };
+
+    ghost view = { λ f. record {
+      entries = f.entries.items;
+      refused = f.refused.items;
+      room = f.room;
+      outcomes = f.log;
+      ended = f.ended;
+    } };
+
+    ghost invariant = { λ f. AreTrue f.entries.items f.log };
+}
+
+/// A file over memory that is read. A contract sees its name and its source.
+#[derive(Drop)]
+pub struct MemIn {
+    name: Name,
+    source: MemSource,
+}
+
+impl Model for MemIn {
+    ghost use Rattle.std.specs.Prelude.{ℕ, List};
+    ghost use Rattle.age_memory.specs.{Feeding};
+
+    ghost Value = { List ℕ × Feeding };
+
+    ghost view = { λ i. (i.name, i.source) };
+}
+
+impl Source for MemIn {
+    ghost view = { shown_in };
+
+    fn pull(&mut self, into: &mut [u8]) -> Result<usize, Failed>
+        ensures bound { IfOk result (λ n. n ≤ length into.new) }
+        ensures bytes { ReadConsumes
+            (memory_supply self.old.1.given self.old.1.left self.old.1.is_at_end)
+            (memory_supply self.new.1.given self.new.1.left self.new.1.is_at_end) result into.new }
+        ensures named { self.new.0 ≡ self.old.0 }
+        ensures plan { Pulls self.old.1 (length into.new) result self.new.1 }
+    {
+        self.source.pull(into)
+    }
+
+    fn failures(&self) -> u64 {
+        self.source.failures()
+    }
+}
+
+/// A file over memory that is written. A contract sees its name and its sink.
+#[derive(Drop)]
+pub struct MemOut {
+    name: Name,
+    sink: MemSink,
+}
+
+impl Model for MemOut {
+    ghost use Rattle.std.specs.Prelude.{ℕ, List};
+    ghost use Rattle.age_memory.specs.{Holding};
+
+    ghost Value = { List ℕ × Holding };
+
+    ghost view = { λ o. (o.name, o.sink) };
+}
+
+impl Sink for MemOut {
+    ghost view = { shown_out };
+
+    fn put(&mut self, from: &[u8]) -> Result<usize, Failed>
+        ensures bound { IfOk result (λ n. (n ≤ length from.now) × (0 < length from.now → 0 < n)) }
+        ensures bytes { WriteAppends (holds self.old.1.held) (holds self.new.1.held) result from.now }
+        ensures named { self.new.0 ≡ self.old.0 }
+        ensures plan { Puts self.old.1 from.now result self.new.1 }
+    {
+        self.sink.put(from)
+    }
+
+    fn flush(&mut self) -> Result<(), Failed>
+        ensures settled { OnOk result (self.new.1.flushed ≡ true) }
+        ensures bytes { Keeps (holds self.old.1.held) (holds self.new.1.held) }
+        ensures named { self.new.0 ≡ self.old.0 }
+        ensures plan { Flushes self.old.1 result self.new.1 }
+    {
+        self.sink.flush()
+    }
+
+    fn failures(&self) -> u64 {
+        self.sink.failures()
+    }
+}
+
+impl MemFiles {
+    /// No files. A file that is written can hold `room` bytes.
+    pub fn new(alloc: Global, room: usize) -> MemFiles
+        ensures { result ≡ record {
+          entries = [];
+          refused = [];
+          room = room;
+          outcomes = [];
+          ended = None;
+        } }
+    {
+        MemFiles {
+            entries: Vec::new(alloc),
+            refused: Vec::new(alloc),
+            room,
+            log: Log::new(),
+            ended: None,
+        }
+    }
+
+    /// Adds a file, in place of any file of its name. If memory runs out, nothing changes.
+    pub fn put(&mut self, alloc: Global, name: &str, bytes: Vec<u8>) -> Result<(), Memory>
+        ensures puts { PutsEntry name.now bytes.items result self.old.entries self.new.entries }
+        ensures kept { self.new ≡ record self.old {
+          entries = self.new.entries;
+          outcomes = self.old.outcomes ++ put_as name.now bytes.items result;
+        } }
+    {
+        let name = Name::new(alloc, name).map_err(|_| Memory)?;
+        self.put_noted(name, Bytes::from_vec(bytes))
+            .map_err(|_| Memory)
+    }
+
+    /// Puts bytes under a name, and notes that.
+    fn put_noted(&mut self, name: Name, bytes: Bytes) -> Result<(), AllocError>
+        ensures puts { PutsEntry name bytes result self.old.entries self.new.entries }
+        ensures there { is_some (entry_of self.old.entries name) ≡ true → IsOk result }
+        ensures kept { self.new ≡ record self.old {
+          entries = self.new.entries;
+          outcomes = self.old.outcomes ++ put_as name bytes result;
+        } }
+    {
+        let (mut own, mut put) = (Tape::new(), Tape::new());
+        own.note(name.as_str().as_bytes());
+        put.note(bytes.as_slice());
+        put_entry(&mut self.entries, name, bytes)?;
+        self.log.note(Doing::Put(&own, &put));
+        Ok(())
+    }
+
+    /// The bytes of a file, if it exists.
+    pub fn get(&self, name: &str) -> Option<&[u8]>
+        ensures { option_map (λ s. s.now) result ≡ entry_of self.now.entries name.now }
+    {
+        bytes_of(self.entries.as_slice(), name)
+    }
+
+    /// A law: what is stored under each name is what came of what was done.
+    pub fn is_kept(&self)
+        ensures { AreTrue self.now.entries self.now.outcomes }
+    {
+        let _room = self.room;
+    }
+
+    /// Notes that a reading is over.
+    fn log_reading(&mut self, source: &MemIn)
+        ensures { self.new ≡ record self.old {
+          outcomes = self.old.outcomes ++ Gave (reading_of (shown_in source.now)) ∷ [];
+        } }
+    {
+        let (mut name, mut given) = (Tape::new(), Tape::new());
+        name.note(source.name.as_str().as_bytes());
+        given.note(source.source.given());
+        self.log
+            .note(Doing::Gave(&name, &given, source.source.is_at_end()));
+    }
+
+    /// Refuses each later attempt to create or replace a file of this name. If memory runs out,
+    /// nothing changes.
+    pub fn refuse(&mut self, alloc: Global, name: &str) -> Result<(), Memory>
+        ensures ok { OnOk result
+            (self.new ≡ record self.old { refused = self.old.refused ++ name.now ∷ [] }) }
+        ensures err { OnErr result (self.new ≡ self.old) }
+    {
+        let Ok(name) = Name::new(alloc, name) else {
+            return Err(Memory);
+        };
+        match self.refused.push(name) {
+            Ok(()) => Ok(()),
+            Err(_) => Err(Memory),
+        }
+    }
+}
+
+impl MemEnded {
+    /// What became of this sink.
+    fn of(sink: &MemSink, is_closed: bool) -> MemEnded
+        ensures { result ≡ ended_with sink.now.held is_closed }
+    {
+        let mut took = Tape::new();
+        took.note(sink.bytes());
+        MemEnded { took, is_closed }
+    }
+}
+
+/// Notes that a file was found, which has this to give.
+fn note_found(log: &mut Log, missing: Missing, name: &str, left: Option<&Tape>, size: Option<u64>)
+    ensures { log.new ≡ log.old ++ Found missing name.now (option_map (λ t. t.now) left.entry) size ∷ [] }
+{
+    log.note(Doing::Found(missing, name, left, size));
+}
+
+fn is_refused(refused: &[Name], name: &str) -> bool
+    ensures { IsTrue result ↔ Contains refused.now name.now }
+{
+    refused.iter().any(|r| r.as_str() == name)
+}
+
+/// What there is to read under a name.
+fn bytes_held<'a>(entries: &'a [MemEntry], name: &str, missing: Missing) -> Option<&'a [u8]>
+    ensures { option_map (λ s. s.now) result ≡ held_by missing (entry_of entries.now name.now) }
+{
+    match missing {
+        Missing::Fails => bytes_of(entries, name),
+        Missing::Empty => match bytes_of(entries, name) {
+            Some(bytes) => Some(bytes),
+            None => Some(&[]),
+        },
+    }
+}
+
+/// Whether a file has the name, and may not be replaced.
+fn is_kept(entries: &[MemEntry], name: &str, clobber: ClobberOption) -> bool
+    ensures { IsTrue result
+        ↔ ((clobber ≡ Refused) × (is_some (entry_of entries.now name.now) ≡ true)) }
+{
+    match clobber {
+        ClobberOption::Allowed => false,
+        ClobberOption::Refused => bytes_of(entries, name).is_some(),
+    }
+}
+
+/// A copy of a file's bytes, to be read.
+fn source_of(alloc: Global, bytes: &[u8]) -> Result<MemSource, FileFault>
+    ensures made { IfOk result (λ s. s ≡ full_with bytes.now) }
+    ensures memory { OnErr result (result ≡ Err FileFault.Memory) }
+{
+    Ok(MemSource::new(bytes.to_vec(alloc)?, usize::MAX, None))
+}
+
+/// The same, under this name.
+fn new_in(alloc: Global, name: &str, bytes: &[u8]) -> Result<MemIn, FileFault>
+    ensures made { IfOk result (λ s. s ≡ (name.now, full_with bytes.now)) }
+    ensures memory { OnErr result (result ≡ Err FileFault.Memory) }
+{
+    let name = Name::new(alloc, name)?;
+    let source = source_of(alloc, bytes)?;
+    Ok(MemIn { name, source })
+}
+
+/// An empty sink for a file of this name.
+fn new_out(alloc: Global, name: &str, room: usize) -> Result<MemOut, FileFault>
+    ensures made { IfOk result (λ o. o ≡ (name.now, empty_with room)) }
+    ensures memory { OnErr result (result ≡ Err FileFault.Memory) }
+{
+    let sink = MemSink::new(alloc, room, usize::MAX, None)?;
+    let name = Name::new(alloc, name)?;
+    Ok(MemOut { name, sink })
+}
+
+/// The same, unless the name is one that can't be written, or of a file that is kept.
+fn open_out<'w>(
+    alloc: Global,
+    refused: &[Name],
+    name: &str,
+    room: usize,
+    is_kept: bool,
+) -> Result<MemOut, OpenError<'w>>
+    ensures made { IfOk result (λ o. o ≡ (name.now, empty_with room)) }
+    ensures refused { IsErrOf result (Fault FileFault.Write)
+        ↔ (Contains refused.now name.now ⊎ IsTrue is_kept) }
+    ensures faults { IfErr result (MemFails FileFault.Write) }
+{
+    if is_kept || is_refused(refused, name) {
+        return Err(OpenError::new(FileFault::Write, ErrorContext::Nothing));
+    }
+    Ok(new_out(alloc, name, room)?)
+}
+
+impl<'w> FileSet<'w> for MemFiles {
+    type In = MemIn;
+
+    type Out = MemOut;
+
+    ghost view = { seen_in };
+
+    ghost size = { size_in };
+
+    ghost file = { λ _. None };
+
+    /// Equal names alone stand for one file.
+    fn is_same(&mut self, one: &'w str, other: &'w str) -> bool
+        ensures same { self.new ≡ self.old }
+        ensures equal { result ≡ true ↔ (one.now ≡ other.now) }
+    {
+        one == other
+    }
+
+    /// None is a stream.
+    fn check_streams(
+        &mut self,
+        _alloc: Global,
+        _names: &[Option<&'w str>],
+    ) -> Result<(), OpenError<'w>>
+        ensures same { self.new ≡ self.old }
+        ensures ok { IsOk result }
+    {
+        Ok(())
+    }
+
+    /// Opens a copy of a file's bytes. If no file has the name, refuses with `Read` (26), or opens a
+    /// copy of no bytes, as `missing` says.
+    fn open(
+        &mut self,
+        alloc: Global,
+        name: &'w str,
+        missing: Missing,
+        _purpose: Purpose,
+    ) -> Result<MemIn, OpenError<'w>>
+        ensures kept { self.new ≡ record self.old {
+          outcomes = self.old.outcomes ++ opened_as shown_in size_in missing name.now result;
+        } }
+        ensures found { IfOk result (λ s. (s ≡ (name.now, full_with s.1.left))
+            × (held_by missing (entry_of self.old.entries name.now) ≡ Some s.1.left)) }
+        ensures missing { IsErrOf result (Fault FileFault.Read)
+            ↔ (held_by missing (entry_of self.old.entries name.now) ≡ None) }
+        ensures faults { IfErr result (MemFails FileFault.Read) }
+    {
+        let Some(bytes) = bytes_held(self.entries.as_slice(), name, missing) else {
+            return Err(OpenError::new(FileFault::Read, ErrorContext::Nothing));
+        };
+        let mut left = Tape::new();
+        left.note(bytes);
+        let size = Some(bytes.len() as u64);
+        let source = new_in(alloc, name, bytes)?;
+        note_found(&mut self.log, missing, name, Some(&left), size);
+        Ok(source)
+    }
+
+    /// Exactly as many bytes as are still to come.
+    fn length(&self, source: &MemIn) -> Option<u64>
+        ensures { result ≡ Some (length source.now.1.left) }
+    {
+        Some(source.source.remaining() as u64)
+    }
+
+    fn close_input(&mut self, source: MemIn) -> ErrorContext<'w>
+        ensures over { self.new ≡ record self.old {
+          outcomes = self.old.outcomes ++ Gave (reading_of (shown_in source)) ∷ [];
+        } }
+    {
+        self.log_reading(&source);
+        ErrorContext::Nothing
+    }
+
+    /// Tries nothing: a name that can't be written is refused when it is replaced.
+    fn prepare(
+        &mut self,
+        _alloc: Global,
+        _name: &'w str,
+        _spared: Option<&'w str>,
+        _others: &[Option<&'w str>],
+        _clobber: ClobberOption,
+        _durability: Durability,
+    ) -> Result<(), OpenError<'w>>
+        ensures ok { IsOk result }
+        ensures same { self.new ≡ self.old }
+    {
+        Ok(())
+    }
+
+    /// Gives a sink with the room that was given for it; the entry is made when it is closed.
+    /// Refuses with `Write` (27) exactly if the name is one that can't be written, or of an existing
+    /// file that is refused.
+    fn create(
+        &mut self,
+        alloc: Global,
+        name: &'w str,
+        clobber: ClobberOption,
+        _durability: Durability,
+    ) -> Result<MemOut, OpenError<'w>>
+        ensures made { IfOk result (λ o. o ≡ (name.now, empty_with self.old.room)) }
+        ensures refused { IsErrOf result (Fault FileFault.Write)
+            ↔ (Contains self.old.refused name.now ⊎ ((clobber ≡ Refused)
+            × (is_some (entry_of self.old.entries name.now) ≡ true))) }
+        ensures kept { self.new ≡ record self.old {
+          outcomes = self.old.outcomes ++ made_as clobber name.now result;
+        } }
+        ensures faults { IfErr result (MemFails FileFault.Write) }
+    {
+        let is_kept = is_kept(self.entries.as_slice(), name, clobber);
+        let out = open_out(alloc, self.refused.as_slice(), name, self.room, is_kept);
+        if let Ok(_) = out {
+            self.log.note(Doing::Created(clobber, name));
+        }
+        out
+    }
+
+    /// Refuses with `Write` (27) exactly if a file has the name.
+    fn check_absent(&mut self, name: &'w str) -> Result<(), OpenError<'w>>
+        ensures refused { IsErrOf result (Fault FileFault.Write)
+            ↔ (is_some (entry_of self.old.entries name.now) ≡ true) }
+        ensures same { self.new ≡ self.old }
+        ensures faults { IfErr result (MemFails FileFault.Write) }
+    {
+        if self.get(name).is_none() {
+            return Ok(());
+        }
+        Err(OpenError::new(FileFault::Write, ErrorContext::Nothing))
+    }
+
+    /// Exactly if no file has the name.
+    fn is_absent(&mut self, name: &'w str) -> bool
+        ensures absent { result ≡ true ↔ (entry_of self.old.entries name.now ≡ None) }
+        ensures kept { self.new ≡ record self.old {
+          outcomes = self.old.outcomes ++ looked_as name.now result;
+        } }
+    {
+        if bytes_of(self.entries.as_slice(), name).is_some() {
+            self.log.note(Doing::Present(name));
+            return false;
+        }
+        self.log.note(Doing::Absent(name));
+        true
+    }
+
+    /// None is the stream of faults.
+    fn is_for_faults(&mut self, _out: &MemOut) -> bool
+        ensures same { self.new ≡ self.old }
+        ensures none { result ≡ false }
+    {
+        false
+    }
+
+    /// None is a terminal.
+    fn is_terminal(&mut self, _out: &MemOut) -> bool
+        ensures same { self.new ≡ self.old }
+        ensures none { result ≡ false }
+    {
+        false
+    }
+
+    fn is_empty(&self, out: &MemOut) -> bool {
+        out.sink.bytes().is_empty()
+    }
+
+    /// All that the sink took.
+    fn settle(&mut self, out: &mut MemOut, durability: Durability) -> u64
+        ensures kept { self.new ≡ record self.old {
+          outcomes = self.old.outcomes ++ Settled durability out.old.1.held result ∷ [];
+        } }
+        ensures same { out.new ≡ out.old }
+        ensures all { result ≡ length out.old.1.held }
+    {
+        self.settled_so_far(out, durability)
+    }
+
+    /// All that the sink took.
+    fn settled_so_far(&mut self, out: &MemOut, durability: Durability) -> u64
+        ensures kept { self.new ≡ record self.old {
+          outcomes = self.old.outcomes ++ Settled durability out.now.1.held result ∷ [];
+        } }
+        ensures all { result ≡ length out.now.1.held }
+    {
+        let mut took = Tape::new();
+        took.note(out.sink.bytes());
+        let size = out.sink.bytes().len() as u64;
+        self.log.note(Doing::Settled(durability, &took, size));
+        size
+    }
+
+    /// Puts what the sink took under its name. That allocates nothing if a file of that name
+    /// exists.
+    fn close(&mut self, out: MemOut, _durability: Durability) -> Result<(), FileError<'w>>
+        ensures puts { PutsEntry out.0 out.1.held result self.old.entries self.new.entries }
+        ensures there { is_some (entry_of self.old.entries out.0) ≡ true → IsOk result }
+        ensures faults { IsOkUnless result FileFault.Write }
+        ensures kept { self.new ≡ record self.old {
+          entries = self.new.entries;
+          outcomes = self.old.outcomes ++ put_as out.0 out.1.held result;
+          ended = Some (ended_with out.1.held true);
+        } }
+    {
+        let MemOut { name, sink } = out;
+        self.ended = Some(MemEnded::of(&sink, true));
+        match self.put_noted(name, Bytes::from_vec(sink.into_bytes())) {
+            Ok(()) => Ok(()),
+            Err(_) => Err(FileError::from(FileFault::Write)),
+        }
+    }
+
+    /// Nothing answers but the room that there is.
+    fn reason(&self, _out: &MemOut) -> ErrorContext<'w> {
+        ErrorContext::Nothing
+    }
+
+    /// Drops whatever the sink took.
+    fn discard(&mut self, out: MemOut, _durability: Durability)
+        ensures kept { self.new ≡ record self.old {
+          ended = Some (ended_with out.1.held false);
+        } }
+    {
+        self.ended = Some(MemEnded::of(&out.sink, false));
+        let _dropped = out;
+    }
+
+    /// Refuses with `Write` (27) exactly if the name is one that can't be written, or if the bytes
+    /// are more than there is room for.
+    fn replace(
+        &mut self,
+        alloc: Global,
+        name: &'w str,
+        bytes: &[u8],
+        _durability: Durability,
+    ) -> Result<(), FileError<'w>>
+        ensures puts { PutsEntry name.now bytes.now result self.old.entries self.new.entries }
+        ensures refused { IsErrOf result FileFault.Write
+            ↔ (Contains self.old.refused name.now ⊎ (self.old.room < length bytes.now)) }
+        ensures faults { IfErr result (IsMemoryOr FileFault.Write) }
+        ensures kept { self.new ≡ record self.old {
+          entries = self.new.entries;
+          outcomes = self.old.outcomes ++ put_as name.now bytes.now result;
+        } }
+    {
+        if is_refused(self.refused.as_slice(), name) || bytes.len() > self.room {
+            return Err(FileError::from(FileFault::Write));
+        }
+        let copy = bytes.to_vec(alloc)?;
+        Ok(self.put(alloc, name, copy)?)
+    }
+}

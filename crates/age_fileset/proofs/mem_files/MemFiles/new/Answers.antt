@@ -1,5 +1,0 @@
-use Rattle.age_fileset.proofs.{kept_at_first}
-use Rattle.age_fileset.proofs.mem_files.MemFiles.new.Goals as goal
-
-pub invariant_of-result : goal.invariant_of-result
-invariant_of-result c = rw (c.new.ensures.items, c.new-3.ensures) kept_at_first

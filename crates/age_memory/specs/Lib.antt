@@ -1,0 +1,2 @@
+pub mod InMemory
+pub use InMemory.{Feeding, Flushes, Holding, Pulls, Puts, holds, memory_supply}
