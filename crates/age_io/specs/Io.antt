@@ -1,4 +1,4 @@
--- What contracts see of sources and sinks, and what those over memory do.
+-- The contract views of sources and sinks, and the calls of those in memory.
 use Rattle.std.specs.Prelude.{ℕ, List, Option, Bool, ◌+◌, ◌-◌, ◌^◌, min, Result, Ok, Err, ◌≡◌, []}
 use Rattle.std.specs.Prelude.{◌++◌, Some, ◌≢◌, ◌⊎◌, length, take, drop, true, false}
 use Rattle.std.specs.Prelude.{nat_eq, nat_lt, ◌&&◌, ◌<◌, MatchResult, OnErr}
@@ -6,19 +6,19 @@ use Rattle.age_io.specs.Supply.{Supply}
 use Rattle.age_io.specs.Taken.{Taken, Appends}
 use Rattle.age_io.specs.declared.failed.Failed.{Failed}
 
--- ---- What a contract sees of a source, and of a sink.
+-- ---- The contract view of a source, and of a sink.
 
--- the bytes that came and that are still to come, how many pulls have failed, and whether the last
--- one did; the count stays at the greatest value of its type; and the name that it goes by, which no
--- call changes
+-- the view of a source: the bytes that it gave and those to come; how many pulls have failed, at
+-- most the greatest value of the count's type, and whether the last one did; and the source's name,
+-- which no call changes
 pub record SourceView : Type 0 where
   pub supply : Supply
   pub failed : ℕ
   pub failing : Bool
   pub label : List ℕ
 
--- the bytes that were taken, how many puts and flushes have failed, whether the last of them did,
--- and whether what was taken was sent on, which is true if the sink doesn't say
+-- the view of a sink: the bytes that it took; how many puts and flushes have failed, and whether
+-- the last of them did; and whether it was flushed, which is true if the sink doesn't say
 pub record SinkView : Type 0 where
   pub taken : Taken
   pub failed : ℕ
@@ -40,7 +40,7 @@ HasFailed old new failing = (new ≡ one_more old) × (failing ≡ true)
 abbrev pub HasRisen : ℕ → ℕ → Type 0
 HasRisen old new = (old < new) ⊎ (new ≡ 2 ^ 64 - 1)
 
--- ---- What a write of some bytes did.
+-- ---- The write of some bytes.
 
 -- the front of the bytes was taken and counted: all of them; or fewer, once a put failed, which is
 -- the only one that did, and the last
@@ -55,19 +55,19 @@ pub record Writes {E : Type 0} (old new : SinkView) (written_old written_new : �
       (λ _. HasFailed old.failed new.failed new.failing)
   pub stopped : OnErr result (0 < length unwritten)
 
--- ---- Sources and sinks over memory: what each call returns and leaves, by their plan of failures.
+-- ---- Sources and sinks in memory: what each call returns and leaves, by their plan of failures.
 
--- the bytes of a source over memory
+-- the bytes of a source in memory
 abbrev pub memory_supply : List ℕ → List ℕ → Bool → Supply
 memory_supply given left is_at_end = record { given = given; left = Some left; is_at_end = is_at_end }
 
--- the bytes of a sink over memory
+-- the bytes of a sink in memory
 abbrev pub holds : List ℕ → Taken
 holds held = record { bytes = held; contents = Some held; label = [] }
 
--- a source over memory: what it gave and what is still to come, how much a pull gives at most, the
--- number of the pull that fails, how many pulls were made and have failed, whether the last one did,
--- and whether the last that did not found the end
+-- a source in memory: the bytes that it gave and those to come, the most bytes that a pull gives,
+-- the number of the pull that fails, how many pulls were made and have failed, whether the last one
+-- did, and whether the last that did not found the end
 pub record Feeding : Type 0 where
   pub given : List ℕ
   pub left : List ℕ
@@ -96,9 +96,9 @@ Pulls old room (Err failed) new = (old.fail_call ≡ Some old.calls)
       failing = true;
     })
 
--- a sink over memory: what it took, how much it holds at most, how much a put takes at most, the
--- number of the put or flush that fails, how many of both were made and have failed, whether the
--- last one did, and whether the last that did not was a flush
+-- a sink in memory: the bytes that it took, its limit, the most bytes that a put takes, the number
+-- of the put or flush that fails, how many of both were made and have failed, whether the last one
+-- did, and whether the last that did not was a flush
 pub record Holding : Type 0 where
   pub held : List ℕ
   pub room : ℕ
@@ -127,6 +127,7 @@ Puts old from (Err failed) new = ((old.fail_call ≡ Some old.calls)
       failing = true;
     })
 
+-- a flush; it fails by plan
 abbrev pub Flushes : Holding → Result (Unit {0}) Failed → Holding → Type 0
 Flushes old (Ok done) new = (old.fail_call ≢ Some old.calls)
     × (new ≡ record old { calls = one_more old.calls; failing = false; flushed = true })
