@@ -1,4 +1,4 @@
-//! The rule when a header that wasn't complete is tried again.
+//! The rule by which a header that wasn't complete is tried again.
 
 ghost use Rattle.std.specs.Prelude.{◌≡◌, ◌≢◌, ℕ, ◌+◌, ◌<◌, ◌≤◌, ◌↔◌, IsTrue, true, false, length};
 ghost use Rattle.age_stanza.specs.declared.header.Header.{Header};

@@ -40,9 +40,9 @@ fn can_take(decoder: &Decoder, piece: &[u8], room: usize) -> bool
     (held + piece.len()) / BLOCK_LEN * CHUNK_LEN <= room
 }
 
-/// Takes all of a piece of the payload, unless a result other than 0 comes before its end, and
-/// copies the plaintext of the blocks that it fills to `out`, which has room for them. Before that
-/// result, bytes were still taken and written. A misused call changes nothing.
+/// Takes all of a piece of the payload, and copies the plaintext of the blocks that it fills to
+/// `out`, which has room for them. Returns 0, or the number of a fault that came before the end of
+/// the piece; the bytes before it were still taken and written. A misused call changes nothing.
 #[unsafe(no_mangle)]
 pub extern "C" fn age_c_decode_piece(
     decoder: &mut Decoder,

@@ -23,10 +23,10 @@ fn chunk_for(place: u64, size: u64) -> u64
     (place.saturating_sub(1) / CHUNK).min(size.saturating_sub(1) / BLOCK)
 }
 
-/// Seeks to byte `place` of the plaintext, in a file of `file_len` bytes. The next byte of
-/// plaintext is that one, or there is none if the plaintext ends before it. The next byte of the
-/// file must be the one at `offset`. Forgets the bytes given before, a fault and an end. Give 2^64
-/// - 1 for a length that isn't known; then a place beyond the end may be refused.
+/// Seeks to byte `place` of the plaintext, in a file of `file_len` bytes, and sets `offset` to the
+/// place in the file from which to give bytes next. The next byte of plaintext is then that one, or
+/// there is none if the plaintext ends before it. Forgets the bytes given before, a fault and an
+/// end. Give 2^64 - 1 for a length that isn't known; then a place beyond the end may be refused.
 #[unsafe(no_mangle)]
 pub extern "C" fn age_c_decode_seek(
     decoder: &mut Decoder,

@@ -8,7 +8,7 @@ use crate::stream::Stream;
 #[repr(C)]
 #[derive(Drop)]
 pub struct Decoder {
-    /// The payload, once the header is open.
+    /// The stream of the payload, once the header is open.
     pub stream: Stream,
     /// The number of bytes that have come of a header that isn't open.
     pub held: usize,

@@ -19,7 +19,9 @@ fn forget(stream: &mut WriteStream)
     stream.writer.state = 0;
 }
 
-/// Begins a file under a passphrase, as [`seal_passphrase`] does, with an empty stream. Forgets
+/// Begins a file under a passphrase of 1 to 65,536 bytes, with a work factor of 1 to 22, in a
+/// stream. Writes the header and the payload nonce to `out`, which has room for 256 bytes or more.
+/// `random` is 48 new random bytes: the file key, the stanza's salt and the payload nonce. Forgets
 /// what the stream had, in any case.
 #[unsafe(no_mangle)]
 pub extern "C" fn age_c_encode_passphrase(
@@ -39,8 +41,11 @@ pub extern "C" fn age_c_encode_passphrase(
     seal_passphrase(alloc, pass, work, random, out, written, &mut stream.writer)
 }
 
-/// Begins a file whose key the caller has wrapped, as [`seal_key`] does, with an empty stream.
-/// Forgets what the stream had, in any case.
+/// Begins a file whose file key the caller has wrapped, in a stream. Writes the header and the
+/// payload nonce to `out`, which has room for 256 bytes more than `stanzas` has, or more. `stanzas`
+/// has the lines of the header between the first and the last, and `random` 32 new random bytes:
+/// the file key and the payload nonce. Refuses lines that no header can have with 3, and a scrypt
+/// stanza beside another with 9. Forgets what the stream had, in any case.
 #[unsafe(no_mangle)]
 pub extern "C" fn age_c_encode_key(
     alloc: Global,

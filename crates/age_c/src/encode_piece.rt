@@ -38,9 +38,9 @@ fn can_take_piece(stream: &WriteStream, piece: &[u8], room: usize) -> bool
     (stream.held as usize + piece.len()).saturating_sub(1) / CHUNK_LEN * BLOCK_LEN <= room
 }
 
-/// Takes all of a piece of the plaintext, unless a result other than 0 comes before its end, and
-/// copies the blocks of the chunks that it fills to `out`, which has room for them. Before that
-/// result, bytes were still taken and written. A misused call changes nothing.
+/// Takes all of a piece of the plaintext, and copies the blocks of the chunks that it fills to
+/// `out`, which has room for them. Returns 0, or the number of a fault that came before the end of
+/// the piece; the bytes before it were still taken and written. A misused call changes nothing.
 #[unsafe(no_mangle)]
 pub extern "C" fn age_c_encode_piece(
     stream: &mut WriteStream,

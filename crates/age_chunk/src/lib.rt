@@ -2,7 +2,7 @@
 //! seals and opens it, and the faults that a payload has.
 //!
 //! A [`ChunkBox`] seals a plaintext into a block, which is longer by a tag, and opens it;
-//! `age_keys` has the one of age files, and [`ClearBox`] is one that hides nothing, for examples.
+//! `age_keys` has the one of age files, and [`ClearBox`] is one that doesn't encrypt, for examples.
 //! The lengths of the format and the definitions of a plaintext's chunks and of its payload are in
 //! this crate too.
 #![tactic(auto)]

@@ -18,7 +18,7 @@ pub enum KeyFault {
     WorkTooHigh = 11,
     /// No stanza has the type that the key is for.
     NoMatch = 12,
-    /// The body of no stanza opens.
+    /// No stanza has a body that opens with the key.
     WrongKey = 13,
     /// The header's MAC wasn't made under the file key.
     MacMismatch = 14,

@@ -91,8 +91,8 @@ impl Intake {
         self.from = self.to;
     }
 
-    /// Skips bytes of the source, if the buffer is empty, and returns their number. They count as
-    /// the fewest pulls that could have given them.
+    /// Skips at most `most` bytes of the source, and returns the number skipped. They count as the
+    /// fewest pulls that could have given them. The buffer must be empty.
     pub fn skip<S: Source>(&mut self, source: &mut S, most: u64) -> u64
         requires { self.old.bytes ≡ [] }
         ensures bound { result ≤ most }
@@ -108,8 +108,8 @@ impl Intake {
         n
     }
 
-    /// Fills the buffer, if it is empty, by one pull. Returns `false` at the end of input. Fails if
-    /// the pull fails, or after 2^63 pulls.
+    /// Fills the buffer, which must be empty, by one pull. Returns `false` at the end of input.
+    /// Fails if the pull fails, or after 2^63 pulls.
     pub fn refill<S: Source>(&mut self, source: &mut S) -> Result<bool, FileFault>
         requires { self.old.bytes ≡ [] }
         ensures refills { Refills (reader_view (S.view source.old) self.old)

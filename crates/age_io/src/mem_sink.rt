@@ -45,7 +45,7 @@ impl Model for MemSink {
 impl MemSink {
     /// Makes an empty sink that holds at most `room` bytes, which are reserved now, and takes at
     /// most `step` bytes a put. `step` must be 1 or more. Puts and flushes are counted together
-    /// from 0, and call `fail_call` fails; later calls go on.
+    /// from 0, and call `fail_call` fails; later calls work again.
     pub fn new(
         alloc: Global,
         room: usize,

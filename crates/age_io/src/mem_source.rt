@@ -42,7 +42,7 @@ impl Model for MemSource {
 
 impl MemSource {
     /// Makes a source of these bytes, which gives at most `step` bytes a pull. `step` must be 1 or
-    /// more. Pull `fail_call`, counted from 0, fails; later pulls go on.
+    /// more. Pull `fail_call`, counted from 0, fails; later pulls work again.
     pub fn new(bytes: Vec<u8>, step: usize, fail_call: Option<u64>) -> MemSource
         requires { 0 < step }
         ensures { result ≡ record {

@@ -36,7 +36,8 @@ pub struct Stopped {
     pub written: u128,
     /// The position at which a reader may continue: after the full chunks before the last that were
     /// written. `None` if positions are dropped, if the payload nonce wasn't read yet, or if the
-    /// earlier output of a resumed decryption wasn't found to match its position.
+    /// earlier output of a resumed decryption wasn't found to match its position. A stop in the
+    /// blocks that a resumed decryption skips always has the position that it began from.
     pub position: Option<Position>,
 }
 

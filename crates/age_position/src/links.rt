@@ -21,7 +21,7 @@ const DISTANCES: usize = 48;
 pub struct Mark {
     /// The number of chunks before the mark.
     pub index: u64,
-    /// The hash chain over these chunks.
+    /// The hash chain over the chunks before the mark.
     pub chain: [u8; 32],
 }
 

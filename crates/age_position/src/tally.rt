@@ -21,7 +21,7 @@ pub struct Tally {
     /// The number of full chunks, from the start of the plaintext, that come before the last one
     /// and were written.
     pub index: u64,
-    /// The hash chain over these chunks, if positions are kept.
+    /// The hash chain over the full chunks that were written, if positions are kept.
     pub chain: Option<Links>,
     ghost within: { index < chunk_limit },
     ghost few: { ForSome chain (λ links. length links ≤ index) },

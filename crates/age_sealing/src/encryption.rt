@@ -62,9 +62,10 @@ impl Model for Front {
 }
 
 impl Front {
-    /// Runs scrypt and makes the header. Fails only with [`FileFault::Memory`] (28): the
-    /// passphrase's table takes `1,024 * 2^n` bytes for work factor n. [`encrypt_after`] doesn't
-    /// need the secret any more.
+    /// Makes the beginning of an age file for a secret: runs scrypt, and writes the header and the
+    /// payload nonce to memory. Fails only with [`FileFault::Memory`] (28): the passphrase's table
+    /// takes `1,024 * 2^n` bytes for work factor n. [`encrypt_after`] doesn't need the secret any
+    /// more.
     pub fn of(alloc: Global, secret: &Secret<'_>) -> Result<Front, FileFault>
         ensures front { IfOk result (IsFrontOf secret.now) }
         ensures memory { IfErr result (λ fault. fault ≡ Memory) }

@@ -59,7 +59,7 @@ impl Argument {
         }
     }
 
-    /// Returns the number of bytes.
+    /// Returns the length of the argument in bytes.
     pub fn len(&self) -> usize
         ensures { result ≡ length self.now }
     {
