@@ -18,8 +18,8 @@ one_time_key key nonce = ciphertext key nonce 0 (replicate 32 0)
 unfoldable pub padding : List ℕ → List ℕ
 padding m = replicate ((16 - length m % 16) % 16) 0
 
--- the data that the tag is over (RFC 8439, 2.8): both texts, each filled up with zeros, then both
--- lengths, each as 8 bytes
+-- mac_data (RFC 8439, 2.8): aad | pad16(aad) | ciphertext | pad16(ciphertext) | both lengths, each
+-- as 8 bytes, the lowest first
 unfoldable pub mac_data : List ℕ → List ℕ → List ℕ
 mac_data aad cipher = concat (
     aad ∷ padding aad ∷ cipher ∷ padding cipher

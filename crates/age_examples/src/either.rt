@@ -10,8 +10,8 @@ use age_stanza::Header;
 use std::alloc::Global;
 
 /// Two unlockers for one file, such as a new passphrase and the one before it: the first that finds
-/// a key counts. If neither does, the second's fault is reported, or the first's if the second only
-/// looked at the header.
+/// a key counts. If neither does, the second's fault is reported, or the first's if the second's
+/// was found from the header alone.
 #[derive(Drop)]
 pub struct Either<A: Unlock, B: Unlock> {
     /// The unlocker that is tried first.

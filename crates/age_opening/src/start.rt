@@ -85,7 +85,7 @@ fn skip_some<S: Source>(reader: &mut Reader<'_, S>, most: u128) -> u128
     n + u128::from(reader.intake.skip(reader.source, more))
 }
 
-/// Skips this many blocks without opening them, and without reading them as far as the source can
+/// Skips `blocks` blocks without opening them, and without reading them as far as the source can
 /// skip.
 pub(crate) fn skip_blocks<S: Source>(
     reader: &mut Reader<'_, S>,

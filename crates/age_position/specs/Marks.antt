@@ -22,7 +22,7 @@ pub record IsPair (chunks : List (List ℕ)) (p : Pair) : Type 0 where
   pub recent : length chunks < p.last.index + p.distance
   pub apart : (p.before.index + p.distance ≡ p.last.index) ⊎ ((p.last.index ≡ 0) × (p.before.index ≡ 0))
 
--- these are pairs, whose distances are the powers of two
+-- the pairs are pairs of marks, and their distances are the powers of two
 abbrev pub ArePairs : List (List ℕ) → List Pair → Type 0
 ArePairs chunks pairs = (k : ℕ) (d : Pair) → k < length pairs
     → IsPair chunks (slice_index_or pairs k d) × ((slice_index_or pairs k d).distance ≡ 2 ^ k)

@@ -57,8 +57,8 @@ pub fn delivery_rows(alloc: Global) -> bool {
     sealing_rows(alloc) && damage_rows(alloc) && is_refused(alloc) && at_the_greatest_number()
 }
 
-/// Returns whether a drill of hostile bytes is right: of a payload cut at every byte, with its
-/// blocks in other orders, started again at every chunk, and with each of its bits inverted.
+/// Returns whether a drill of hostile bytes is right: of a payload truncated at every byte, with
+/// its blocks in other orders, started again at every chunk, and with each of its bits inverted.
 /// Returns `false` also if memory runs out.
 pub fn hostile_rows(alloc: Global) -> bool {
     are_cuts_right(alloc) && are_rows_right(alloc) && are_bits_right(alloc)
@@ -228,12 +228,12 @@ fn at_the_greatest_number() -> bool {
             })
 }
 
-/// Tests the payload of ten bytes, cut after each number of its bytes.
+/// Tests the payload of ten bytes, truncated after each number of its bytes.
 fn are_cuts_right(alloc: Global) -> bool {
     (0..58).all(|cut| is_cut_right(alloc, cut))
 }
 
-/// Returns whether the payload of ten bytes, cut after `cut` bytes, gives the right result.
+/// Returns whether the payload of ten bytes, truncated after `cut` bytes, gives the right result.
 fn is_cut_right(alloc: Global, cut: usize) -> bool {
     let kind = match cut {
         36 | 56 => EMPTY,

@@ -61,10 +61,12 @@ const BODY_START: &[u8; 27] = b"age-encryption.org/v1\n-> x\n";
 /// A line of a body, of 48 zero bytes.
 const BODY_LINE: &[u8; 65] = b"AAAAAAAAAAAAAAAAAAAAAAAAAAAAAAAAAAAAAAAAAAAAAAAAAAAAAAAAAAAAAAAA\n";
 
-/// A last line of a body with which a header of full lines of a body exceeds the greatest length.
+/// A part of a line, with which a header of full lines of a body has the greatest length, and isn't
+/// complete.
 const HALF_LINE: &[u8; 34] = b"AAAAAAAAAAAAAAAAAAAAAAAAAAAAAAAAAA";
 
-/// A last line of a body with which a header of full lines of a body has the greatest length.
+/// A part of a line, with which a header of full lines of a body is a byte shorter than the
+/// greatest length.
 const SHORTER: &[u8; 33] = b"AAAAAAAAAAAAAAAAAAAAAAAAAAAAAAAAA";
 
 const ARMOR: &[u8; 35] = b"-----BEGIN AGE ENCRYPTED FILE-----\n";
@@ -207,7 +209,7 @@ fn line_rows(alloc: Global) -> bool
         && refuses(alloc, NO_STANZA, 6, 2)
 }
 
-/// Returns whether the smallest header, cut after each number of its bytes, is refused.
+/// Returns whether the smallest header, truncated after each number of its bytes, is refused.
 fn cut_rows(alloc: Global) -> bool {
     (0..76).all(|len| {
         let line = match len {
