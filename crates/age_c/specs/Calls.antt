@@ -1,4 +1,4 @@
--- What an answer of the C library means: by its number, and by what it says of a file's size.
+-- The results of the C library's calls: their numbers, and what they say of a file's size.
 use Rattle.std.specs.Prelude.{ℕ, ◌==◌, ◌&&◌, nat_le, Option, Some, None, if◌then◌else◌, ◌≡◌, ◌≢◌, ◌≤◌, List}
 use Rattle.std.specs.Prelude.{length, take, drop, ◌+◌, ◌%◌}
 use Rattle.age_chunk.specs.{tag_length, stream_fault_number, block_length}
@@ -9,16 +9,17 @@ use Rattle.age_stream.specs.{IsTextLength, chunks_for}
 use Rattle.age_stream.specs.declared.step.Status.{Status}
 use Rattle.age_stream.specs.declared.step.Status.TheVariants.{Open, LastSeen, Done, Failed}
 
--- ---- The numbers that stand for a status, and what calls answer.
+-- ---- The numbers that stand for a status, and the results of calls.
 
--- the bytes end inside the header or the nonce
+-- the result of a call whose bytes end inside the header or the nonce
 abbrev pub more : ℕ
 more = 254
 
--- the call was misused
+-- the result of a misused call
 abbrev pub misused : ℕ
 misused = 255
 
+-- the status after a fault of this kind at this chunk
 abbrev pub failed_at : StreamKind → ℕ → Option Status
 failed_at kind chunk = Some (Failed (record { kind = kind; chunk = chunk }))
 
@@ -36,27 +37,27 @@ reader_status state chunk =
     else if state == 22 then failed_at TooManyChunks chunk
     else None
 
--- what is answered at this state: the number of its fault, or 0
+-- the result at this state of a reader: the number of its fault, or 0
 abbrev pub answer_of : ℕ → ℕ
 answer_of state = if nat_le 17 state && nat_le state 22 then state else 0
 
--- ---- Which number a call answers with, what it says of the call, and what a file's length says of
+-- ---- The number that a call returns, what it says of the call, and what a file's length says of
 -- its plaintext.
 
 -- this many bytes or places were put at the front of a slice, which was `before`, and is `after`
 pub record PutsFront {Item : Type 0} (count : ℕ) (before after : List Item) : Type 0 where
   -- they fit
   pub most : count ≤ length after
-  -- what is after them is unchanged
+  -- the items after them are unchanged
   pub rest : drop count after ≡ drop count before
 
--- what the answer of a call means that was given a reader or writer, which was `old` and is `new`,
--- and a slice for its output, whose bytes were `before` and are `after`. `Fits` says that the call
--- isn't misused, and `Does` what a call does that isn't: by its answer, by the bytes that it wrote,
--- and by the reader or writer that it leaves
+-- the result of a call that was given a reader or writer, which was `old` and is `new`, and a slice
+-- for its output, whose bytes were `before` and are `after`. `Fits` says that the call isn't
+-- misused, and `Does` what a call does that isn't: by its result, by the bytes that it wrote, and
+-- by the reader or writer that it leaves
 pub record Answers {State : Type 0} (Fits : Type 0) (Does : ℕ → List ℕ → State → Type 0)
     (old new : State) (answer written : ℕ) (before after : List ℕ) : Type 0 where
-  -- a call that fits isn't answered with 255
+  -- a call that fits doesn't return 255
   pub fits : Fits → answer ≢ misused
   -- every other call is
   pub meant : answer ≢ misused → Fits
@@ -66,20 +67,20 @@ pub record Answers {State : Type 0} (Fits : Type 0) (Does : ℕ → List ℕ →
   pub taken : answer ≢ misused → Does answer (take written after) new
   -- after any answer but 0, no byte was written
   pub nothing : answer ≢ 0 → written ≡ 0
-  -- what was written is at the front of the slice, and no other byte of it was changed
+  -- the bytes written are at the front of the slice, and no other byte of it was changed
   pub put : PutsFront written before after
 
--- ---- What the length of a file says of its plaintext.
+-- ---- The length of a file, and what it says of its plaintext.
 
--- how a payload of this many bytes ends, if no plaintext has one: with no block, with a tag alone,
--- or with a part of a tag
+-- the fault of a payload of this many bytes, if no plaintext has one: it ends with no block, with a
+-- tag alone, or with a part of a tag
 abbrev pub ends_as : ℕ → StreamKind
 ends_as size =
     if size % block_length == 0 then Truncated
     else if size % block_length == tag_length then EmptyLast
     else ChunkCut
 
--- what the answer says of a payload's size
+-- the result of a call that measures a payload
 pub record Measures (size answer text_len last_chunk : ℕ) : Type 0 where
   -- 0 says that the plaintexts with a payload of this size have that length, and which chunk is
   -- their last

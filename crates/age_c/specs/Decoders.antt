@@ -36,7 +36,7 @@ pub record Waits (d : Decoder) (front : List ℕ) : Type 0 where
   pub within : d.held ≤ length front
   pub none : HasNoFront (held_front d front)
 
--- ---- What a call does that gives it a header.
+-- ---- A call that gives a decoder a header.
 
 -- the call isn't misused: no header was opened or refused, and there is room for a byte more
 pub record IsHeadCall (d : Decoder) (front : List ℕ) : Type 0 where
@@ -44,8 +44,8 @@ pub record IsHeadCall (d : Decoder) (front : List ℕ) : Type 0 where
   pub unrefused : d.fault ≡ 0
   pub room : d.held < length front
 
--- it waits for more: bytes are held from the front of the piece, all of them unless there is no more
--- room
+-- the decoder waits for more: bytes are kept from the front of the piece, all of them unless there
+-- is no more room
 pub record HoldsHead (piece : List ℕ) (old : Decoder) (front : List ℕ) (taken : ℕ) (new : Decoder)
     (after : List ℕ) : Type 0 where
   pub most : taken ≤ length piece
@@ -75,7 +75,7 @@ pub record RefusesHead (Allows : Header → List ℕ → Type 0) (Refused : Head
   pub fault : new.fault ≡ answer
   pub shut : new.open ≡ 0
 
--- what a call promises that gives a header. `Allowed` says that the key is one that can be used
+-- the promise of a call that gives a header. `Allowed` says that the key is one that can be used
 pub record TakesHead (Allowed : Type 0) (Allows : Header → List ℕ → Type 0)
     (Refused : Header → KeyFault → Type 0) (piece : List ℕ) (ended : Bool) (old new : Decoder)
     (front after : List ℕ) (answer taken : ℕ) : Type 0 where
@@ -93,7 +93,7 @@ pub record TakesHead (Allowed : Type 0) (Allows : Header → List ℕ → Type 0
   pub fits : Allowed → IsHeadCall old front → HasNoFront (held_front old front) → answer ≢ misused
   pub meant : answer ≢ misused → Allowed × IsHeadCall old front
 
--- ---- What a call does that gives it a payload.
+-- ---- A call that gives a decoder a payload.
 
 -- the stream did this, and released a plaintext, of which what comes before the place that was sought
 -- was left out
@@ -108,8 +108,8 @@ pub record Decodes (Does : ℕ → List ℕ → Stream → Type 0) (old new : De
   pub still : new.open ≡ old.open
   pub unrefused : new.fault ≡ old.fault
 
--- the chunk that is to be read first for a place of the plaintext: the plaintext may end at the place,
--- or before it, in a file of this length
+-- the number of the chunk that is to be read first for a place of the plaintext, which may end at
+-- the place, or before it, in a file of this length
 abbrev pub chunk_for : Decoder → ℕ → ℕ → ℕ
 chunk_for d place file_len = min ((place - 1) / chunk_length)
     ((file_len - d.stream.reader.payload_at - 1) / block_length)
@@ -120,12 +120,12 @@ pub record SeeksTo (place file_len : ℕ) (old : Decoder) (offset : ℕ) (new : 
   pub within : chunk_for old place file_len < chunk_limit
   pub empty : new.stream.held ≡ 0
   pub place_is : chunk_for old place file_len * chunk_length + new.skip ≡ place
-  -- where the block of that chunk is in the file
+  -- the offset is where the block of that chunk is in the file
   pub offset_is : offset
       ≡ old.stream.reader.payload_at + chunk_for old place file_len * block_length
   pub is_open : new.open ≡ 1
 
--- ---- What any calls do since the header was opened or a place was last sought.
+-- ---- Any calls since the header was opened, or since the last seek.
 
 -- a call that gave a payload, with the plaintext that its block or end released, and what it wrote of
 -- that
@@ -133,12 +133,16 @@ pub record DecodeCall : Type 0 where
   pub call : Call Decoder
   pub wrote : List ℕ
 
+-- the reader of a decoder
 abbrev pub reader_in : Decoder → Reader
 reader_in d = d.stream.reader
 
+-- a decoder whose stream was given this segment
 abbrev pub DecoderIsAt : Decoder → Segment → Type 0
 DecoderIsAt d s = StreamIsAt d.stream s
 
+-- a call on the decoder that gave a payload: it wrote what it released, without the bytes before
+-- the place that was sought
 pub record IsDecodeCall (old : Decoder) (c : DecodeCall) : Type 0 where
   pub is_call : IsCall reader_in DecoderIsAt old c.call
   pub wrote_is : c.wrote ≡ drop old.skip c.call.text
@@ -149,21 +153,22 @@ abbrev pub AreDecodeCalls : Decoder → List DecodeCall → Type 0
 AreDecodeCalls d [] = Unit {0}
 AreDecodeCalls d (c ∷ calls) = IsDecodeCall d c × AreDecodeCalls c.call.after calls
 
+-- the calls on the decoder's stream
 abbrev pub calls_in : List DecodeCall → List (Call Decoder)
 calls_in calls = map (λ (c : DecodeCall). c.call) calls
 
--- what they wrote, one after the other
+-- the bytes that calls wrote, one after the other
 abbrev pub wrote_all : List DecodeCall → List ℕ
 wrote_all calls = flat_map (λ (c : DecodeCall). c.wrote) calls
 
--- what a caller may rely on, whatever the calls are, if no block that they gave opens except as the
--- writer of the plaintext sealed it
+-- the promise to a caller of any calls, if no block that they gave opens except as the writer of
+-- the plaintext sealed it
 pub record IsDecodedRight (d : Decoder) (text : List ℕ) (start place : ℕ) (calls : List DecodeCall)
     : Type 0 where
-  -- what was written is a prefix of the plaintext from the place on
+  -- the bytes that were written are a prefix of the plaintext from the place on
   pub prefix : AreCallsAuthentic reader_in (reader_in d) text start (calls_in calls)
       → IsPrefixOf (wrote_all calls) (drop place text)
-  -- if the last call is an end that answered 0, it is all of that
+  -- the bytes are all of that if the last call is an end that returned 0
   pub done : AreCallsAuthentic reader_in (reader_in d) text start (calls_in calls)
       → (before : List DecodeCall) (last : DecodeCall) → calls ≡ before ++ last ∷ []
       → last.call.is_end ≡ true → last.call.answer ≡ 0 → wrote_all calls ≡ drop place text
@@ -189,8 +194,8 @@ decode_call is_end bytes answer text wrote after = record {
   wrote = wrote;
 }
 
--- what `decode` and `age_c_decode_end` promise makes each of them a call on the decoder, also
--- one that is misused
+-- each use of `decode` and `age_c_decode_end` is, by its contract, a call on the decoder, also one
+-- that is misused
 abbrev pub AnswersAreDecodeCalls : Type 0
 AnswersAreDecodeCalls = (old new : Decoder) (piece before after : List ℕ) (answer taken written : ℕ)
     → ((it : Decodes (λ answer text new. FeedsStream piece old.stream answer taken text new) old new answer
@@ -201,32 +206,34 @@ AnswersAreDecodeCalls = (old new : Decoder) (piece before after : List ℕ) (ans
     × ((is_end : Bool) (bytes : List ℕ) → answer ≡ misused → new ≡ old → written ≡ 0
     → IsDecodeCall old (decode_call is_end bytes answer [] (take written after) new))
 
--- ---- What opens a header.
+-- ---- The keys that open a header.
 
+-- a key of a decoder: a passphrase with its greatest work factor, a file key, or a shared secret
+-- with the recipient
 pub data DecoderKey : Type 0 where
   passphrase : List ℕ → ℕ → DecoderKey
   file_key : List ℕ → DecoderKey
   shared : List ℕ → List ℕ → DecoderKey
 
--- it can be used
+-- the key can be used
 abbrev pub Allowed : DecoderKey → Type 0
 Allowed (passphrase pass work) = IsAllowed pass work
 Allowed (file_key key) = length key ≡ 16
 Allowed (shared secret recipient) = (length secret ≡ 32) × (length recipient ≡ 32)
 
--- the header gives it this key of the file
+-- the header opens to this file key by the key of a decoder
 abbrev pub Allows : DecoderKey → Header → List ℕ → Type 0
 Allows (passphrase pass work) = IsPassphraseKey (record { pass = pass; max_log = work })
 Allows (file_key key) = λ _ k. k ≡ key
 Allows (shared secret recipient) = IsSharedKey (record { secret = secret; recipient = recipient })
 
--- the header gives it none, and why
+-- the header is refused with this fault by the key of a decoder
 abbrev pub Refuses : DecoderKey → Header → KeyFault → Type 0
 Refuses (passphrase pass work) = PassphraseRefuses (record { pass = pass; max_log = work })
 Refuses (file_key key) = λ _ _. ⊥
 Refuses (shared secret recipient) = SharedRefuses (record { secret = secret; recipient = recipient })
 
--- ---- What any calls do since the decoder was begun.
+-- ---- Any calls since the decoder was begun.
 
 -- a call that gave a header: the memory and the piece that it was given, whether the file ended there,
 -- what it answered and how much it took, and the decoder and the memory after it
@@ -239,12 +246,12 @@ pub record HeadCall : Type 0 where
   pub after : Decoder
   pub front_after : List ℕ
 
--- the bytes that it took
+-- the bytes that a call took
 abbrev pub taken_by : HeadCall → List ℕ
 taken_by c = take c.count c.piece
 
 module _ (Fits : Type 0) (Gives : Header → List ℕ → Type 0) (Refused : Header → KeyFault → Type 0) where
-  -- it did what `age_c_decode_head_..` promises for a key
+  -- the call did what `age_c_decode_head_..` promises for a key
   abbrev pub IsHeadCallOn : Decoder → HeadCall → Type 0
   IsHeadCallOn d c =
       TakesHead Fits Gives Refused c.piece c.ended d c.after c.front c.front_after c.answer c.count
@@ -256,10 +263,12 @@ module _ (Fits : Type 0) (Gives : Header → List ℕ → Type 0) (Refused : Hea
   AreHeadCalls d held (c ∷ calls) = (held_front d c.front ≡ held) × IsHeadCallOn d c
       × AreHeadCalls c.after (held_front c.after c.front_after) calls
 
+-- the decoder after calls that gave a header
 abbrev pub decoder_after : Decoder → List HeadCall → Decoder
 decoder_after d [] = d
 decoder_after d (c ∷ calls) = decoder_after c.after calls
 
+-- the bytes that calls took, one after the other
 abbrev pub taken_all : List HeadCall → List ℕ
 taken_all calls = flat_map taken_by calls
 
@@ -283,7 +292,8 @@ DecodersAreRight = (key : DecoderKey) (d : Decoder) → ((front : List ℕ) → 
     → chunk_count chunk_length text ≤ chunk_limit
     → IsDecodedRight (decoder_after d heads) text 0 0 calls)
 
--- the same for a caller who seeks, since the last time
+-- the headline for a caller who seeks: what any calls since the last seek wrote is a prefix of the
+-- plaintext from that place on, and all of it if the last is an end that returned 0
 abbrev pub SoughtIsRight : Type 0
 SoughtIsRight = (place file_len : ℕ) (old : Decoder) (offset : ℕ) (new : Decoder)
     → SeeksTo place file_len old offset new
@@ -299,8 +309,8 @@ AreOfFile file given [] = Unit {0}
 AreOfFile file given (c ∷ calls) = (c.ended ≡ false)
     × ((rest : List ℕ) × (given ++ (c.piece ++ rest) ≡ file)) × AreOfFile file (given ++ taken_by c) calls
 
--- what a decoder is after it was given bytes of an age file: it waits for more of the header, or ran
--- out of memory, or is open with the file's keys, and was given the header and the nonce
+-- a decoder after it was given bytes of an age file: it waits for more of the header, or ran out of
+-- memory, or is open with the file's keys, and was given the header and the nonce
 pub data OpensFile (front key nonce given : List ℕ) (d : Decoder) : Type 0 where
   waits : d.open ≡ 0 → d.fault ≡ 0 → length given < length (front ++ nonce)
       → OpensFile front key nonce given d
@@ -318,7 +328,7 @@ DecodersOpenFiles = (key : DecoderKey) (header : Header) (file_key nonce text fi
     → AreHeadCalls (Allowed key) (Allows key) (Refuses key) d [] heads → AreOfFile file [] heads
     → OpensFile it.front file_key nonce (taken_all heads) (decoder_after d heads)
 
--- such a decoder, once it is open, given the payload in any pieces and then its end, gives the
+-- a decoder that opened an age file, given the payload in any pieces and then its end, gives the
 -- plaintext, and 0 each time; unless a full last block opens as one before the last too
 abbrev pub DecodersReadBack : Type 0
 DecodersReadBack = (key : DecoderKey) (header : Header) (file_key nonce text file : List ℕ)
@@ -339,6 +349,7 @@ DecodersReadBack = (key : DecoderKey) (header : Header) (file_key nonce text fil
 
 -- ---- A piece that is taken whole.
 
+-- the decoder after calls that gave a payload
 abbrev pub decoder_last : Decoder → List DecodeCall → Decoder
 decoder_last d [] = d
 decoder_last d (c ∷ calls) = decoder_last c.call.after calls

@@ -1,4 +1,5 @@
--- An encoder is a stream that writes: how it begins a file, whatever it was used for before.
+-- Encoders, which are streams that write: the beginning of a file, whatever the stream was used for
+-- before.
 use Rattle.std.specs.Prelude.{◌≡◌, ◌≢◌, ◌≤◌, ℕ, List, ◌++◌, take, drop, true}
 use Rattle.age_chunk.specs.{chunk_length}
 use Rattle.age_c.specs.Calls.{misused, PutsFront}
@@ -10,14 +11,14 @@ use Rattle.age_c.specs.Streams.{TextCall, AreTextCalls, IsTextCallOn, stream_aft
 use Rattle.age_c.specs.declared.write_stream.WriteStream.{WriteStream}
 use Rattle.age_c.specs.declared.writer.Writer.{Writer}
 
--- what a call promises that begins a file: `Fits` says that it isn't misused, `Does` what it writes
--- and leaves, and `Why` what another answer says. It names nothing of the stream before
+-- the promise of a call that begins a file: `Fits` says that it isn't misused, `Does` what it
+-- writes and leaves, and `Why` what another result says. It names nothing of the stream before
 pub record Begins (Fits : Type 0) (Does : List ℕ → Writer → Type 0) (Why : ℕ → Type 0)
     (new : WriteStream) (answer written : ℕ) (before after : List ℕ) : Type 0 where
   pub fits : Fits → answer ≢ misused
   pub meant : answer ≢ misused → Fits
   pub begun : answer ≡ 0 → Does (take written after) new.writer
-  -- nothing is held of another file
+  -- the stream has no bytes of another file
   pub empty : new.held ≡ 0
   -- after a refusal no call writes anything of the file before
   pub shut : answer ≢ 0 → ¬ CanSeal new.writer
@@ -25,7 +26,7 @@ pub record Begins (Fits : Type 0) (Does : List ℕ → Writer → Type 0) (Why :
   pub nothing : answer ≢ 0 → written ≡ 0
   pub put : PutsFront written before after
 
--- ---- What an encoder writes.
+-- ---- The file that an encoder writes.
 
 -- a call that began a file and answered 0, any calls after it, and then an end that answered 0: what
 -- all of them wrote is the age file of the plaintext that was taken, whatever the stream was before

@@ -1,4 +1,4 @@
--- What is told of the header that bytes begin with, before it is opened.
+-- The report on the header that bytes begin with, before it is opened.
 use Rattle.std.specs.Prelude.{◌≡◌, ◌≢◌, ℕ, ◌≤◌, ◌<◌, ◌⊎◌, List, [], ◌∷◌, ◌++◌, length, take, drop, min, ◌+◌}
 use Rattle.std.specs.List.{flat_map}
 use Rattle.age_stanza.specs.{stanzas_text}
@@ -23,7 +23,7 @@ pub record IsWork (header : Header) (work : ℕ) : Type 0 where
   pub some : work ≢ 0 → (only : OnlyScrypt header) × (work ≡ min only.log 4294967295)
   pub none : work ≡ 0 → ¬ OnlyScrypt header
 
--- what an answer tells of a header: its length, how many stanzas it has, and its work factor
+-- the result of a report on a header: its length, its number of stanzas, and its work factor
 pub record TellsHeader (front : List ℕ) (answer header_len stanzas work : ℕ) : Type 0 where
   pub told : answer ≡ 0 → (header : Header) × HasHead front header header_len
       × (stanzas ≡ length header.stanzas) × IsWork header work
@@ -67,8 +67,8 @@ pub record HasStanzas (front : List ℕ) (header : Header) (places : List Stanza
       (take it.body_len (drop it.body_at bodies))
       × (it.body_at + it.body_len ≤ length bodies)
 
--- what an answer tells of a header's stanzas. `most` is the room for their places, and `room` that
--- for the bytes of their bodies
+-- the result of a report on a header's stanzas. `most` is the room for their places, and `room`
+-- that for the bytes of their bodies
 pub record TellsStanzas (front : List ℕ) (most room answer : ℕ) (places : List StanzaPlace)
     (bodies : List ℕ) : Type 0 where
   pub told : answer ≡ 0 → (header : Header) × (len : ℕ) × HasHead front header len

@@ -36,9 +36,9 @@ opening_part chunk begun is_end block answer written after new = record {
   calls = call_of is_end block answer written after new ∷ [];
 }
 
--- what `age_c_open_at` promises (`Answers`, with the same arguments as in its contract) makes each
--- use of it that isn't misused a seek and a call of a block, or of the end: so the law about lists
--- of these holds of it
+-- each use of `age_c_open_at` that isn't misused is, by its contract (`Answers`, with the same
+-- arguments), a seek and a call of a block, or of the end: so the law about lists of these holds of
+-- it
 abbrev pub OpeningsAreParts : Type 0
 OpeningsAreParts = (old new : Reader) (chunk : ℕ) (block before after : List ℕ) (answer written : ℕ)
     → Answers (IsOpenAtCall old chunk block before) (OpensAt chunk block old) old new answer written
@@ -49,12 +49,13 @@ OpeningsAreParts = (old new : Reader) (chunk : ℕ) (block before after : List �
     × (length block ≢ block_length
     → AreParts old (opening_part chunk begun true block answer written after new ∷ []))
 
--- ---- What came undamaged at its place.
+-- ---- The chunks that came undamaged at their places.
 
--- the chunk of this number of a plaintext, and the block that its writer sealed it as
+-- the chunk of this number of a plaintext
 abbrev pub chunk_of : List ℕ → ℕ → List ℕ
 chunk_of text chunk = slice_index_or (chunks chunk_length text) chunk []
 
+-- the block that the writer of a plaintext sealed its chunk of this number as
 abbrev pub sealed_block : Reader → List ℕ → ℕ → List ℕ
 sealed_block r text chunk =
     (slice_index_or (sealed (box r.file_key r.nonce) chunk_length text) chunk ([], [])).1

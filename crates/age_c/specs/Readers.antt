@@ -18,9 +18,9 @@ use Rattle.age_c.specs.declared.reader.Reader.{Reader}
 use Rattle.age_c.specs.declared.start.StartFault.{StartFault}
 use Rattle.age_c.specs.declared.start.StartFault.TheVariants.{More, Head, Key}
 
--- ---- What a reader's numbers stand for.
+-- ---- The segment and status that a reader's numbers stand for.
 
--- what a segment gives under the reader's keys
+-- the outcome of a segment under the reader's keys
 abbrev pub reader_outcome : Reader → Segment → Outcome
 reader_outcome r s = outcome (unbox r.file_key r.nonce) chunk_length s
 
@@ -47,7 +47,7 @@ pub record CanBeUsed (r : Reader) : Type 0 where
   pub status : IsSome (reader_status r.state r.fault_chunk)
   pub chunk : r.chunk < chunk_limit
 
--- ---- How a file is begun: its header is opened, and the payload's nonce is read.
+-- ---- The beginning of a file: its header is opened, and the payload nonce is read.
 
 -- the bytes begin with a header's text of that length
 pub record HasHead (front : List ℕ) (header : Header) (len : ℕ) : Type 0 where
@@ -104,17 +104,18 @@ abbrev pub IsStartRefusal : (Header → List ℕ → Type 0) → (Header → Key
 IsStartRefusal Allows Refused front answer = (fault : StartFault) × (answer ≡ start_fault_number fault)
     × StartRefuses Allows Refused front fault
 
--- ---- What one call does to a reader.
+-- ---- One call on a reader.
 
--- the segment after a block, and after the end
+-- the segment after a block
 abbrev pub after_block : List ℕ → Segment → Segment
 after_block block s = with_piece s block
 
+-- the segment after the last bytes and the end
 abbrev pub after_end : List ℕ → Segment → Segment
 after_end rest s = with_end (with_piece s rest)
 
--- of a reader, or of what has one, that was given any segment: it is then one of what comes after it,
--- and the call wrote what that released more; the answer is its fault, or 0, and with a fault nothing
+-- a call moved a reader, or what has one, from any segment that it was given to what comes after
+-- it, and wrote what that released more; the result is its fault, or 0, and with a fault nothing
 -- was written
 pub record Moves {State : Type 0} (reader : State → Reader) (Is : State → Segment → Type 0)
     (after : Segment → Segment) (old : State) (answer : ℕ) (text : List ℕ) (new : State) : Type 0 where
@@ -125,6 +126,7 @@ pub record Moves {State : Type 0} (reader : State → Reader) (Is : State → Se
   pub answer_is : answer ≡ answer_of (reader new).state
   pub nothing : answer ≢ 0 → text ≡ []
 
+-- a reader took a block, or what stands for one
 abbrev pub TakesBlock : (Segment → Segment) → Reader → ℕ → List ℕ → Reader → Type 0
 TakesBlock = Moves (λ r. r) IsAt
 
@@ -141,7 +143,7 @@ pub record GoesTo (chunk : ℕ) (old new : Reader) : Type 0 where
   pub unrefused : new.fault_chunk ≡ 0
   pub same : SameFile old new
 
--- ---- What a list of calls does.
+-- ---- A list of calls.
 
 -- a call: whether it is an end, the bytes that it took, what it answered and wrote, and the reader,
 -- or what has one, after it
@@ -170,18 +172,18 @@ module _ {State : Type 0} (reader : State → Reader) (Is : State → Segment �
   AreCalls old [] = Unit {0}
   AreCalls old (c ∷ calls) = IsCall old c × AreCalls c.after calls
 
--- the reader after them
+-- the reader after calls
 abbrev pub last_reader : Reader → List (Call Reader) → Reader
 last_reader r [] = r
 last_reader r (c ∷ calls) = last_reader c.after calls
 
--- the segment that they gave: a call that was misused gave nothing
+-- the segment that calls gave: a call that was misused gave nothing
 abbrev pub segment_from : {State : Type 0} → Segment → List (Call State) → Segment
 segment_from s [] = s
 segment_from s (c ∷ calls) =
     segment_from (if c.answer == misused then s else after_call c s) calls
 
--- the plaintexts that they wrote, one after the other
+-- the plaintexts that calls wrote, one after the other
 abbrev pub texts_of : {State : Type 0} → List (Call State) → List ℕ
 texts_of calls = flat_map (λ c. c.text) calls
 
@@ -196,9 +198,9 @@ call_of is_end bytes answer written out after = record {
   after = after;
 }
 
--- ---- What any calls gave to one reader, and what they answered.
+-- ---- The segment that any calls gave to one reader, and their results.
 
--- what calls gave to a reader that was at this chunk and was given nothing before
+-- the segment that calls gave to a reader that was at this chunk and was given nothing before
 abbrev pub given_by : {State : Type 0} → ℕ → List (Call State) → Segment
 given_by start calls = segment_from (fresh start) calls
 
@@ -206,7 +208,7 @@ given_by start calls = segment_from (fresh start) calls
 abbrev pub AllAnswer : {State : Type 0} → ℕ → List (Call State) → Type 0
 AllAnswer answer calls = AllByRecursion (λ c. c.answer ≢ misused → c.answer ≡ answer) calls
 
--- ---- What a caller may rely on.
+-- ---- The promise to a caller.
 
 -- calls on the reader, or on what has it, since it was at this chunk
 module _ {State : Type 0} (reader : State → Reader) (r : Reader) (text : List ℕ) (start : ℕ) where
@@ -230,12 +232,12 @@ module _ {State : Type 0} (reader : State → Reader) (r : Reader) (text : List 
     late = false;
   }
 
-  -- what a caller may rely on, whatever the calls are
+  -- the promise to a caller of any calls
   pub record IsTextRight (calls : List (Call State)) : Type 0 where
-    -- what was written is a prefix of the plaintext from that chunk on
+    -- the bytes that were written are a prefix of the plaintext from that chunk on
     pub prefix : AreCallsAuthentic calls → IsPrefixOf (texts_of calls) text_there
-    -- if the last call is an end that answered 0, it is all of that, and the chunk begins within
-    -- the plaintext: so then the length of the plaintext is known
+    -- the bytes are all of that if the last call is an end that returned 0, and the chunk begins
+    -- within the plaintext: so then the length of the plaintext is known
     pub done : AreCallsAuthentic calls → (before : List (Call State)) (last : Call State)
         → calls ≡ before ++ last ∷ [] → last.is_end ≡ true → last.answer ≡ 0
         → (texts_of calls ≡ text_there) × (start * chunk_length ≤ length text)
@@ -253,8 +255,8 @@ module _ {State : Type 0} (reader : State → Reader) (r : Reader) (text : List 
 
 -- ---- The headline for a caller.
 
--- a caller may rely on all of this after any calls on a reader that is at a chunk and was given
--- nothing, as one that was just begun is at chunk 0, for every plaintext of at most 2^48 chunks
+-- the promise holds after any calls on a reader that is at a chunk and was given nothing, as one
+-- that was just begun is at chunk 0, for every plaintext of at most 2^48 chunks
 abbrev pub CallsAreWritten : Type 0
 CallsAreWritten = (r : Reader) (start : ℕ) → IsAt r (fresh start) → start < chunk_limit
     → (calls : List (Call Reader)) → AreCalls (λ r. r) IsAt r calls → (text : List ℕ)

@@ -16,7 +16,7 @@ use Rattle.age_c.specs.declared.write_stream.WriteStream.{WriteStream}
 
 -- ---- A stream that reads: what its numbers and bytes stand for, and what one call does to it.
 
--- ---- What a stream's numbers and bytes stand for.
+-- ---- The segment that a stream's numbers and bytes stand for.
 
 -- the bytes of the block that is open
 abbrev pub held_block : Stream → List ℕ
@@ -31,9 +31,9 @@ pub record StreamIsAt (s : Stream) (segment : Segment) : Type 0 where
   pub is_open : 0 < s.held → (reader_outcome s.reader blocks).status ≡ Open
   pub given : segment ≡ with_piece blocks (held_block s)
 
--- ---- What one call does to a stream.
+-- ---- One call on a stream.
 
--- as of a reader: the stream is then one of the next segment
+-- a call moved a stream from any segment that it was given to the next one
 abbrev pub StreamMoves : (Segment → Segment) → Stream → ℕ → List ℕ → Stream → Type 0
 StreamMoves = Moves (λ s. s.reader) StreamIsAt
 
@@ -46,7 +46,7 @@ pub record FeedsStream (piece : List ℕ) (old : Stream) (answer taken : ℕ) (t
   pub some : 0 < length piece → 0 < taken
   pub all : taken < length piece → new.held ≡ 0
 
--- how much room the plaintext of the blocks needs that a piece fills
+-- the room that the plaintext of the blocks needs that a piece fills
 abbrev pub room_to_feed : ℕ → List ℕ → ℕ
 room_to_feed held piece = (held + length piece) / block_length * chunk_length
 
@@ -62,7 +62,7 @@ pub record IsFinishCall (s : Stream) (out : List ℕ) : Type 0 where
   pub short : s.held < block_length
   pub room : s.held ≤ length out + tag_length
 
--- ---- What any calls on a stream that writes do.
+-- ---- Any calls on a stream that writes.
 
 -- a call: whether it is an end, the plaintext that it took, what it answered and wrote, and the
 -- stream after it
@@ -92,10 +92,11 @@ abbrev pub stream_after : WriteStream → List TextCall → WriteStream
 stream_after s [] = s
 stream_after s (c ∷ calls) = stream_after c.after calls
 
--- the plaintext that they took, and the bytes that they wrote
+-- the plaintext that calls took, one after the other
 abbrev pub text_taken : List TextCall → List ℕ
 text_taken calls = flat_map (λ (c : TextCall). c.text) calls
 
+-- the bytes that calls wrote, one after the other
 abbrev pub bytes_written : List TextCall → List ℕ
 bytes_written calls = flat_map (λ (c : TextCall). c.bytes) calls
 
@@ -109,7 +110,7 @@ text_call_of is_end text answer written out after = record {
   after = after;
 }
 
--- what `feed_text` and `age_c_finish_text` promise makes each of them a call on the stream
+-- each use of `feed_text` and `age_c_finish_text` is, by its contract, a call on the stream
 abbrev pub AnswersAreTextCalls : Type 0
 AnswersAreTextCalls = (old new : WriteStream) (piece before after : List ℕ) (answer taken written : ℕ)
     → (Answers (IsTextCall old piece before) (WritesOrRefuses (FeedsText piece taken old)

@@ -46,11 +46,11 @@ pub record IsWrapCall (secret share recipient key out : List ℕ) : Type 0 where
   pub key_length : length key ≡ 16
   pub room : 98 ≤ length out
 
--- why no stanza is made: memory runs out, or the secret is zero
+-- the reason why no stanza is made: memory runs out, or the secret is zero
 abbrev pub RefusesWrap : List ℕ → ℕ → Type 0
 RefusesWrap secret answer = (answer ≡ 28) ⊎ ((answer ≡ 15) × (secret ≡ replicate 32 0))
 
--- ---- Which keys open what an encoder writes.
+-- ---- The keys that open what an encoder writes.
 
 -- a decoder's key finds the file key in the header of a file that was encoded by the same key, and
 -- nothing else: a passphrase whose most work is that of the file or more; the file key, in any

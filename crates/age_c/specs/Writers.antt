@@ -11,7 +11,7 @@ use Rattle.age_keys.specs.{box, IsMacOf, IsScryptNotAlone, IsAllowed, scrypt_hea
 use Rattle.age_c.specs.declared.writer.Writer.{Writer}
 use Rattle.age_c.specs.declared.write_stream.WriteStream.{WriteStream}
 
--- ---- What a writer's numbers stand for.
+-- ---- The state that a writer's numbers stand for.
 
 -- the numbers stand for a writer that isn't finished, at a chunk that a payload may have
 pub record CanSeal (w : Writer) : Type 0 where
@@ -34,19 +34,21 @@ pub record SameKeys (was now : Writer) : Type 0 where
   pub file_key : now.file_key ≡ was.file_key
   pub nonce : now.nonce ≡ was.nonce
 
--- ---- How a file is begun.
+-- ---- The beginning of a file.
 
--- the random bytes that a file is made of: the file key, the stanza's salt and the payload's nonce
+-- the file key in the random bytes of a file for a passphrase
 abbrev pub key_in : List ℕ → List ℕ
 key_in random = take 16 random
 
+-- the stanza's salt in the random bytes of a file for a passphrase
 abbrev pub salt_in : List ℕ → List ℕ
 salt_in random = take 16 (drop 16 random)
 
+-- the payload nonce in the random bytes of a file for a passphrase
 abbrev pub nonce_in : List ℕ → List ℕ
 nonce_in random = take 16 (drop 32 random)
 
--- the bytes are what stands before the payload: the header's text and the payload's nonce
+-- the bytes are the header's text and the payload nonce, which come before the payload
 pub record IsFileFront (header : Header) (nonce bytes : List ℕ) : Type 0 where
   pub front : List ℕ
   pub head : HeadText header front
@@ -87,8 +89,8 @@ BeginsFileWith lines random bytes w = (header : Header) × HasLines lines header
     × (¬ IsScryptNotAlone header)
     × IsBegun header (take 16 random) (drop 16 random) bytes w
 
--- why no file is begun: memory runs out, a scrypt stanza stands beside another, or no header can
--- have the lines
+-- the reason why no file is begun: memory runs out, a scrypt stanza stands beside another, or no
+-- header can have the lines
 abbrev pub RefusesLines : List ℕ → ℕ → Type 0
 RefusesLines lines answer = (answer ≡ 28)
     ⊎ ((answer ≡ 9) × (header : Header) × HasLines lines header × IsScryptNotAlone header)
@@ -99,9 +101,9 @@ pub record IsKeyCall (lines random out : List ℕ) : Type 0 where
   pub bytes : length random ≡ 32
   pub room : length lines + 256 ≤ length out
 
--- ---- What one call does to a writer.
+-- ---- One call on a writer.
 
--- what a call does that isn't misused: it writes its part of the file, or refuses
+-- the result of a call that isn't misused: it writes its part of the file, or refuses
 pub record WritesOrRefuses {State : Type 0} (Writes : List ℕ → State → Type 0)
     (Refuses : ℕ → Type 0) (old : State) (answer : ℕ) (bytes : List ℕ) (new : State)
     : Type 0 where
@@ -112,7 +114,7 @@ pub record WritesOrRefuses {State : Type 0} (Writes : List ℕ → State → Typ
   -- after a refusal the writer or stream is unchanged
   pub same : answer ≢ 0 → new ≡ old
 
--- ---- What a stream's numbers and bytes stand for.
+-- ---- The plaintext that a stream's numbers and bytes stand for.
 
 -- the bytes of the chunk that is open
 abbrev pub held_chunk : WriteStream → List ℕ
@@ -127,7 +129,7 @@ pub record HasTaken (s : WriteStream) (text : List ℕ) : Type 0 where
   pub given : text ≡ chunks ++ held_chunk s
   pub some : s.held ≡ 0 → s.writer.chunk ≡ 0
 
--- ---- What one call does to a stream.
+-- ---- One call on a stream.
 
 -- a stream of any plaintext was given this much more, and the call wrote the blocks of the chunks
 -- that this made full and no longer the last
@@ -147,7 +149,7 @@ pub record FeedsText (piece : List ℕ) (taken : ℕ) (old : WriteStream) (bytes
   pub some : 0 < length piece → 0 < taken
   pub all : taken < length piece → new.held ≡ chunk_length
 
--- how much room the blocks need of the chunks that a piece makes full and no longer the last
+-- the room that the blocks need of the chunks that a piece makes full and no longer the last
 abbrev pub room_to_write : ℕ → List ℕ → ℕ
 room_to_write held piece = (held + length piece - 1) / chunk_length * block_length
 
@@ -159,8 +161,8 @@ pub record RefusesText (piece : List ℕ) (old : WriteStream) (answer : ℕ) : T
   pub limit : old.writer.chunk + 1 ≡ chunk_limit
   pub more : 0 < length piece
 
--- what is held was sealed as the last chunk: with the blocks before it the bytes are the payload of
--- the complete plaintext
+-- the rest of the plaintext was sealed as the last chunk: with the blocks before it the bytes are
+-- the payload of the complete plaintext
 pub record FinishesText (old : WriteStream) (bytes : List ℕ) (new : WriteStream) : Type 0 where
   pub payload_is : (text : List ℕ) → HasTaken old text
       → payload (box old.writer.file_key old.writer.nonce) chunk_length text

@@ -1,4 +1,4 @@
-//! When a header is worth another try.
+//! The rule by which a header that wasn't complete is tried again.
 
 ghost use Rattle.std.specs.Prelude.{◌≡◌, ◌≢◌, ℕ, ◌+◌, ◌<◌, ◌≤◌, ◌↔◌, IsTrue, true, false, length};
 ghost use Rattle.age_stanza.specs.declared.header.Header.{Header};
@@ -8,19 +8,19 @@ ghost use Rattle.age_c.specs.inner.Tries.{EndsAt, IsWorthATry, marks_in};
 use crate::MORE;
 use age_stanza::HEAD_MAX;
 
-/// What the end line of a header begins with, after the line before it.
+/// The beginning of a header's end line, after the line before it.
 const END_MARK: &[u8; 5] = b"\n--- ";
 
-/// How many bytes the end line has, with the LF of the line before it and its own.
+/// The length of the end line in bytes, with the LF of the line before it and its own.
 const END_LEN: usize = 49;
 
-/// How many bytes the payload's nonce has.
+/// The length of the payload nonce in bytes.
 const NONCE_LEN: usize = 16;
 
-/// How many bytes a header and its nonce have at most.
+/// The greatest length of a header and its nonce in bytes.
 const FRONT_MAX: usize = HEAD_MAX + NONCE_LEN;
 
-/// Whether a header may end with the line after this place, and a nonce stands after it.
+/// Returns whether a header can end with the line after `at`, with a nonce behind it.
 fn ends_at(front: &[u8], at: usize) -> bool
     requires { at ≤ length front.now }
     ensures { IsTrue result ↔ EndsAt front.now at }
@@ -29,7 +29,8 @@ fn ends_at(front: &[u8], at: usize) -> bool
     rest.len() >= END_LEN + NONCE_LEN && rest.starts_with(END_MARK) && rest[END_LEN - 1] == b'\n'
 }
 
-/// Whether a header may end so after this place or one after it.
+/// Returns whether a header can end, with a nonce behind it, with the line after `from` or after a
+/// later byte.
 fn ends_from(front: &[u8], from: usize) -> bool
     ensures found { result ≡ true → (at : ℕ) × (from ≤ at) × EndsAt front.now at }
     ensures none { result ≡ false → (at : ℕ) → from ≤ at → ¬ EndsAt front.now at }
@@ -42,7 +43,7 @@ fn ends_from(front: &[u8], from: usize) -> bool
     false
 }
 
-/// Whether a header and its nonce may end so after the first `seen` bytes.
+/// Returns whether a header and its nonce can end after the first `seen` bytes.
 fn ends_after(front: &[u8], seen: usize) -> bool
     ensures found { result ≡ true → (at : ℕ) × (seen < at + 65) × EndsAt front.now at }
     ensures none { result ≡ false → (at : ℕ) → seen < at + 65 → ¬ EndsAt front.now at }
@@ -52,8 +53,9 @@ fn ends_after(front: &[u8], seen: usize) -> bool
     ends_from(front, seen.saturating_sub(END_LEN + NONCE_LEN - 1))
 }
 
-/// How many of the lengths are reached at which a header is tried in any case, so that a faulty one
-/// is refused before its end. They are few, so all tries together take linear time.
+/// Returns how many retry thresholds `len` has passed. At each of them a header is tried even if it
+/// looks incomplete, so that a faulty one is refused early. They are few, so all tries together
+/// take linear time.
 fn marks_in(len: usize) -> u32
     ensures { result ≡ marks_in len }
 {
@@ -72,10 +74,10 @@ fn marks_in(len: usize) -> u32
     }
 }
 
-/// Whether it is worth a try to open the header that `front` begins with, after its
-/// first `seen` bytes weren't enough: 0 if so, else [`MORE`]. It is worth a try as soon as the header and the nonce are complete, and only a
-/// few times before. So all calls for one header together take time linear in its length, however
-/// small its pieces are.
+/// Returns 0 if the header that `front` begins with should be tried again, after its first `seen`
+/// bytes weren't enough, or else [`MORE`]. It is tried as soon as the header and the nonce look
+/// complete, and only a few times before. So all calls for one header together take time linear in
+/// its length, however small its pieces are.
 pub(crate) fn may_open(front: &[u8], seen: usize) -> u32
     ensures begun { (header : Header) (len : ℕ) → HasFront front.now header len
         → seen < len + 16 → result ≡ 0 }

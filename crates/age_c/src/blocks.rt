@@ -1,4 +1,4 @@
-//! Opens the blocks of a payload.
+//! The opening of a payload's blocks.
 
 ghost use Rattle.std.specs.Prelude.{◌≡◌, ◌≢◌, ◌+◌, ◌<◌, ◌≤◌, [], length, min, take, drop, IfSome, IfNone};
 ghost use Rattle.std.specs.Prelude.{Some, false};
@@ -15,10 +15,10 @@ use age_chunk::{BLOCK_LEN, CHUNK_LIMIT};
 use age_keys::{FileKey, PayloadKey, payload_key};
 use age_stream::{Opener, Status};
 
-/// What opens the blocks of a payload.
+/// The opener of an age file's payload.
 type PayloadOpener<'a> = Opener<'a, PayloadKey, BLOCK_LEN>;
 
-/// The status of a reader, if it is at a chunk that a payload may have.
+/// Returns the status of a reader, or `None` if its numbers aren't those of any reader.
 pub(crate) fn status_at(reader: &Reader) -> Option<Status>
     ensures status { IfSome result
         (λ status. reader_status reader.now.state reader.now.fault_chunk ≡ Some status) }
@@ -31,14 +31,14 @@ pub(crate) fn status_at(reader: &Reader) -> Option<Status>
     status_of(reader.state, reader.fault_chunk)
 }
 
-/// The payload key of a reader.
+/// Derives the payload key of a reader.
 fn key_of(reader: &Reader) -> PayloadKey
     ensures { result ≡ key_of_reader reader.now }
 {
     payload_key(&FileKey::new(reader.file_key), &reader.nonce)
 }
 
-/// Copies bytes to the beginning of `out`, and returns how many.
+/// Copies bytes to the beginning of `out`, and returns their number.
 pub(crate) fn put(bytes: &[u8], out: &mut [u8]) -> usize
     requires { length bytes.now ≤ length out.old }
     ensures bytes { take result out.new ≡ bytes.now }
@@ -50,7 +50,7 @@ pub(crate) fn put(bytes: &[u8], out: &mut [u8]) -> usize
     bytes.len()
 }
 
-/// Puts a plaintext, if one is lent, at the front of `out`.
+/// Copies a plaintext, if one is lent, to the beginning of `out`, and returns its length.
 fn put_chunk(chunk: Option<&[u8]>, out: &mut [u8]) -> usize
     requires { length (chunk_bytes chunk) ≤ length out.old }
     ensures text { take result out.new ≡ chunk_bytes chunk.entry }
@@ -64,7 +64,7 @@ fn put_chunk(chunk: Option<&[u8]>, out: &mut [u8]) -> usize
     }
 }
 
-/// Keeps where an opener stands.
+/// Stores the state of an opener in the reader.
 fn keep(reader: &mut Reader, index: u64, status: Status)
     ensures { Keeps index status reader.old reader.new }
 {
@@ -74,7 +74,7 @@ fn keep(reader: &mut Reader, index: u64, status: Status)
     reader.fault_chunk = fault_chunk;
 }
 
-/// Feeds a full block, and returns how many bytes of plaintext it put into `out`.
+/// Feeds a full block, and copies its plaintext to `out`. Returns the number of bytes copied.
 fn feed_block(opener: &mut PayloadOpener<'_>, block: &[u8], out: &mut [u8]) -> usize
     requires held { opener.old.held ≡ [] }
     requires block { length block.now ≡ block_length }
@@ -90,7 +90,8 @@ fn feed_block(opener: &mut PayloadOpener<'_>, block: &[u8], out: &mut [u8]) -> u
     }
 }
 
-/// Feeds what is left before the end, which is shorter than a block, so that no plaintext comes.
+/// Feeds the bytes after the last full block, which are fewer than a block, so that no plaintext
+/// comes.
 fn feed_rest(opener: &mut PayloadOpener<'_>, rest: &[u8])
     requires held { opener.old.held ≡ [] }
     requires rest { length rest.now < block_length }
@@ -104,7 +105,7 @@ fn feed_rest(opener: &mut PayloadOpener<'_>, rest: &[u8])
     }
 }
 
-/// Ends, and returns how many bytes of plaintext it put into `out`.
+/// Ends the opener, and copies the last plaintext to `out`. Returns the number of bytes copied.
 fn end_opener(opener: &mut PayloadOpener<'_>, out: &mut [u8]) -> usize
     requires room { has_failed opener.old.status ≡ false
         → length opener.old.held ≤ length out.old + tag_length }
@@ -119,8 +120,8 @@ fn end_opener(opener: &mut PayloadOpener<'_>, out: &mut [u8]) -> usize
     }
 }
 
-/// Gives a byte of a piece, if it has one, to a reader that is open to no more, and returns how
-/// many it gave.
+/// Feeds one byte of the piece to a reader that takes no more, which then fails. Returns the number
+/// of bytes fed: 1, or 0 if the piece is empty.
 // not inlined: together with another opener, its buffer would double what a call takes of the stack
 #[inline(never)]
 pub(crate) fn refuse_more(reader: &mut Reader, status: Status, piece: &[u8]) -> usize
@@ -140,7 +141,7 @@ pub(crate) fn refuse_more(reader: &mut Reader, status: Status, piece: &[u8]) -> 
     count
 }
 
-/// Opens a full block, and returns how many bytes of plaintext it put into `out`.
+/// Opens a full block, and copies its plaintext to `out`. Returns the number of bytes copied.
 pub(crate) fn open_block(reader: &mut Reader, status: Status, block: &[u8], out: &mut [u8]) -> usize
     requires call { IsBlockCall reader.old block.now out.old }
     requires status { reader_status reader.old.state reader.old.fault_chunk ≡ Some status }
@@ -157,8 +158,8 @@ pub(crate) fn open_block(reader: &mut Reader, status: Status, block: &[u8], out:
     written
 }
 
-/// Opens what is left before the end, which is shorter than a block, and returns how many bytes of
-/// plaintext it put into `out`.
+/// Opens the bytes after the last full block, at the end of the payload, and copies the plaintext
+/// to `out`. Returns the number of bytes copied.
 pub(crate) fn open_last(reader: &mut Reader, status: Status, rest: &[u8], out: &mut [u8]) -> usize
     requires call { IsRestCall reader.old rest.now out.old }
     requires status { reader_status reader.old.state reader.old.fault_chunk ≡ Some status }

@@ -1,4 +1,4 @@
-//! Gives a decoder the payload of a file.
+//! The decoding of a file's payload.
 
 ghost use Rattle.std.specs.Prelude.{◌≡◌, ◌≢◌, ◌-◌, ◌≤◌, length, take, drop};
 ghost use Rattle.age_c.specs.{misused, FeedsStream, FinishesStream, IsFinishCall, Decodes};
@@ -8,8 +8,8 @@ use crate::MISUSED;
 use crate::decoder::Decoder;
 use crate::feed::{feed_stream, finish_stream};
 
-/// Leaves out the first `skip` of the `count` bytes at the front of `out`, and returns how many are
-/// left there.
+/// Removes the first `skip` of the `count` bytes at the front of `out`, and returns the number
+/// left.
 fn pass_over(skip: usize, out: &mut [u8], count: usize) -> usize
     requires { count ≤ length out.old }
     ensures text { take result out.new ≡ drop skip (take count out.old) }
@@ -28,9 +28,9 @@ fn pass_over(skip: usize, out: &mut [u8], count: usize) -> usize
 }
 
 /// Takes bytes of the payload from the front of `piece`, up to the end of the block that is open,
-/// and puts the plaintext of a block that is full into `out`, from the place that was sought on;
-/// there is room for 65,536 bytes or more if one is. The answer is 0 or the number of a fault, 17 to 22, with
-/// which the decoder refuses each further call that gives it bytes or an end.
+/// and copies the plaintext of a block that is full to `out`, from the place of a seek on. `out`
+/// has room for 65,536 bytes or more if a block becomes full. Returns 0 or the number of a fault,
+/// 17 to 22, with which the decoder refuses each further call that gives it bytes or an end.
 pub(crate) fn decode(
     decoder: &mut Decoder,
     piece: &[u8],
@@ -64,9 +64,8 @@ pub(crate) fn decode(
     answer
 }
 
-/// The file ended: what is left of its plaintext, from the place that was sought on, is put into
-/// `out`, which has room for it. The plaintext is complete only if the answer is
-/// 0.
+/// Ends the file, and copies the rest of its plaintext, from the place of a seek on, to `out`,
+/// which has room for it. The plaintext is complete only if the result is 0.
 #[unsafe(no_mangle)]
 pub extern "C" fn age_c_decode_end(
     decoder: &mut Decoder,

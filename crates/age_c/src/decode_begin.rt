@@ -1,11 +1,11 @@
-//! The function by which C begins a file that is decoded.
+//! The C function that begins a file that is decoded.
 
 ghost use Rattle.std.specs.Prelude.{◌≡◌, [], List, ℕ, replicate};
 ghost use Rattle.age_c.specs.{Waits, held_front};
 
 use crate::decoder::Decoder;
 
-/// Begins a file: what came before, of this file or another, is forgotten.
+/// Begins a file. Forgets all that came before, of this file or another.
 #[unsafe(no_mangle)]
 pub extern "C" fn age_c_decode_begin(decoder: &mut Decoder)
     ensures waits { (front : List ℕ) → Waits decoder.new front }

@@ -1,4 +1,4 @@
-//! The functions by which C gives a decoder the header of a file.
+//! The decoding of a file's header.
 
 ghost use Rattle.std.specs.Prelude.{◌≡◌, ◌≢◌, ◌↔◌, ◌+◌, ◌≤◌, ◌<◌, IsTrue, true, length, take};
 ghost use Rattle.std.specs.Prelude.{IfOk, IfErr, IfSome, IfNone};
@@ -14,7 +14,7 @@ use crate::{MISUSED, MORE};
 use age_keys::{KnownKey, Passphrase, SharedSecret, Steps, Unlock};
 use std::alloc::Global;
 
-/// Whether a decoder waits for more of a header, with room for it.
+/// Returns whether a decoder waits for more of a header, with room for it.
 fn can_wait(decoder: &Decoder, room: usize) -> bool
     ensures { IsTrue result ↔ ((decoder.now.open ≡ 0) × (decoder.now.fault ≡ 0)
         × (decoder.now.held < room)) }
@@ -22,7 +22,8 @@ fn can_wait(decoder: &Decoder, room: usize) -> bool
     decoder.open == 0 && decoder.fault == 0 && decoder.held < room
 }
 
-/// Puts the bytes for which there is room after those that are held, and returns how many.
+/// Appends as many bytes of `piece` as fit to the `held` bytes of `front`, and returns their
+/// number.
 fn hold_front(front: &mut [u8], held: usize, piece: &[u8]) -> usize
     requires { held ≤ length front.old }
     ensures holds { HoldsFront piece.now held result front.old front.new }
@@ -33,8 +34,8 @@ fn hold_front(front: &mut [u8], held: usize, piece: &[u8]) -> usize
     count
 }
 
-/// Opens the header that the bytes begin with, if it is worth a try after the first `seen` of them
-/// weren't enough, or the file ended. It gives nothing as long as more of them are needed.
+/// Opens the header that `front` begins with, if the file ended or a retry is due after the first
+/// `seen` bytes weren't enough. Returns `None` while more bytes are needed.
 fn try_head<U: Unlock>(
     alloc: Global,
     unlock: &U,
@@ -68,7 +69,7 @@ fn try_head<U: Unlock>(
     }
 }
 
-/// Keeps a reader that was begun, of a payload of which nothing was given.
+/// Stores a reader of a payload of which no byte came yet.
 fn keep_opened(decoder: &mut Decoder, reader: Reader)
     ensures reader { decoder.new.stream.reader ≡ reader }
     ensures empty { decoder.new.stream.held ≡ 0 }
@@ -83,7 +84,8 @@ fn keep_opened(decoder: &mut Decoder, reader: Reader)
     decoder.open = 1;
 }
 
-/// Takes bytes of a header, or its end, and opens it once it is complete. It is refused for good.
+/// Takes bytes of a header, or the end of input, and opens the header once it is complete. A
+/// refusal is final.
 pub(crate) fn take_head<U: Unlock>(
     alloc: Global,
     unlock: &U,

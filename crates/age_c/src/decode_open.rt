@@ -1,4 +1,4 @@
-//! The functions by which C gives a decoder a header, with the key that opens it.
+//! The C functions that decode a header, with the key that opens it.
 
 ghost use Rattle.std.specs.Prelude.{◌≡◌, length};
 ghost use Rattle.age_keys.specs.{IsAllowed, IsPassphraseKey, PassphraseRefuses, IsSharedKey, SharedRefuses};
@@ -10,11 +10,11 @@ use crate::decoder::Decoder;
 use age_keys::{KnownKey, Passphrase, SharedSecret};
 use std::alloc::Global;
 
-/// Takes bytes of the file from the front of `piece`, up to the end of its header and the payload's
+/// Takes bytes of the file from the front of `piece`, up to the end of its header and the payload
 /// nonce, and opens the header by a passphrase of 1 to 65,536 bytes, if the work factor is at most
-/// `max_work`, 1 to 22. While it isn't open its bytes are held in `front`, which has room for one
-/// more than there are. With `ended` the file ends after the piece. An answer other than 0 is why
-/// the header is refused, for good.
+/// `max_work`, 1 to 22. Returns 0, or why the header is refused, for good. Until the header is
+/// open, `front` is the buffer of its bytes, and has room for at least one more. `ended` says that
+/// the file ends after the piece.
 #[unsafe(no_mangle)]
 pub extern "C" fn age_c_decode_head_passphrase(
     alloc: Global,
@@ -38,7 +38,8 @@ pub extern "C" fn age_c_decode_head_passphrase(
     take_head(alloc, &unlock, decoder, front, piece, ended, taken)
 }
 
-/// As [`age_c_decode_head_passphrase`], by the file's own key, 16 bytes.
+/// Takes bytes of the file and opens its header as [`age_c_decode_head_passphrase`] does, by the
+/// file key, of 16 bytes.
 #[unsafe(no_mangle)]
 pub extern "C" fn age_c_decode_head_key(
     alloc: Global,
@@ -67,8 +68,8 @@ pub extern "C" fn age_c_decode_head_key(
     )
 }
 
-/// As [`age_c_decode_head_passphrase`], by an X25519 shared secret and the recipient that it was
-/// computed for, 32 bytes each.
+/// Takes bytes of the file and opens its header as [`age_c_decode_head_passphrase`] does, by an
+/// X25519 shared secret and the recipient that it was computed for, of 32 bytes each.
 #[unsafe(no_mangle)]
 pub extern "C" fn age_c_decode_head_shared(
     alloc: Global,

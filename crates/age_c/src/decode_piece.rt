@@ -1,4 +1,4 @@
-//! The function by which C gives a decoder a whole piece of a payload.
+//! The C function that decodes a whole piece of a payload.
 
 ghost use Rattle.std.specs.Prelude.{◌≡◌, ◌≢◌, ◌<◌, ◌≤◌, ◌↔◌, IsTrue, length, take};
 ghost use Rattle.age_c.specs.{misused, DecodesMore, IsPieceCall};
@@ -11,8 +11,8 @@ use crate::decode::decode;
 use crate::decoder::Decoder;
 use age_chunk::{BLOCK_LEN, CHUNK_LEN};
 
-/// Takes bytes from the front of a piece by [`decode`]. Returns the answer, how many were
-/// taken, and how many bytes of plaintext were put into `out`.
+/// Takes bytes from the front of a piece by [`decode`]. Returns its result, the number of bytes
+/// taken, and the number of bytes of plaintext copied to `out`.
 fn take_some(decoder: &mut Decoder, piece: &[u8], out: &mut [u8]) -> (u32, usize, usize)
     ensures one { DecodesOne decoder.old decoder.new (take result.1 piece.now)
         (take result.2 out.new) }
@@ -29,7 +29,7 @@ fn take_some(decoder: &mut Decoder, piece: &[u8], out: &mut [u8]) -> (u32, usize
     (answer, taken, written)
 }
 
-/// Whether a decoder can take a piece, with this much room for its plaintext.
+/// Returns whether a decoder can take a piece, with `room` bytes for its plaintext.
 fn can_take(decoder: &Decoder, piece: &[u8], room: usize) -> bool
     ensures { IsTrue result ↔ IsPieceCall decoder.now piece.now room }
 {
@@ -40,9 +40,9 @@ fn can_take(decoder: &Decoder, piece: &[u8], room: usize) -> bool
     (held + piece.len()) / BLOCK_LEN * CHUNK_LEN <= room
 }
 
-/// Takes all of a piece of the payload, unless an answer other than 0 comes before its end, and puts
-/// the plaintext of the blocks that it fills into `out`, which has room for them. With that answer
-/// what came before it was still taken and written. A call that is misused changes nothing.
+/// Takes all of a piece of the payload, and copies the plaintext of the blocks that it fills to
+/// `out`, which has room for them. Returns 0, or the number of a fault that came before the end of
+/// the piece; the bytes before it were still taken and written. A misused call changes nothing.
 #[unsafe(no_mangle)]
 pub extern "C" fn age_c_decode_piece(
     decoder: &mut Decoder,

@@ -1,4 +1,4 @@
-//! The function by which C goes to any byte of a plaintext.
+//! The C function that seeks in a plaintext.
 
 ghost use Rattle.std.specs.Prelude.{◌≡◌, ◌≢◌, ◌-◌, ◌/◌, min};
 ghost use Rattle.age_chunk.specs.{block_length, chunk_length};
@@ -9,23 +9,24 @@ use crate::decoder::Decoder;
 use crate::seek::go_to;
 use age_chunk::{BLOCK_LEN, CHUNK_LEN};
 
-/// The lengths of a chunk and a block.
+/// The length of a chunk.
 const CHUNK: u64 = CHUNK_LEN as u64;
 
+/// The length of a block.
 const BLOCK: u64 = BLOCK_LEN as u64;
 
-/// The chunk to read first for a place of the plaintext, in a payload of `size` bytes: the one
-/// before the place, or the last if the payload ends before that.
+/// Returns the number of the chunk to read first for byte `place` of the plaintext, in a payload of
+/// `size` bytes: the one of the byte before it, or the last if the payload ends before that.
 fn chunk_for(place: u64, size: u64) -> u64
     ensures { result ≡ min ((place - 1) / chunk_length) ((size - 1) / block_length) }
 {
     (place.saturating_sub(1) / CHUNK).min(size.saturating_sub(1) / BLOCK)
 }
 
-/// Goes to a byte of the plaintext, by its number, in a file of `file_len` bytes: the next byte of
-/// plaintext is that one, or there is none if the plaintext ends before it. The next byte of the
-/// file has to be the one at `offset`. What was given before, a fault and an end are forgotten. If
-/// the length isn't known, it is 2^64 - 1, and then a place beyond the end may be refused.
+/// Seeks to byte `place` of the plaintext, in a file of `file_len` bytes, and sets `offset` to the
+/// place in the file from which to give bytes next. The next byte of plaintext is then that one, or
+/// there is none if the plaintext ends before it. Forgets the bytes given before, a fault and an
+/// end. Give 2^64 - 1 for a length that isn't known; then a place beyond the end may be refused.
 #[unsafe(no_mangle)]
 pub extern "C" fn age_c_decode_seek(
     decoder: &mut Decoder,

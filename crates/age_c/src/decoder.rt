@@ -1,20 +1,21 @@
-//! What is kept of a file that is decoded.
+//! The state of a file that is decoded.
 
 use crate::stream::Stream;
 
-/// A file that is given from its first byte on, in pieces of any length: plain numbers and the
-/// bytes of one block. It holds the file key. Only the calls of a decoder touch it.
+/// The state of a file that is decoded from its first byte on, in pieces of any length: plain
+/// numbers and the bytes of one block. It contains the file key. Only the calls of a decoder touch
+/// it.
 #[repr(C)]
 #[derive(Drop)]
 pub struct Decoder {
-    /// The payload, once the header is open.
+    /// The stream of the payload, once the header is open.
     pub stream: Stream,
-    /// How many bytes have come of a header that isn't open.
+    /// The number of bytes that have come of a header that isn't open.
     pub held: usize,
-    /// How many bytes of plaintext come before the place that was sought.
+    /// The number of bytes of plaintext before the place of a seek.
     pub skip: usize,
-    /// 1 once the header is open, else 0.
+    /// 1 once the header is open, or else 0.
     pub open: u32,
-    /// The number that the header was refused with, else 0.
+    /// The number of the fault for which the header was refused, or else 0.
     pub fault: u32,
 }

@@ -1,4 +1,4 @@
-//! The function by which C gives an encoder a whole piece of a plaintext.
+//! The C function that encodes a whole piece of a plaintext.
 
 ghost use Rattle.std.specs.Prelude.{◌≡◌, ◌≢◌, ◌<◌, ◌≤◌, ◌↔◌, IsTrue, length, take};
 ghost use Rattle.age_c.specs.{misused, EncodesMore, IsTextCall, IsTextPieceCall};
@@ -10,8 +10,8 @@ use crate::feed_text::{can_take, feed_text};
 use crate::write_stream::WriteStream;
 use age_chunk::{BLOCK_LEN, CHUNK_LEN};
 
-/// Takes bytes from the front of a piece by [`feed_text`]. Returns the answer, how many were
-/// taken, and how many bytes were put into `out`.
+/// Takes bytes from the front of a piece by [`feed_text`]. Returns its result, the number of bytes
+/// taken, and the number of bytes copied to `out`.
 fn take_some(stream: &mut WriteStream, piece: &[u8], out: &mut [u8]) -> (u32, usize, usize)
     ensures one { EncodesOne stream.old stream.new (take result.1 piece.now)
         (take result.2 out.new) }
@@ -28,7 +28,7 @@ fn take_some(stream: &mut WriteStream, piece: &[u8], out: &mut [u8]) -> (u32, us
     (answer, taken, written)
 }
 
-/// Whether an encoder can take a piece, with this much room for its blocks.
+/// Returns whether an encoder can take a piece, with `room` bytes for its blocks.
 fn can_take_piece(stream: &WriteStream, piece: &[u8], room: usize) -> bool
     ensures { IsTrue result ↔ IsTextPieceCall stream.now piece.now room }
 {
@@ -38,9 +38,9 @@ fn can_take_piece(stream: &WriteStream, piece: &[u8], room: usize) -> bool
     (stream.held as usize + piece.len()).saturating_sub(1) / CHUNK_LEN * BLOCK_LEN <= room
 }
 
-/// Takes all of a piece of the plaintext, unless an answer other than 0 comes before its end, and
-/// puts the blocks of the chunks that it fills into `out`, which has room for them. With that answer
-/// what came before it was still taken and written. A call that is misused changes nothing.
+/// Takes all of a piece of the plaintext, and copies the blocks of the chunks that it fills to
+/// `out`, which has room for them. Returns 0, or the number of a fault that came before the end of
+/// the piece; the bytes before it were still taken and written. A misused call changes nothing.
 #[unsafe(no_mangle)]
 pub extern "C" fn age_c_encode_piece(
     stream: &mut WriteStream,

@@ -1,4 +1,4 @@
-//! The functions by which C reads a payload in pieces of any length.
+//! The reading of a payload in pieces of any length.
 
 ghost use Rattle.std.specs.Prelude.{◌≡◌, ◌≢◌, ◌<◌, ◌≤◌, IfNone, IfSome, Some, length, take};
 ghost use Rattle.age_chunk.specs.{block_length};
@@ -14,8 +14,7 @@ use crate::stream::Stream;
 use age_chunk::{BLOCK_LEN, CHUNK_LEN, TAG_LEN};
 use age_stream::Status;
 
-/// Copies the bytes for which the open block has room, after those that are held, and returns how
-/// many.
+/// Appends as many bytes of `piece` as fit to the open block, and returns their number.
 fn hold(stream: &mut Stream, piece: &[u8]) -> usize
     requires { stream.old.held < block_length }
     ensures { HoldsPiece piece.now result stream.old stream.new }
@@ -26,8 +25,8 @@ fn hold(stream: &mut Stream, piece: &[u8]) -> usize
     count
 }
 
-/// Takes bytes of a block, and opens it if it is full. Returns how many bytes were taken, and how
-/// many bytes of plaintext were put into `out`.
+/// Appends bytes to the open block, and opens it if it is full. Returns the number of bytes taken,
+/// and the number of bytes of plaintext copied to `out`.
 fn feed_open(stream: &mut Stream, piece: &[u8], out: &mut [u8]) -> (usize, usize)
     requires call { IsStreamCall stream.old piece.now out.old }
     requires open { reader_status stream.old.reader.state stream.old.reader.fault_chunk
@@ -48,8 +47,8 @@ fn feed_open(stream: &mut Stream, piece: &[u8], out: &mut [u8]) -> (usize, usize
     (taken, written)
 }
 
-/// Opens the full block that a piece begins with, while nothing is held, without holding it.
-/// Returns its length, and how many bytes of plaintext were put into `out`.
+/// Opens the full block at the beginning of a piece in place, while the stream's buffer is empty.
+/// Returns its length, and the number of bytes of plaintext copied to `out`.
 fn feed_whole(stream: &mut Stream, piece: &[u8], out: &mut [u8]) -> (usize, usize)
     requires call { IsStreamCall stream.old piece.now out.old }
     requires open { reader_status stream.old.reader.state stream.old.reader.fault_chunk
@@ -66,7 +65,8 @@ fn feed_whole(stream: &mut Stream, piece: &[u8], out: &mut [u8]) -> (usize, usiz
     (BLOCK_LEN, written)
 }
 
-/// Takes bytes of a piece. Returns how many, and how many bytes of plaintext were put into `out`.
+/// Takes bytes of a piece, by the status of the reader. Returns the number taken, and the number of
+/// bytes of plaintext copied to `out`.
 fn feed(stream: &mut Stream, status: Status, piece: &[u8], out: &mut [u8]) -> (usize, usize)
     requires call { IsStreamCall stream.old piece.now out.old }
     requires status { reader_status stream.old.reader.state stream.old.reader.fault_chunk
@@ -88,7 +88,7 @@ fn feed(stream: &mut Stream, status: Status, piece: &[u8], out: &mut [u8]) -> (u
     }
 }
 
-/// Ends, and returns how many bytes of plaintext were put into `out`.
+/// Ends the payload, and returns the number of bytes of plaintext copied to `out`.
 fn finish(stream: &mut Stream, status: Status, out: &mut [u8]) -> usize
     requires call { IsFinishCall stream.old out.old }
     requires status { reader_status stream.old.reader.state stream.old.reader.fault_chunk
@@ -102,7 +102,7 @@ fn finish(stream: &mut Stream, status: Status, out: &mut [u8]) -> usize
     open_last(&mut stream.reader, status, &stream.block[..held], out)
 }
 
-/// The status of a stream that can be used.
+/// Returns the status of a stream, or `None` if its numbers aren't those of any stream.
 fn stream_status(stream: &Stream) -> Option<Status>
     ensures status { IfSome result (λ status.
         reader_status stream.now.reader.state stream.now.reader.fault_chunk ≡ Some status) }
@@ -118,8 +118,8 @@ fn stream_status(stream: &Stream) -> Option<Status>
 }
 
 /// Takes bytes of the payload from the front of `piece`, up to the end of the block that is open,
-/// and puts the plaintext of a block that is full into `out`, which has room for 65,536 bytes or
-/// more if one is. The answer is 0 or the number of a fault, 17 to 22, with which the reader refuses each
+/// and copies the plaintext of a block that is full to `out`, which has room for 65,536 bytes or
+/// more if one is. Returns 0 or the number of a fault, 17 to 22, with which the reader refuses each
 /// further call that gives it bytes or an end.
 pub(crate) fn feed_stream(
     stream: &mut Stream,
@@ -147,8 +147,8 @@ pub(crate) fn feed_stream(
     answer_of(stream.reader.state)
 }
 
-/// The payload ended: what is left of its plaintext is put into `out`, which has room for it: 65,536
-/// bytes always are enough. The plaintext is complete only if the answer is 0.
+/// Ends the payload, and copies the rest of its plaintext to `out`, which has room for it: 65,536
+/// bytes are always enough. The plaintext is complete only if the result is 0.
 pub(crate) fn finish_stream(stream: &mut Stream, out: &mut [u8], written: &mut usize) -> u32
     ensures { Answers (IsFinishCall stream.old out.old) (FinishesStream stream.old)
         stream.old stream.new result written.new out.old out.new }

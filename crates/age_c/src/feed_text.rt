@@ -1,4 +1,4 @@
-//! Writes a file in pieces of any length.
+//! The writing of a plaintext in pieces of any length.
 
 ghost use Rattle.std.specs.Prelude.{◌≡◌, ◌≢◌, ◌+◌, ◌<◌, ◌≤◌, ◌↔◌, IsTrue, true, false, [], length, take};
 ghost use Rattle.age_chunk.specs.{chunk_length, chunk_limit};
@@ -13,7 +13,7 @@ use crate::sealing::{seal_last, seal_next};
 use crate::write_stream::WriteStream;
 use age_chunk::{BLOCK_LEN, CHUNK_LEN, CHUNK_LIMIT, TAG_LEN};
 
-/// Whether a stream can be used.
+/// Returns whether a stream can be used.
 pub(crate) fn can_take(stream: &WriteStream) -> bool
     ensures { IsTrue result ↔ (CanSeal stream.now.writer × (stream.now.held ≤ chunk_length)
         × (stream.now.held ≡ 0 → stream.now.writer.chunk ≡ 0)) }
@@ -22,8 +22,7 @@ pub(crate) fn can_take(stream: &WriteStream) -> bool
     can_be_used(&stream.writer) && held <= CHUNK_LEN && (held > 0 || stream.writer.chunk == 0)
 }
 
-/// Holds the bytes for which the open chunk has room, after those that are held, and returns how
-/// many.
+/// Appends as many bytes of `piece` to the open chunk as fit. Returns their number.
 fn hold_text(stream: &mut WriteStream, piece: &[u8]) -> usize
     requires { stream.old.held ≤ chunk_length }
     ensures { HoldsText piece.now result stream.old stream.new }
@@ -35,7 +34,7 @@ fn hold_text(stream: &mut WriteStream, piece: &[u8]) -> usize
     count
 }
 
-/// Whether bytes of a piece can be held before the open chunk has to be sealed.
+/// Returns whether bytes of a piece fit in the open chunk before it has to be sealed.
 fn has_room(stream: &WriteStream, piece: &[u8]) -> bool
     ensures room { result ≡ true → 0 < length piece.now → stream.now.held < chunk_length }
     ensures full { result ≡ false → (0 < length piece.now) × (chunk_length ≤ stream.now.held) }
@@ -43,7 +42,7 @@ fn has_room(stream: &WriteStream, piece: &[u8]) -> bool
     piece.is_empty() || (stream.held as usize) < CHUNK_LEN
 }
 
-/// Holds bytes of a piece, and returns how many.
+/// Appends bytes of a piece to the open chunk, and returns their number.
 fn hold_only(stream: &mut WriteStream, piece: &[u8]) -> usize
     requires short { stream.old.held ≤ chunk_length }
     requires room { 0 < length piece.now → stream.old.held < chunk_length }
@@ -55,8 +54,8 @@ fn hold_only(stream: &mut WriteStream, piece: &[u8]) -> usize
     hold_text(stream, piece)
 }
 
-/// Seals the chunk that is held, which isn't the last, and then holds bytes of a piece. Returns how
-/// many, and the length of the block that it put into `out`.
+/// Seals the full chunk in the buffer, which isn't the last, to `out`, and then appends bytes of a
+/// piece. Returns their number, and the length of the block.
 fn seal_held(stream: &mut WriteStream, piece: &[u8], out: &mut [u8]) -> (usize, usize)
     requires call { IsTextCall stream.old piece.now out.old }
     requires full { stream.old.held ≡ chunk_length }
@@ -72,9 +71,9 @@ fn seal_held(stream: &mut WriteStream, piece: &[u8], out: &mut [u8]) -> (usize, 
 }
 
 /// Takes bytes of the plaintext from the front of `piece`, up to the end of the chunk that is open.
-/// A chunk that is full is sealed once a byte comes after it, and its block is put into `out`,
-/// which has room for 65,552 bytes or more if one is. A chunk that can only be the last, since a payload has
-/// at most 2^48, is refused with 22, and nothing is changed.
+/// A chunk that is full is sealed once a byte comes after it, and its block is copied to `out`,
+/// which has room for 65,552 bytes or more if one is. Returns 22, and changes nothing, if the chunk
+/// that is full can only be the last, since a payload has at most 2^48.
 pub(crate) fn feed_text(
     stream: &mut WriteStream,
     piece: &[u8],
@@ -109,7 +108,8 @@ pub(crate) fn feed_text(
     0
 }
 
-/// Seals what is held as the last chunk into `out`, and returns the length of its block.
+/// Seals the plaintext in the buffer as the last chunk to `out`, and returns the length of its
+/// block.
 fn seal_rest(stream: &mut WriteStream, out: &mut [u8]) -> usize
     requires { IsLastTextCall stream.old out.old }
     ensures finishes { FinishesText stream.old (take result out.new) stream.new }
@@ -120,8 +120,7 @@ fn seal_rest(stream: &mut WriteStream, out: &mut [u8]) -> usize
     seal_last(&mut stream.writer, &stream.chunk[..held], out)
 }
 
-/// The plaintext ended: what is held is sealed as the last chunk into `out`, which has room for
-/// its block.
+/// Ends the plaintext: seals the rest as the last chunk to `out`, which has room for its block.
 #[unsafe(no_mangle)]
 pub extern "C" fn age_c_finish_text(
     stream: &mut WriteStream,

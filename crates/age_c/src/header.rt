@@ -1,4 +1,4 @@
-//! The functions by which C learns what a header says, before it is opened.
+//! The C functions that read a header without opening it.
 
 ghost use Rattle.std.specs.Prelude.{length, take};
 ghost use Rattle.age_c.specs.{PutsFront, TellsHeader, TellsStanzas};
@@ -10,9 +10,9 @@ use crate::start::head_of;
 use crate::work::work_of;
 use std::alloc::Global;
 
-/// How many bytes the header has that `front` begins with, how many stanzas, and the work factor
-/// that it demands of a passphrase, or the greatest `u32` if it is above that. The work factor is 0
-/// if the header isn't one valid scrypt stanza, so that no passphrase opens it. Nothing is opened.
+/// Reports on the header that `front` begins with: its length in bytes, its number of stanzas, and
+/// the work factor that it demands of a passphrase, saturating at 2^32 - 1. The work factor is 0 if
+/// the header isn't one valid scrypt stanza, so that no passphrase opens it. Opens nothing.
 #[unsafe(no_mangle)]
 pub extern "C" fn age_c_header(
     alloc: Global,
@@ -37,8 +37,8 @@ pub extern "C" fn age_c_header(
     }
 }
 
-/// Tells where all stanzas of the header that `front` begins with are: the first `count` of
-/// `places` say where their arguments are in `front`, and their bodies in `out`, which has room for
+/// Reports the places of all stanzas of the header that `front` begins with: the first `count` of
+/// `places` say where their arguments are in `front`, and their bodies in `out`. `out` has room for
 /// as many bytes as `front` has or more. There must be room for all places, or none is written.
 #[unsafe(no_mangle)]
 pub extern "C" fn age_c_stanzas(

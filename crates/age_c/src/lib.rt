@@ -1,14 +1,14 @@
-//! Age files (<https://c2sp.org/age>) for callers in C, whose state is plain numbers in the caller's
-//! memory, so that nothing here needs to be freed. `bindings/c/agefile.c` makes the calls of
+//! Age files (<https://c2sp.org/age>) for callers in C. All state is plain numbers in the caller's
+//! memory, so nothing needs to be freed. `bindings/c/agefile.c` makes the calls of
 //! `include/agefile.h` of them: it allocates, draws random bytes and wipes.
 //!
-//! A [`Decoder`] takes a file from its first byte on, in pieces of any length, and writes plaintext;
-//! it can be begun again, ended, or sent to any place, at any time, and its [`Reader`] opens any
-//! chunk by itself. An encoder, a [`WriteStream`], begins with a passphrase, or with a file key and
-//! the stanzas that wrap it, and takes plaintext.
+//! A [`Decoder`] takes a file from its first byte on, in pieces of any length, and writes
+//! plaintext; it can be begun again, ended, or sent to any place, at any time, and its [`Reader`]
+//! opens any chunk by itself. An encoder, a [`WriteStream`], begins with a passphrase, or with a
+//! file key and the stanzas that wrap it, and takes plaintext.
 //!
 //! Each function may be called with any numbers in what it is given, and with slices of any length.
-//! What doesn't fit returns [`MISUSED`].
+//! A call that doesn't fit returns [`MISUSED`].
 #![tactic(auto)]
 
 mod again;
@@ -71,11 +71,11 @@ pub use wrap::age_c_wrap_shared;
 pub use write_stream::WriteStream;
 pub use writer::Writer;
 
-/// The bytes end inside the header or the payload's nonce: more of the file is needed.
+/// The result of a call whose bytes end inside the header or the payload nonce: more of the file is
+/// needed.
 pub const MORE: u32 = 254;
 
-/// The call doesn't fit: a length, a work factor or the number of a chunk is out of range, there is
-/// too little room, or a reader, writer or stream holds numbers that can't be used.
-/// Nothing is changed, except that each number that the call would have
-/// reported is 0.
+/// The result of a call that doesn't fit: a length, a work factor or the number of a chunk is out
+/// of range, there is too little room, or a reader, writer or stream has numbers that can't be
+/// used. The call changed nothing, except that each number that it would have reported is 0.
 pub const MISUSED: u32 = 255;

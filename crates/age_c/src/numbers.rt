@@ -7,14 +7,14 @@ ghost use Rattle.age_c.specs.{answer_of, failed_at, reader_status};
 use age_chunk::{StreamFault, StreamKind};
 use age_stream::Status;
 
-/// A refusal of this kind, at this chunk.
+/// Returns the status of a refusal of this kind, at a chunk.
 fn failed_at(kind: StreamKind, chunk: u64) -> Option<Status>
     ensures { result ≡ failed_at kind chunk }
 {
     Some(Status::Failed(StreamFault { kind, chunk }))
 }
 
-/// The status of these numbers; `None` if they stand for none.
+/// Converts numbers to a status, or returns `None` if they stand for none.
 pub(crate) fn status_of(state: u32, fault_chunk: u64) -> Option<Status>
     ensures { result ≡ reader_status state fault_chunk }
 {
@@ -32,7 +32,7 @@ pub(crate) fn status_of(state: u32, fault_chunk: u64) -> Option<Status>
     }
 }
 
-/// The numbers of a status.
+/// Converts a status to its numbers.
 pub(crate) fn numbers_of(status: Status) -> (u32, u64)
     ensures status { reader_status result.0 result.1 ≡ Some status }
     ensures unfailed { has_failed status ≡ false → answer_of result.0 ≡ 0 }
@@ -47,7 +47,8 @@ pub(crate) fn numbers_of(status: Status) -> (u32, u64)
     }
 }
 
-/// The number of a reader's state as an answer: 0 if it wasn't refused.
+/// Returns the result of a call that left a reader in this state: the fault's number if the reader
+/// refused, or else 0.
 pub(crate) fn answer_of(state: u32) -> u32
     ensures { result ≡ answer_of state }
 {

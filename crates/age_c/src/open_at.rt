@@ -1,4 +1,4 @@
-//! The function by which C opens a chunk at its place.
+//! The C function that opens a chunk at its place.
 
 ghost use Rattle.std.specs.Prelude.{take};
 ghost use Rattle.age_c.specs.{Answers, PutsFront, answer_of, IsOpenAtCall, OpensAt};
@@ -11,8 +11,8 @@ use crate::seek::go_to;
 use age_chunk::{BLOCK_LEN, CHUNK_LEN, CHUNK_LIMIT};
 use age_stream::Status;
 
-/// Goes to a chunk, and opens its block there, or what is left of it at the end. Returns how many
-/// bytes of plaintext were put into `out`.
+/// Goes to a chunk, and opens its block, or the shorter rest at the end. Returns the number of
+/// bytes of plaintext copied to `out`.
 fn open_there(reader: &mut Reader, chunk: u64, block: &[u8], out: &mut [u8]) -> usize
     requires { IsOpenAtCall reader.old chunk block.now out.old }
     ensures opens { OpensAt chunk block.now reader.old (answer_of reader.new.state)
@@ -27,9 +27,9 @@ fn open_there(reader: &mut Reader, chunk: u64, block: &[u8], out: &mut [u8]) -> 
     }
 }
 
-/// Goes to a chunk by its number, below 2^48, and opens its block of 65,552 bytes, or what is left
-/// of it if the file ends after fewer. Its plaintext is put into `out`, which has room for 65,536
-/// bytes or more. A fault or an end that came before is forgotten.
+/// Opens the block of chunk `chunk`, a number below 2^48, and copies its plaintext to `out`, which
+/// has room for 65,536 bytes or more. The block has 65,552 bytes, or fewer if the file ends after
+/// them. Forgets a fault or an end that came before.
 #[unsafe(no_mangle)]
 pub extern "C" fn age_c_open_at(
     reader: &mut Reader,

@@ -1,4 +1,4 @@
-//! Begins a file under a passphrase.
+//! The beginning of a file under a passphrase.
 
 ghost use Rattle.std.specs.Prelude.{◌≡◌, ◌↔◌, IsTrue};
 ghost use Rattle.age_c.specs.{Answers, CanSeal, IsStartCall, WritesOrRefuses, BeginsFileFrom};
@@ -11,22 +11,23 @@ use age_chunk::CHUNK_LIMIT;
 use age_keys::{FileRandom, Passphrase, RANDOM_LEN};
 use std::alloc::Global;
 
-/// How much room a call needs for what comes before the payload, apart from given stanzas.
+/// The room that a call needs for the header and the payload nonce, in bytes, apart from given
+/// stanzas.
 pub(crate) const FRONT: usize = 256;
 
-/// The number of a file that would have more chunks than a payload.
+/// The number of the fault of a file that would have more chunks than a payload can have.
 pub(crate) const TOO_MANY_CHUNKS: u32 = 22;
 
-/// Whether a writer can be used.
+/// Returns whether a writer can be used.
 pub(crate) fn can_be_used(writer: &Writer) -> bool
     ensures { IsTrue result ↔ CanSeal writer.now }
 {
     writer.state == 1 && writer.chunk < CHUNK_LIMIT
 }
 
-/// Begins a file under a passphrase of 1 to 65,536 bytes, with a work factor of 1 to 22, and puts
-/// its header and the payload's nonce into `out`, which has room for 256 bytes or more. `random` is
-/// 48 new random bytes: the file key, the stanza's salt and the payload's nonce.
+/// Begins a file under a passphrase of 1 to 65,536 bytes, with a work factor of 1 to 22, and writes
+/// its header and the payload nonce to `out`, which has room for 256 bytes or more. `random` is 48
+/// new random bytes: the file key, the stanza's salt and the payload nonce.
 #[tactic(auto, using(crate::proofs::mac_holds))]
 pub(crate) fn seal_passphrase(
     alloc: Global,

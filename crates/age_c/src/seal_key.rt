@@ -1,4 +1,4 @@
-//! Begins a file whose key the caller has wrapped.
+//! The beginning of a file whose key the caller has wrapped.
 
 ghost use Rattle.std.specs.Prelude.{◌≡◌, ◌≤◌, ◌+◌, length, take, drop, IfOk, IfErr};
 ghost use Rattle.age_keys.specs.{IsScryptNotAlone};
@@ -15,25 +15,25 @@ use age_keys::{FileKey, mac_of, scrypt_not_alone};
 use age_stanza::{Header, one_header};
 use std::alloc::{AllocError, Global};
 
-/// The number of a fault: lines that no header can have.
+/// The number of the fault of lines that no header can have.
 const BAD_STANZA_LINE: u32 = 3;
 
-/// The number of a fault: a scrypt stanza beside another stanza.
+/// The number of the fault of a scrypt stanza beside another stanza.
 const SCRYPT_NOT_ALONE: u32 = 9;
 
-/// The number of a fault: there isn't enough memory.
+/// The number of the fault of running out of memory.
 const MEMORY: u32 = 28;
 
-/// How many random bytes a file is made of: the file key and the payload's nonce.
+/// The number of random bytes in a file: the file key and the payload nonce.
 const RANDOM_LEN: usize = 32;
 
-/// The version line of a header.
+/// The version line of a header, with its LF.
 const VERSION_LINE: &[u8; 22] = b"age-encryption.org/v1\n";
 
-/// An end line, with a MAC of zeros.
+/// The end line of a header, with a MAC of zeros.
 const END_LINE: &[u8; 48] = b"--- AAAAAAAAAAAAAAAAAAAAAAAAAAAAAAAAAAAAAAAAAAA\n";
 
-/// The text of a header whose stanzas have these lines, with a MAC of zeros.
+/// Returns the text of a header whose stanzas have these lines, with a MAC of zeros.
 fn zero_text(alloc: Global, lines: &[u8]) -> Result<Vec<u8>, AllocError>
     ensures { IfOk result (λ text. text.items ≡ zero_text lines.now) }
 {
@@ -43,7 +43,8 @@ fn zero_text(alloc: Global, lines: &[u8]) -> Result<Vec<u8>, AllocError>
     Ok(text)
 }
 
-/// The header whose stanzas have these lines, with a MAC of zeros; or else the answer.
+/// Parses the lines of a header's stanzas, and returns the header, with a MAC of zeros. An error is
+/// the number of the fault.
 fn header_of(alloc: Global, lines: &[u8]) -> Result<Header, u32>
     ensures header { IfOk result (HasLines lines.now) }
     ensures alone { IfOk result (λ header. ¬ IsScryptNotAlone header) }
@@ -67,7 +68,8 @@ fn header_of(alloc: Global, lines: &[u8]) -> Result<Header, u32>
     Ok(head.header)
 }
 
-/// What stands before the payload of a file with these lines of stanzas; or else the answer.
+/// Returns the header and the payload nonce of a file with these lines of stanzas. An error is the
+/// number of the fault.
 fn key_front(alloc: Global, lines: &[u8], key: &[u8; 16], nonce: &[u8; 16]) -> Result<Vec<u8>, u32>
     ensures front { IfOk result (λ front. HasKeyFront lines.now key.now nonce.now front.items) }
     ensures size { IfOk result (λ front. length front.items ≤ length lines.now + 256) }
@@ -87,7 +89,7 @@ fn key_front(alloc: Global, lines: &[u8], key: &[u8; 16], nonce: &[u8; 16]) -> R
     }
 }
 
-/// The file key and the payload's nonce.
+/// Splits random bytes into the file key and the payload nonce.
 fn parts_of(random: &[u8; RANDOM_LEN]) -> ([u8; 16], [u8; 16])
     ensures key { result.0 ≡ take 16 random.now }
     ensures nonce { result.1 ≡ drop 16 random.now }
@@ -98,11 +100,11 @@ fn parts_of(random: &[u8; RANDOM_LEN]) -> ([u8; 16], [u8; 16])
     (key, nonce)
 }
 
-/// Begins a file whose file key the caller has wrapped. `stanzas` has the lines of its header
-/// between the first and the last, and `random` 32 new random bytes: the file key and the payload's
-/// nonce. The header and the nonce are put into `out`, which has room for 256 bytes more than
-/// `stanzas` has, or more. Lines that no header can have are refused with 3, and a scrypt stanza
-/// beside another with 9.
+/// Begins a file whose file key the caller has wrapped, and writes the header and the payload nonce
+/// to `out`, which has room for 256 bytes more than `stanzas` has, or more. `stanzas` has the lines
+/// of its header between the first and the last, and `random` 32 new random bytes: the file key and
+/// the payload nonce. Refuses lines that no header can have with 3, and a scrypt stanza beside
+/// another with 9.
 pub(crate) fn seal_key(
     alloc: Global,
     stanzas: &[u8],

@@ -1,4 +1,4 @@
-//! Seals the chunks of a payload.
+//! The sealing of a payload's chunks.
 
 ghost use Rattle.std.specs.Prelude.{◌≡◌, ◌+◌, ◌<◌, ◌≤◌, [], length, take, drop, IfOk, IfErr};
 ghost use Rattle.age_cipher.specs.{sealing as sealing_with};
@@ -15,7 +15,7 @@ use age_keys::{FileKey, FileRandom, KeyFault, PayloadKey, payload_key, scrypt_he
 use age_stanza::{Header, encode_head};
 use std::alloc::Global;
 
-/// A writer that was given no plaintext.
+/// Makes a writer that was given no plaintext.
 pub(crate) fn writer_of(file_key: &[u8; 16], nonce: &[u8; 16]) -> Writer
     ensures key { result.file_key ≡ file_key.now }
     ensures nonce { result.nonce ≡ nonce.now }
@@ -30,8 +30,7 @@ pub(crate) fn writer_of(file_key: &[u8; 16], nonce: &[u8; 16]) -> Writer
     }
 }
 
-/// What stands before the payload: the header's text and the payload's nonce. It fails only if
-/// memory runs out.
+/// Returns the header's text and the payload nonce. Fails only if memory runs out.
 pub(crate) fn front_of(
     alloc: Global,
     header: &Header,
@@ -51,7 +50,8 @@ pub(crate) fn front_of(
     }
 }
 
-/// What stands before the payload of a file under a passphrase. It fails only if memory runs out.
+/// Returns the header's text and the payload nonce of a file under a passphrase. Fails only if
+/// memory runs out.
 pub(crate) fn passphrase_front(
     alloc: Global,
     random: &FileRandom,
@@ -72,14 +72,14 @@ pub(crate) fn passphrase_front(
     }
 }
 
-/// The payload key of a writer.
+/// Derives the payload key of a writer.
 fn key_of(writer: &Writer) -> PayloadKey
     ensures { result ≡ key_of_writer writer.now }
 {
     payload_key(&FileKey::new(writer.file_key), &writer.nonce)
 }
 
-/// Seals a plaintext as one chunk into `out`, and returns the length of its block.
+/// Seals a plaintext as one chunk to `out`, and returns the length of its block.
 fn seal_chunk(writer: &Writer, last: bool, text: &[u8], out: &mut [u8]) -> usize
     requires text { length text.now ≤ chunk_length }
     requires room { length text.now + tag_length ≤ length out.old }
@@ -96,7 +96,7 @@ fn seal_chunk(writer: &Writer, last: bool, text: &[u8], out: &mut [u8]) -> usize
     len
 }
 
-/// Seals a full chunk that isn't the last into `out`, and returns the length of its block.
+/// Seals a full chunk that isn't the last to `out`, and returns the length of its block.
 pub(crate) fn seal_next(writer: &mut Writer, chunk: &[u8], out: &mut [u8]) -> usize
     requires call { IsChunkCall writer.old chunk.now out.old }
     requires limit { writer.old.chunk + 1 < chunk_limit }
@@ -109,7 +109,7 @@ pub(crate) fn seal_next(writer: &mut Writer, chunk: &[u8], out: &mut [u8]) -> us
     len
 }
 
-/// Seals what is left as the last chunk into `out`, and returns the length of its block.
+/// Seals the rest of a plaintext as the last chunk to `out`, and returns the length of its block.
 pub(crate) fn seal_last(writer: &mut Writer, rest: &[u8], out: &mut [u8]) -> usize
     requires { IsLastCall writer.old rest.now out.old }
     ensures sealed { SealsLast rest.now writer.old (take result out.new) writer.new }

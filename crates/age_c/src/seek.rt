@@ -1,4 +1,4 @@
-//! Goes to any place of a payload.
+//! The seek to a chunk of a payload.
 
 ghost use Rattle.std.specs.Prelude.{◌<◌};
 ghost use Rattle.age_chunk.specs.{chunk_limit};
@@ -6,7 +6,7 @@ ghost use Rattle.age_c.specs.{GoesTo};
 
 use crate::reader::Reader;
 
-/// Leaves a reader as one that is at a chunk and was given nothing.
+/// Sets a reader to the beginning of a chunk, as one that was given nothing.
 pub(crate) fn go_to(reader: &mut Reader, chunk: u64)
     requires { chunk < chunk_limit }
     ensures { GoesTo chunk reader.old reader.new }

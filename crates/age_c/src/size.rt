@@ -1,4 +1,4 @@
-//! The function by which C learns how long a plaintext is, before it is read.
+//! The C function that gives the length of a plaintext before it is read.
 
 ghost use Rattle.std.specs.Prelude.{◌≡◌, ◌-◌, ◌+◌};
 ghost use Rattle.age_stream.specs.{chunks_for};
@@ -8,21 +8,23 @@ use crate::reader::Reader;
 use age_chunk::{BLOCK_LEN, CHUNK_LEN, StreamKind, TAG_LEN};
 use age_stream::text_len_of;
 
-/// The lengths of a chunk, a block and a tag.
+/// The length of a chunk.
 const CHUNK: u64 = CHUNK_LEN as u64;
 
+/// The length of a block.
 const BLOCK: u64 = BLOCK_LEN as u64;
 
+/// The length of a tag.
 const TAG: u64 = TAG_LEN as u64;
 
-/// The number of the last chunk of a plaintext of this many bytes.
+/// Returns the number of the last chunk of a plaintext of `text_len` bytes.
 fn last_chunk_of(text_len: u64) -> u64
     ensures { result + 1 ≡ chunks_for text_len }
 {
     text_len.saturating_sub(1) / CHUNK
 }
 
-/// How a payload of this many bytes ends, if no plaintext has one of that length.
+/// Returns the fault of a payload of `size` bytes, a length that no payload has.
 fn ends_as(size: u64) -> StreamKind
     ensures { result ≡ ends_as size }
 {
@@ -36,10 +38,9 @@ fn ends_as(size: u64) -> StreamKind
     StreamKind::ChunkCut
 }
 
-/// The length in bytes of the plaintext of a file that has this many bytes, and the number of its
-/// last chunk, if the file is complete. Nothing is opened. The payload begins where the reader
-/// says. The answer is 0, or the number of the fault with which a file of this length ends, 18 to
-/// 20.
+/// Computes the length in bytes of the plaintext of a file of `file_len` bytes, and the number of
+/// its last chunk, if the file is complete. Returns 0, or the number of the fault with which a file
+/// of this length ends, 18 to 20. Opens nothing. The payload begins at the reader's `payload_at`.
 #[unsafe(no_mangle)]
 pub extern "C" fn age_c_size(
     reader: &Reader,

@@ -1,16 +1,16 @@
-//! Where a stanza of a header is.
+//! The place of a header's stanza.
 
-/// Where a stanza is: its arguments in the bytes of the file, and its body in a buffer. Plain
+/// The place of a stanza: its arguments in the bytes of the file, and its body in a buffer. All are
 /// numbers of bytes.
 #[repr(C)]
 #[derive(Clone, Copy)]
 pub struct StanzaPlace {
-    /// Where its type is, which is its first argument.
+    /// The offset in the file of the stanza's type, which is its first argument.
     pub args_at: usize,
-    /// How many bytes the arguments have, with one space between two of them.
+    /// The length of the arguments in the file, with one space between two of them.
     pub args_len: usize,
-    /// Where its body begins in the buffer.
+    /// The offset of the stanza's body in the buffer.
     pub body_at: usize,
-    /// How many bytes its body has.
+    /// The length of the stanza's body.
     pub body_len: usize,
 }

@@ -1,4 +1,4 @@
-//! Tells where the stanzas of a header stand, and what their bodies are.
+//! The places of a header's stanzas, and their bodies.
 
 ghost use Rattle.std.specs.Prelude.{◌≡◌, ◌+◌, ◌≤◌, length, take, drop};
 ghost use Rattle.age_stanza.specs.{header_limit, stanza_text, stanzas_text};
@@ -9,10 +9,11 @@ use crate::stanza_place::StanzaPlace;
 use crate::text_len::{args_len as spaced_len, stanza_len};
 use age_stanza::Stanza;
 
-/// How many bytes the version line has, with its LF.
+/// The length of the version line in bytes, with its LF.
 const VERSION_LINE_LEN: usize = 22;
 
-/// Where a stanza stands whose text begins at `at`, and whose body at `body_at` of a buffer.
+/// Returns the place of a stanza whose text begins at `at`, and whose body at `body_at` of a
+/// buffer.
 fn place_of(stanza: &Stanza, at: usize, body_at: usize) -> StanzaPlace
     requires { at + length (stanza_text stanza.now) ≤ header_limit }
     ensures { result ≡ place_of at body_at stanza.now }
@@ -26,8 +27,8 @@ fn place_of(stanza: &Stanza, at: usize, body_at: usize) -> StanzaPlace
     }
 }
 
-/// Puts at the front of `places` where each stanza stands after the version line, and where its
-/// body does, one after the other.
+/// Writes the places of stanzas that follow the version line to the front of `places`. Their bodies
+/// follow one another in a buffer.
 pub(crate) fn put_places(stanzas: &[Stanza], places: &mut [StanzaPlace])
     requires limit { length (stanzas_text stanzas.now) ≤ header_limit }
     requires room { length stanzas.now ≤ length places.old }
@@ -43,8 +44,8 @@ pub(crate) fn put_places(stanzas: &[Stanza], places: &mut [StanzaPlace])
     }
 }
 
-/// Puts the bodies of stanzas at the front of `out`, one after the other, and returns how many bytes
-/// they have.
+/// Copies the bodies of stanzas to the front of `out`, one after the other, and returns the number
+/// of bytes.
 pub(crate) fn put_bodies(stanzas: &[Stanza], out: &mut [u8]) -> usize
     requires { length (bodies_of stanzas.now) ≤ length out.old }
     ensures bodies { take result out.new ≡ bodies_of stanzas.now }

@@ -1,4 +1,4 @@
-//! Opens the header at the beginning of a file, and reads the nonce after it.
+//! The opening of the header at the beginning of a file, with the nonce after it.
 
 ghost use Rattle.std.specs.Prelude.{◌≡◌, ◌≢◌, ◌+◌, ◌≤◌, length, take, drop, IfOk, IfErr};
 ghost use Rattle.age_stream.specs.{fresh};
@@ -12,7 +12,7 @@ use age_keys::{FileKey, KeyFault, PAYLOAD_NONCE_LEN, Steps, Unlock, open_header}
 use age_stanza::{HeadFault, HeadParser, HeadStep, Header};
 use std::alloc::Global;
 
-/// Why a file wasn't begun.
+/// The error of a file that wasn't begun.
 #[derive(Drop)]
 pub(crate) enum StartFault {
     /// The bytes end inside the header or the nonce.
@@ -24,7 +24,7 @@ pub(crate) enum StartFault {
 }
 
 impl StartFault {
-    /// The number that is answered: [`MORE`](crate::MORE), or the fault's own.
+    /// Returns the number of the error: [`MORE`](crate::MORE), or the fault's own.
     pub(crate) fn number(&self) -> u32
         ensures number { result ≡ start_fault_number self.now }
         ensures some { result ≢ 0 }
@@ -39,14 +39,16 @@ impl StartFault {
     }
 }
 
-/// A header, and how many bytes its text has.
+/// A header, with the length of its text in bytes.
 #[derive(Drop)]
 pub(crate) struct Head {
+    /// The header.
     pub header: Header,
+    /// The length of its text in bytes.
     pub len: usize,
 }
 
-/// Reads the header that the bytes begin with.
+/// Parses the header that `front` begins with.
 pub(crate) fn head_of(alloc: Global, front: &[u8]) -> Result<Head, StartFault>
     ensures head { IfOk result (λ head. HasHead front.now head.header head.len) }
     ensures refused { IfErr result (HasNoHead front.now) }
@@ -59,7 +61,7 @@ pub(crate) fn head_of(alloc: Global, front: &[u8]) -> Result<Head, StartFault>
     }
 }
 
-/// Reads the header that the bytes begin with, before the payload's nonce.
+/// Parses the header that `front` begins with. Fails if the payload nonce after it isn't complete.
 fn read_head(alloc: Global, front: &[u8]) -> Result<Head, StartFault>
     ensures head { IfOk result (λ head. HasFront front.now head.header head.len) }
     ensures refused { IfErr result (HeadRefuses front.now) }
@@ -75,7 +77,7 @@ fn read_head(alloc: Global, front: &[u8]) -> Result<Head, StartFault>
     }
 }
 
-/// A reader of the payload that follows a header of `len` bytes and its nonce.
+/// Makes a reader of the payload that follows a header of `len` bytes and its nonce.
 fn reader_after(key: &FileKey, front: &[u8], len: usize) -> Reader
     requires { len + 16 ≤ length front.now }
     ensures key { result.file_key ≡ key.now }
@@ -97,8 +99,8 @@ fn reader_after(key: &FileKey, front: &[u8], len: usize) -> Reader
     }
 }
 
-/// Opens the header that the bytes begin with, and reads the nonce after it. The steps of scrypt
-/// are counted, and there is none before a fault that is found by looking at the header.
+/// Opens the header that `front` begins with, and reads the nonce after it. The steps of scrypt are
+/// counted, and there is none before a fault that is found from the header alone.
 pub(crate) fn start<U: Unlock>(
     alloc: Global,
     unlock: &U,

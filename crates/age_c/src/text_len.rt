@@ -1,4 +1,4 @@
-//! How many bytes the parts of a header take in its text.
+//! The lengths of a header's parts in its text.
 
 ghost use Rattle.std.specs.Prelude.{◌≡◌, ◌≤◌, ◌∷◌, length};
 ghost use Rattle.std.specs.List.{flat_map};
@@ -6,7 +6,7 @@ ghost use Rattle.age_stanza.specs.{header_limit, in_lines, stanza_text, base64_t
 
 use age_stanza::{Argument, Stanza};
 
-/// How many bytes arguments take, each with the space before it.
+/// Returns the length of arguments, each with the space before it.
 pub(crate) fn args_len(args: &[Argument]) -> usize
     requires { length (flat_map (λ a. 32 ∷ a) args.now) ≤ header_limit }
     ensures { result ≡ length (flat_map (λ a. 32 ∷ a) args.now) }
@@ -18,7 +18,7 @@ pub(crate) fn args_len(args: &[Argument]) -> usize
     len
 }
 
-/// How many bytes a body takes, in lines.
+/// Returns the length of a body in lines of base64.
 fn body_len(body: &[u8]) -> usize
     requires { length body.now ≤ header_limit }
     ensures { result ≡ length (in_lines (base64_text body.now)) }
@@ -27,7 +27,7 @@ fn body_len(body: &[u8]) -> usize
     characters + characters / 64 + 1
 }
 
-/// How many bytes a stanza takes.
+/// Returns the length of a stanza's text.
 pub(crate) fn stanza_len(stanza: &Stanza) -> usize
     requires { length (stanza_text stanza.now) ≤ header_limit }
     ensures { result ≡ length (stanza_text stanza.now) }

@@ -5,7 +5,7 @@ ghost use Rattle.age_c.specs.{IsWork};
 use age_keys::ScryptStanza;
 use age_stanza::Header;
 
-/// The work factor that a header demands of a passphrase; 0 if none opens it.
+/// Returns the work factor that a header demands of a passphrase, or 0 if no passphrase opens it.
 pub(crate) fn work_of(header: &Header) -> u32
     ensures { IsWork header.now result }
 {

@@ -1,4 +1,4 @@
-//! The function by which C wraps a file key for an X25519 recipient.
+//! The C function that wraps a file key for an X25519 recipient.
 
 ghost use Rattle.std.specs.Prelude.{◌≡◌, ◌≢◌, ◌++◌, length, take, replicate, IfOk};
 ghost use Rattle.base64.specs.GeneralPurpose.{IsBytes};
@@ -13,16 +13,16 @@ use age_kdf::hkdf32;
 use base64::engine::general_purpose::STANDARD_NO_PAD;
 use std::alloc::{AllocError, Global};
 
-/// How many bytes the lines of a stanza have.
+/// The length of the lines of an X25519 stanza in bytes.
 const STANZA_LEN: usize = 98;
 
-/// The number of a fault: the shared secret is zero.
+/// The number of the fault of a shared secret that is zero.
 const BAD_X25519: u32 = 15;
 
-/// The number of a fault: there isn't enough memory.
+/// The number of the fault of running out of memory.
 const MEMORY: u32 = 28;
 
-/// The salt of HKDF: the share, and then the recipient.
+/// Returns the salt of HKDF: the share, and then the recipient.
 fn hkdf_salt(share: &[u8; 32], recipient: &[u8; 32]) -> [u8; 64]
     ensures { result ≡ share.now ++ recipient.now }
 {
@@ -32,7 +32,7 @@ fn hkdf_salt(share: &[u8; 32], recipient: &[u8; 32]) -> [u8; 64]
     both
 }
 
-/// The key that the file key is wrapped under.
+/// Derives the key that wraps the file key.
 #[tactic(auto, unfolding(age_keys::specs::X25519::shared_wrap_key))]
 fn wrap_key(secret: &[u8; 32], share: &[u8; 32], recipient: &[u8; 32]) -> [u8; 32]
     ensures { result ≡ shared_wrap_key
@@ -42,8 +42,8 @@ fn wrap_key(secret: &[u8; 32], share: &[u8; 32], recipient: &[u8; 32]) -> [u8; 3
     hkdf32(secret, &salt, b"age-encryption.org/v1/X25519")
 }
 
-/// The body of the stanza. A nonce of zeros is safe, since the wrap key comes from the share, and
-/// so seals one file key.
+/// Returns the body of the stanza, in which the file key is wrapped. A nonce of zeros is safe,
+/// since the wrap key comes from the share, and so seals one file key.
 #[tactic(auto, unfolding(age_keys::specs::Keys::wrapped_key), using(age_keys::proofs::StanzaLemmas::front_of))]
 fn wrapped_key(wrap_key: &[u8; 32], key: &[u8; 16]) -> [u8; 32]
     ensures { result ≡ wrapped_key wrap_key.now key.now }
@@ -54,7 +54,7 @@ fn wrapped_key(wrap_key: &[u8; 32], key: &[u8; 16]) -> [u8; 32]
     block
 }
 
-/// The lines of a stanza.
+/// Formats the lines of an X25519 stanza.
 fn lines_of(alloc: Global, share: &[u8; 32], body: &[u8; 32]) -> Result<Vec<u8>, AllocError>
     ensures text { IfOk result
         (λ lines. lines.items ≡ stanza_text (x25519_stanza share.now body.now)) }
@@ -70,7 +70,7 @@ fn lines_of(alloc: Global, share: &[u8; 32], body: &[u8; 32]) -> Result<Vec<u8>,
     Ok(lines)
 }
 
-/// The lines of the stanza that wraps a file key.
+/// Wraps a file key, and returns the lines of the stanza.
 fn wrap(
     alloc: Global,
     secret: &[u8; 32],
@@ -88,10 +88,11 @@ fn wrap(
     lines_of(alloc, share, &body)
 }
 
-/// Puts the lines of a stanza that wraps a file key into `out`, which has room for 98 bytes or
-/// more: `-> X25519 SHARE` and a body (<https://c2sp.org/age#x25519-recipient-stanza>). The secret is
-/// X25519 of the share's own secret and the recipient, which are 32 bytes each; the key is 16. A
-/// secret of zeros is refused with 15.
+/// Wraps a file key for an X25519 recipient, and writes the lines of the stanza to `out`, which has
+/// room for 98 bytes or more: `-> X25519 SHARE` and a body
+/// (<https://c2sp.org/age#x25519-recipient-stanza>). The secret is X25519 of the share's own secret
+/// and the recipient. Secret, share and recipient have 32 bytes each, and the key 16. Refuses a
+/// secret of zeros with 15.
 #[unsafe(no_mangle)]
 pub extern "C" fn age_c_wrap_shared(
     alloc: Global,

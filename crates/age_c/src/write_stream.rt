@@ -1,17 +1,17 @@
-//! What is kept of a file that is written in pieces.
+//! The state of a file that is written in pieces.
 
 use crate::writer::Writer;
 
 /// A writer that takes its plaintext in pieces of any length: plain numbers and the bytes of one
-/// chunk. It holds the file key and plaintext.
+/// chunk. It contains the file key and plaintext.
 #[repr(C)]
 #[derive(Drop)]
 pub struct WriteStream {
-    /// How far the file was written.
+    /// The state of the file that is written.
     pub writer: Writer,
-    /// How many bytes of the chunk that is open have come.
+    /// The number of bytes that have come of the chunk that is open.
     pub held: u32,
-    /// Not used: padding before the chunk.
+    /// Unused: padding before the chunk.
     pub unused: u32,
     /// The bytes of the chunk that is open.
     pub chunk: [u8; 65_536],

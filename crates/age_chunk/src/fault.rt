@@ -1,4 +1,4 @@
-//! The refusals of a stream.
+//! The errors of a payload, or of a plaintext to be sealed.
 
 ghost use Rattle.std.specs.Prelude.{◌≡◌, Some, None};
 ghost use Rattle.age_chunk.specs.Payload.{stream_fault_number};
@@ -7,8 +7,8 @@ use std::alloc::AllocError;
 use std::{error, fmt};
 use thiserror::Error;
 
-/// Why a payload, or a plaintext to be sealed, was refused. The value of each kind is its number in
-/// the list of all faults.
+/// The kind of fault for which a payload, or a plaintext to be sealed, was refused. The value of
+/// each kind is its number in the list of all faults (docs/FAULTS.md).
 #[derive(Clone, Copy, Debug, PartialEq, Eq)]
 pub enum StreamKind {
     /// A full block, or the last one, opens neither as its chunk nor as the last.
@@ -26,7 +26,7 @@ pub enum StreamKind {
 }
 
 impl StreamKind {
-    /// What people read about it.
+    /// Returns the message for people.
     fn text(&self) -> &'static str {
         match self {
             StreamKind::ChunkDamaged => "chunk damaged",
@@ -48,7 +48,7 @@ impl fmt::Display for StreamKind {
 impl error::Error for StreamKind {}
 
 impl StreamKind {
-    /// The kind's number in the list of all faults.
+    /// Returns the kind's number in the list of all faults (docs/FAULTS.md).
     pub fn number(&self) -> u8
         ensures { result ≡ stream_fault_number self.now }
     {
@@ -56,25 +56,25 @@ impl StreamKind {
     }
 }
 
-/// Why a stream was refused, and at which chunk, from 0.
+/// The error of a payload, or of a plaintext to be sealed, that was refused at a chunk.
 #[derive(Clone, Copy, Debug, PartialEq, Eq, Error)]
 #[error("{kind} at chunk {chunk}")]
 pub struct StreamFault {
-    /// What is wrong.
+    /// The kind of the fault.
     pub kind: StreamKind,
-    /// The chunk, from 0.
+    /// The number of the chunk, from 0.
     pub chunk: u64,
 }
 
 impl StreamFault {
-    /// The number of the fault's kind in the list of all faults.
+    /// Returns the number of the fault's kind in the list of all faults (docs/FAULTS.md).
     pub fn number(&self) -> u8
         ensures { result ≡ stream_fault_number self.now.kind }
     {
         self.kind.number()
     }
 
-    /// The chunk of the fault, from 0.
+    /// Returns the number of the chunk, from 0.
     pub fn place(&self) -> Option<u64>
         ensures { result ≡ Some self.now.chunk }
     {
@@ -82,20 +82,20 @@ impl StreamFault {
     }
 }
 
-/// Out of memory.
+/// The error that memory ran out.
 #[derive(Clone, Copy, Debug, PartialEq, Eq, Error)]
 #[error("out of memory")]
 pub struct Memory;
 
 impl Memory {
-    /// 28, the number of this fault in the list of all faults.
+    /// Returns 28, the number of this fault in the list of all faults (docs/FAULTS.md).
     pub fn number(&self) -> u8
         ensures { result ≡ 28 }
     {
         28
     }
 
-    /// The chunk of the fault, which running out of memory doesn't have.
+    /// Returns `None`, since running out of memory has no chunk.
     pub fn place(&self) -> Option<u64>
         ensures { result ≡ None }
     {

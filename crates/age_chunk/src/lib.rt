@@ -1,10 +1,10 @@
-//! One chunk of an age file's payload (<https://c2sp.org/age#payload>): the nonce that it is sealed
-//! at, what seals and opens it, and the faults that a payload has.
+//! One chunk of an age file's payload (<https://c2sp.org/age#payload>): its nonce, the box that
+//! seals and opens it, and the faults that a payload has.
 //!
 //! A [`ChunkBox`] seals a plaintext into a block, which is longer by a tag, and opens it;
-//! `age_keys` has the one of age files, and [`ClearBox`] is one that hides nothing, for examples.
-//! The lengths of the format and the definitions of a plaintext's chunks and of its payload stand
-//! here too.
+//! `age_keys` has the one of age files, and [`ClearBox`] is one that doesn't encrypt, for examples.
+//! The lengths of the format and the definitions of a plaintext's chunks and of its payload are in
+//! this crate too.
 #![tactic(auto)]
 
 mod chunk_box;

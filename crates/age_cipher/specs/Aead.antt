@@ -1,5 +1,5 @@
--- What the AEAD of ChaCha20 and Poly1305 seals a plaintext to (RFC 8439, 2.8), and opens a block
--- to.
+-- The AEAD of ChaCha20 and Poly1305 (RFC 8439, 2.8): the block that a plaintext seals to, and the
+-- plaintext that a block opens to.
 use Rattle.std.specs.Prelude.{◌≡◌, ◌↔◌, ℕ, ◌-◌, ◌%◌, List, [], ◌∷◌, ◌++◌, length, replicate, take}
 use Rattle.std.specs.Prelude.{Option, Some, None, if◌then◌else◌}
 use Rattle.std.specs.List.{concat}
@@ -18,13 +18,14 @@ one_time_key key nonce = ciphertext key nonce 0 (replicate 32 0)
 unfoldable pub padding : List ℕ → List ℕ
 padding m = replicate ((16 - length m % 16) % 16) 0
 
--- what the tag is over: both texts filled up with zeros, then both lengths, each as 8 bytes
+-- mac_data (RFC 8439, 2.8): aad | pad16(aad) | ciphertext | pad16(ciphertext) | both lengths, each
+-- as 8 bytes, the lowest first
 unfoldable pub mac_data : List ℕ → List ℕ → List ℕ
 mac_data aad cipher = concat (
     aad ∷ padding aad ∷ cipher ∷ padding cipher
     ∷ to_le_bytes w64 (length aad) ∷ to_le_bytes w64 (length cipher) ∷ [])
 
--- the tag of associated data and a ciphertext
+-- the tag of associated data and a ciphertext (RFC 8439, 2.8)
 unfoldable pub tag : List ℕ → List ℕ → List ℕ → List ℕ → List ℕ
 tag key nonce aad cipher = poly1305 (one_time_key key nonce) (mac_data aad cipher)
 
@@ -49,11 +50,12 @@ DistinctSealings =
     (key nonce aad text other : List ℕ)
     → sealing key nonce aad text ≡ sealing key nonce aad other → text ≡ other
 
--- ---- What a block opens to, computed. The definition of opening is the sealing alone: a block
+-- ---- The opening of a block, computed. The definition of opening is the sealing alone: a block
 -- opens to a plaintext if it is that plaintext's sealing. The law `OpensSealings` says that this
 -- computes it. It is for crates above, whose boxes may use it.
 
--- all but the last 16 bytes is deciphered and sealed again, and the block compared with that
+-- the plaintext of a block, if it has one: all but the last 16 bytes is decrypted and sealed again,
+-- and the block compared with that
 unfoldable pub opening : List ℕ → List ℕ → List ℕ → List ℕ → Option (List ℕ)
 opening key nonce aad block =
     let text = ciphertext key nonce 1 (take (length block - 16) block) in

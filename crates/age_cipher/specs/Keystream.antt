@@ -1,4 +1,4 @@
--- What the keystream of ChaCha20 is (RFC 8439, 2.3 and 2.4), byte by byte.
+-- The keystream of ChaCha20 (RFC 8439, 2.3 and 2.4), byte by byte.
 --
 -- RFC 8439 ends a block's initial state with a 32-bit counter and the three words of the nonce. The
 -- generator reads the same four words as a counter of 64 bits and a stream number of 64 bits. So
@@ -13,11 +13,11 @@ use Rattle.rand_core.specs.Steps.{u32_at}
 
 -- ---- The keystream, and what it makes of a text.
 
--- the stream of a nonce
+-- the generator's stream number of a nonce: its last two words
 abbrev pub stream_number : List ℕ → ℕ
 stream_number nonce = u32_at nonce 1 + u32_at nonce 2 * 2 ^ 32
 
--- the place in that stream of the first word of block `counter`; a block has 16 words
+-- the place in the generator's stream of the first word of block `counter`; a block has 16 words
 abbrev pub block_place : List ℕ → ℕ → ℕ
 block_place nonce counter = 16 * (counter + u32_at nonce 0 * 2 ^ 32)
 
@@ -28,7 +28,7 @@ keystream_byte key nonce counter j =
     byte_at (j % 4)
     (word_at 10 (key_of key) (stream_number nonce) (block_place nonce counter + j / 4))
 
--- a text, each byte changed by the keystream's byte at its place
+-- the ciphertext of a text (RFC 8439, 2.4): each byte XOR the keystream's byte at its place
 unfoldable pub ciphertext : List ℕ → List ℕ → ℕ → List ℕ → List ℕ
 ciphertext key nonce counter text =
     map (λ j. bit_xor (slice_index text j) (keystream_byte key nonce counter j))

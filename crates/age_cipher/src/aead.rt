@@ -8,14 +8,15 @@ ghost use Rattle.age_cipher.specs.{poly1305, block_limit, one_time_key, padding,
 use crate::authenticator::poly1305;
 use crate::keystream::xor_stream;
 
-/// The first 32 bytes of block 0 are the one-time key; the plaintext is encrypted from block 1 on.
+/// The number of the keystream's block whose first 32 bytes are the one-time key.
 const KEY_BLOCK: u32 = 0;
 
+/// The number of the keystream's block from which on the plaintext is encrypted.
 const TEXT_BLOCK: u32 = 1;
 
 static ZEROS: [u8; 16] = [0; 16];
 
-/// The zeros up to a multiple of 16 bytes.
+/// Returns the zeros that pad bytes to a multiple of 16.
 #[tactic(auto, using(crate::proofs::SealingLemmas::cut_zeros), unfolding(crate::specs::Aead::padding))]
 fn padding(bytes: &[u8]) -> &'static [u8]
     ensures { result.now ≡ padding bytes.now }
@@ -23,7 +24,7 @@ fn padding(bytes: &[u8]) -> &'static [u8]
     &ZEROS[..(16 - bytes.len() % 16) % 16]
 }
 
-/// The one-time key of Poly1305 (RFC 8439, 2.6).
+/// Returns the one-time key of Poly1305 (RFC 8439, 2.6).
 #[tactic(auto, unfolding(crate::specs::Aead::one_time_key))]
 fn one_time_key(key: &[u8; 32], nonce: &[u8; 12]) -> [u8; 32]
     ensures { result ≡ one_time_key key.now nonce.now }
@@ -33,7 +34,7 @@ fn one_time_key(key: &[u8; 32], nonce: &[u8; 12]) -> [u8; 32]
     block
 }
 
-/// The tag of six parts, which are borrowed for one lifetime.
+/// Returns the tag of six parts, which are all borrowed for one lifetime.
 fn tag_of_parts<'a>(
     key: &[u8; 32],
     aad: &'a [u8],
@@ -60,7 +61,7 @@ fn tag_of_parts<'a>(
     )
 }
 
-/// The tag of the associated data and the ciphertext.
+/// Returns the tag of the associated data and the ciphertext (RFC 8439, 2.8).
 #[tactic(auto, using(crate::proofs::tag_is))]
 fn tag(key: &[u8; 32], nonce: &[u8; 12], aad: &[u8], cipher: &[u8]) -> [u8; 16]
     ensures { result ≡ tag key.now nonce.now aad.now cipher.now }
@@ -94,7 +95,7 @@ pub fn seal_in_place(key: &[u8; 32], nonce: &[u8; 12], aad: &[u8], block: &mut [
     end.copy_from_slice(&tag);
 }
 
-/// Whether 16 bytes are the tag. It reads all of them, wherever they differ.
+/// Compares two tags, and reads all 16 bytes wherever they differ.
 fn is_tag(tag: &[u8; 16], bytes: &[u8]) -> bool
     requires { length bytes.now ≡ 16 }
     ensures { IsTrue result ↔ (tag.now ≡ bytes.now) }
@@ -106,11 +107,11 @@ fn is_tag(tag: &[u8; 16], bytes: &[u8]) -> bool
     differences == 0
 }
 
-/// Opens a block in place (RFC 8439, 2.8). `block` must have 16 to 65,552 bytes. The result is true
-/// if and only if the block is the sealing of some plaintext. That plaintext then stands before the
-/// tag, whose 16 bytes are unchanged. If the result is false, the block is unchanged.
+/// Opens a block in place (RFC 8439, 2.8), and returns whether it is the sealing of some plaintext.
+/// `block` must have 16 to 65,552 bytes. If the result is true, that plaintext stands before the
+/// tag, whose 16 bytes are unchanged. If it is false, the block is unchanged.
 ///
-/// It doesn't commit to a key: anyone who knows two keys can make a block that opens under both.
+/// A block doesn't commit to a key: anyone who knows two keys can make one that opens under both.
 pub fn open_in_place(key: &[u8; 32], nonce: &[u8; 12], aad: &[u8], block: &mut [u8]) -> bool
     requires { (16 ≤ length block.old) × (length block.old ≤ block_limit) }
     ensures exact { IsTrue result ↔ IsSealing key.now nonce.now aad.now block.old }

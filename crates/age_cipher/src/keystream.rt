@@ -9,7 +9,7 @@ use rand_chacha::ChaCha20Rng;
 use rand_core::SeedableRng;
 use rand_core::utils::{NextWord, read_u32};
 
-/// The generator of a key and a nonce. The nonce's last two words are its stream.
+/// Makes the generator of a key and a nonce. The nonce's last two words are its stream.
 fn generator_of(key: &[u8; 32], nonce: &[u8; 12]) -> ChaCha20Rng
     ensures key { result.key ≡ key_of key.now }
     ensures stream { result.stream ≡ stream_number nonce.now }
@@ -21,14 +21,15 @@ fn generator_of(key: &[u8; 32], nonce: &[u8; 12]) -> ChaCha20Rng
     generator
 }
 
-/// The generator's number of block `counter`. The nonce's first word is its high half.
+/// Returns the number of block `counter` in the generator's stream. The nonce's first word is the
+/// high half of that number.
 fn block_number(nonce: &[u8; 12], counter: u32) -> u64
     ensures { 16 * result ≡ block_place nonce.now counter }
 {
     u64::from(counter) + (u64::from(read_u32(nonce, 0)) << 32)
 }
 
-/// Draws the next words.
+/// Fills `words` with the generator's next words.
 #[inline(always)]
 #[tactic(auto, unfolding(crate::proofs::generator_on, crate::proofs::word_on))]
 fn draw(generator: &mut ChaCha20Rng, words: &mut [u32])
@@ -46,10 +47,10 @@ fn draw(generator: &mut ChaCha20Rng, words: &mut [u32])
     }
 }
 
-/// Draws four blocks, from the one of this number on.
+/// Fills `words` with four blocks of the keystream, from block `number` on.
 ///
-/// The generator holds four blocks, and checks at each word whether they are used up. Here the
-/// compiler knows whether they are: at a block's first word the generator holds none, and eight
+/// The generator has a buffer of four blocks, and checks at each word whether they are used up.
+/// Here the compiler knows whether they are: at a block's first word the buffer is empty, and eight
 /// words at a time are few enough for it to unroll each loop.
 fn draw_blocks(generator: &mut ChaCha20Rng, number: u64, words: &mut [u32; 64])
     ensures words { (k : ℕ) → k < 64
@@ -69,8 +70,8 @@ fn draw_blocks(generator: &mut ChaCha20Rng, number: u64, words: &mut [u32; 64])
     draw(generator, &mut words[56..64]);
 }
 
-/// Changes each byte of a text by the keystream's byte at its place, from block `counter` on (RFC
-/// 8439, 2.4). A second call with these arguments gives the text back.
+/// XORs a text with the keystream, from block `counter` on (RFC 8439, 2.4). A second call with
+/// these arguments gives the text back.
 ///
 /// The keystream must be long enough: with 64 bytes a block, `64 * counter` and the text's length
 /// are together at most 2^38.

@@ -1,11 +1,11 @@
-//! A text changed by words, through vectors of 32 bytes.
+//! XOR of a text with words, through vectors of 32 bytes.
 
 ghost use Rattle.std.specs.Prelude.{◌≡◌, ◌*◌, ◌≤◌, length};
 ghost use Rattle.age_cipher.specs.inner.{word_byte, IsXored};
 
 use std::simd::{u8x32, u32x8};
 
-/// Changes 32 bytes by eight words.
+/// XORs 32 bytes with eight words.
 fn xor_lanes(text: &mut [u8], words: &[u32])
     requires text { length text.old ≡ 32 }
     requires words { length words.now ≡ 8 }
@@ -15,7 +15,7 @@ fn xor_lanes(text: &mut [u8], words: &[u32])
     lanes.copy_to_slice(text);
 }
 
-/// Changes the few bytes of a text that fill no vector.
+/// XORs the last bytes of a text, which fill no vector, with words.
 fn xor_rest(text: &mut [u8], words: &[u32])
     requires { length text.old ≤ 4 * length words.now }
     ensures { IsXored (word_byte words.now) text.old text.new }
@@ -25,7 +25,7 @@ fn xor_rest(text: &mut [u8], words: &[u32])
     }
 }
 
-/// Changes each byte of a text by the byte of the words at its place.
+/// XORs each byte of a text with the byte of the words at its place.
 pub(crate) fn xor_words(text: &mut [u8], words: &[u32])
     requires { length text.old ≤ 4 * length words.now }
     ensures { IsXored (word_byte words.now) text.old text.new }

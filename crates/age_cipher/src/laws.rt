@@ -2,22 +2,22 @@
 
 ghost use Rattle.age_cipher.specs.{KeystreamIsBlocks, DistinctSealings, OpensSealings};
 
-/// Under one key, nonce and associated data different plaintexts seal to different blocks. This is
-/// a law about the definitions: the call does nothing.
+/// Proves that under one key, nonce and associated data different plaintexts seal to different
+/// blocks. A law about the definitions: the call does nothing.
 #[tactic(auto, using(crate::proofs::SealingLemmas::one_text))]
 pub fn sealings_are_distinct()
     ensures { DistinctSealings }
 {}
 
-/// The keystream is the blocks of RFC 8439 (2.3 and 2.4), one after the other. This is a law about
-/// the definitions: the call does nothing.
+/// Proves that the keystream is the blocks of RFC 8439 (2.3 and 2.4), one after the other. A law
+/// about the definitions: the call does nothing.
 #[tactic(auto, using(crate::proofs::KeystreamLemmas::keystream_of_blocks))]
 pub fn keystream_is_blocks()
     ensures { KeystreamIsBlocks }
 {}
 
-/// A block opens to a plaintext exactly if it is that plaintext's sealing. This is a law about the
-/// definitions: the call does nothing.
+/// Proves that a block opens to a plaintext exactly if it is that plaintext's sealing. A law about
+/// the definitions: the call does nothing.
 #[tactic(auto, using(crate::proofs::sealing_of_opening, crate::proofs::opens_to))]
 pub fn opens_sealings()
     ensures { OpensSealings }

@@ -4,7 +4,7 @@
 //! ChaCha20 turns a key, a nonce and a block counter into a keystream. XOR with it encrypts a text,
 //! and a second XOR gives the text back. Poly1305 reads a message as a polynomial whose
 //! coefficients are its 16-byte blocks: the tag is the polynomial's value at a secret point, modulo
-//! 2^130 - 5, plus a secret number. A sealing joins the two. The text is encrypted from block 1 on,
+//! 2^130 - 5, plus a secret number. The AEAD joins the two. The text is encrypted from block 1 on,
 //! and the tag covers the ciphertext, under a key that is half of block 0.
 //!
 //! No call allocates memory. Constant time isn't claimed, and no key is wiped.

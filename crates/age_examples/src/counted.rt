@@ -1,4 +1,4 @@
-//! A source of one's own.
+//! An example of a source.
 
 ghost use Rattle.std.specs.Prelude.{ℕ};
 ghost use Rattle.std.specs.Coded.{coded_ℕ, coded×};
@@ -6,8 +6,8 @@ ghost use Rattle.std.specs.Coded.{coded_ℕ, coded×};
 use age_file::{Failed, Source};
 use std::marker::Model;
 
-/// A source that passes on what another gives and counts its bytes, as a progress bar needs. A
-/// contract sees the other source and the count.
+/// A source that passes on the bytes of another and counts them, as a progress bar needs. Contracts
+/// see the other source and the count.
 #[derive(Drop)]
 pub struct Counted<S: Source> {
     inner: S,
@@ -25,14 +25,14 @@ impl<S: Source> Model for Counted<S> {
 impl<S: Source> Counted<S> {
     ghost use Rattle.std.specs.Prelude.{◌≡◌};
 
-    /// Nothing has been counted yet.
+    /// Wraps a source, with a count of 0.
     pub fn new(inner: S) -> Counted<S>
         ensures { result ≡ (inner, 0) }
     {
         Counted { inner, count: 0 }
     }
 
-    /// How many bytes came, or the greatest number if there were more.
+    /// Returns the number of bytes given or skipped, saturating at `u64::MAX`.
     pub fn count(&self) -> u64
         ensures { result ≡ self.now.1 }
     {

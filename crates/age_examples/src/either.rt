@@ -1,4 +1,4 @@
-//! An unlocker of one's own.
+//! An example of an unlocker.
 
 ghost use Rattle.std.specs.Prelude.{◌≡◌, ◌⊎◌, ◌+◌};
 ghost use Rattle.std.specs.Bool.{MatchBool};
@@ -9,12 +9,14 @@ use age_keys::{FileKey, KeyFault, Steps, Unlock};
 use age_stanza::Header;
 use std::alloc::Global;
 
-/// Two ways to open a file, such as a new passphrase and the one before it: the first that finds a
-/// key counts. What the second refuses is reported, or what the first did if the second only looked
-/// at the header.
+/// Two unlockers for one file, such as a new passphrase and the one before it: the first that finds
+/// a key counts. If neither does, the second's fault is reported, or the first's if the second's
+/// was found from the header alone.
 #[derive(Drop)]
 pub struct Either<A: Unlock, B: Unlock> {
+    /// The unlocker that is tried first.
     pub first: A,
+    /// The unlocker that is tried if the first one fails.
     pub second: B,
 }
 

@@ -1,5 +1,5 @@
 //! Examples of the library crates, which `docs/LIBRARY.md` explains: a decryption in memory, an
-//! unlocker, a source and a sink of one's own, and a sealer over a sink.
+//! unlocker, a source, a sink, and a sealer over a sink.
 #![tactic(auto)]
 
 mod counted;

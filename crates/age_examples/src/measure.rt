@@ -1,18 +1,20 @@
-//! A sink of one's own.
+//! An example of a sink.
 
 ghost use Rattle.std.specs.Prelude.{◌≡◌, [], None, true, false};
 
 use age_file::{Failed, Sink, Tape};
 
-/// A sink that counts what it takes and keeps none of it, to learn how long something will be.
+/// A sink that counts the bytes that it takes and keeps none of them, to learn how long something
+/// will be.
 #[derive(Drop)]
 pub struct Measure {
+    /// The number of bytes taken, saturating at `u64::MAX`.
     pub count: u64,
     took: Tape,
 }
 
 impl Measure {
-    /// Nothing has been counted yet.
+    /// Makes a sink with a count of 0.
     pub fn new() -> Measure
         ensures count { result.count ≡ 0 }
         ensures took { result.took ≡ [] }

@@ -1,4 +1,4 @@
-//! A decryption in memory.
+//! An example of a decryption in memory.
 
 ghost use Rattle.std.specs.Prelude.{◌≡◌, ℕ, List, [], MatchResult, false};
 ghost use Rattle.age_memory.specs.{memory_supply};
@@ -8,15 +8,15 @@ use age_file::{FileFault, MemSink, MemSource, decrypt, undamaged_is_written};
 use age_keys::Unlock;
 use std::alloc::Global;
 
-/// How many bytes a pull or a put moves at most.
+/// The most bytes that a pull or a put moves.
 const STEP: usize = 65_536;
 
-/// The plaintext of an age file in memory. A plaintext is shorter than its file, so the file's
-/// length is enough room.
+/// Returns the plaintext of an age file in memory, or the fault. A fault of the file returns no
+/// bytes at all, so nobody takes a truncated plaintext for a complete one.
 ///
-/// If it is the file of some plaintext, which the unlocker opens, and undamaged, that plaintext is
-/// returned, or one of the faults that have nothing to do with the file. A fault of the file
-/// returns no bytes at all, so nobody takes a truncated plaintext for a complete one.
+/// If the file is that of some plaintext, which the unlocker opens, and undamaged, the result is
+/// that plaintext, or one of the faults that have nothing to do with the file. A plaintext is
+/// shorter than its file, so the file's length is enough room.
 pub fn text_of<U: Unlock>(alloc: Global, unlock: &U, file: Vec<u8>) -> Result<Vec<u8>, FileFault>
     ensures undamaged { (text : List ℕ)
         → IsUndamagedFile (U.allows unlock.now) (U.refuses unlock.now)

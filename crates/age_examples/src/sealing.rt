@@ -1,4 +1,4 @@
-//! A sealer over a sink.
+//! An example of a sealer over a sink.
 
 ghost use Rattle.std.specs.Prelude.{◌≡◌, OnOk};
 ghost use Rattle.age_io.specs.Taken.{Appends};
@@ -8,7 +8,7 @@ ghost use Rattle.age_chunk.specs.{payload, chunk_length};
 use age_file::{FileFault, Sink, Unsent, write_all};
 use age_stream::{BLOCK_LEN, ChunkBox, Sealer};
 
-/// The bytes that are lent, if any are.
+/// Returns the bytes that are lent, or none.
 fn bytes_of(chunk: Option<&[u8]>) -> &[u8]
     ensures { result.now ≡ chunk_bytes chunk.entry }
 {
@@ -18,7 +18,7 @@ fn bytes_of(chunk: Option<&[u8]>) -> &[u8]
     }
 }
 
-/// Writes all of some bytes.
+/// Writes all of some bytes to a sink.
 fn put<O: Sink>(sink: &mut O, bytes: &[u8]) -> Result<(), Unsent>
     ensures { OnOk result (Appends (O.view sink.old).taken (O.view sink.new).taken bytes.now) }
 {
@@ -26,7 +26,7 @@ fn put<O: Sink>(sink: &mut O, bytes: &[u8]) -> Result<(), Unsent>
     write_all(sink, bytes, &mut written)
 }
 
-/// Writes the payload of a text (<https://c2sp.org/age#payload>), block by block.
+/// Writes the payload of a text to a sink (<https://c2sp.org/age#payload>), block by block.
 pub fn seal_to<B: ChunkBox, O: Sink>(key: &B, text: &[u8], sink: &mut O) -> Result<(), FileFault>
     ensures sealed { OnOk result (Appends (O.view sink.old).taken (O.view sink.new).taken
         (payload (B.sealing key.now) chunk_length text.now)) }

@@ -1,4 +1,4 @@
--- How a fault is numbered, named and placed.
+-- The numbers, names and places of faults.
 use Rattle.std.specs.Prelude.{ℕ, ◌-◌, List, [], ◌∷◌, Option, Some, None, codes, get_or}
 use Rattle.age_chunk.specs.Payload as stream
 use Rattle.age_fault.specs.HeadFaults as head
@@ -9,6 +9,7 @@ use Rattle.age_fault.specs.declared.fault.FileFault.TheVariants.{OtherFile, Shor
 use Rattle.age_fault.specs.declared.fault.FileFault.TheVariants.{ReadNeverEnds, PositionForged}
 use Rattle.age_fault.specs.declared.fault.FileFault.TheVariants.{OldTextDiffers}
 
+-- the number of a fault in the list of all faults (docs/FAULTS.md)
 abbrev pub fault_number : FileFault → ℕ
 fault_number (Head fault) = head.head_fault_number fault.kind
 fault_number (Key fault) = key.key_fault_number fault
@@ -35,13 +36,15 @@ names = codes "NotAge" ∷ codes "Armored" ∷ codes "BadStanzaLine" ∷ codes "
     ∷ codes "ShortText" ∷ codes "Read" ∷ codes "Write" ∷ codes "Memory" ∷ codes "ReadNeverEnds"
     ∷ codes "PositionForged" ∷ codes "OldTextDiffers" ∷ []
 
+-- the name of the fault of this number
 abbrev pub name_by : ℕ → List ℕ
 name_by number = get_or names (number - 1) []
 
+-- the name of a fault in the list of all faults
 abbrev pub name_of : FileFault → List ℕ
 name_of fault = name_by (fault_number fault)
 
--- the line of a header's fault, the chunk of a payload's
+-- the place of a fault: the line of a header's, the chunk of a payload's, and none for any other
 abbrev pub fault_place : FileFault → Option ℕ
 fault_place (Head fault) = head.head_fault_place fault
 fault_place (Stream fault) = Some fault.chunk

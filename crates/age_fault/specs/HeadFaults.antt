@@ -1,4 +1,4 @@
--- How a header's fault is numbered among all faults, and the line that it reports.
+-- The numbers of a header's faults among all faults, and their lines.
 use Rattle.std.specs.Prelude.{ℕ, Option, Some, None}
 use Rattle.age_fault.specs.declared.head.HeadFault.{HeadFault}
 use Rattle.age_fault.specs.declared.head.HeadKind.{HeadKind}
@@ -6,10 +6,11 @@ use Rattle.age_fault.specs.declared.head.HeadKind.TheVariants.{NotAge, Armored, 
 use Rattle.age_fault.specs.declared.head.HeadKind.TheVariants.{BadEndLine, NoStanza, HeadTooLong, HeadCut}
 use Rattle.age_fault.specs.declared.head.HeadKind.TheVariants.{Memory}
 
--- running out of memory belongs to no line
+-- the fault that memory ran out, which belongs to no line
 abbrev pub memory_fault : HeadFault
 memory_fault = record { kind = Memory; line = 0 }
 
+-- the number of a header's fault in the list of all faults
 abbrev pub head_fault_number : HeadKind → ℕ
 head_fault_number NotAge = 1
 head_fault_number Armored = 2
@@ -21,10 +22,11 @@ head_fault_number HeadTooLong = 7
 head_fault_number HeadCut = 8
 head_fault_number Memory = 28
 
--- running out of memory has no line
+-- the line of a header's fault; running out of memory has none
 abbrev pub line_of : HeadKind → ℕ → Option ℕ
 line_of Memory n = None
 line_of kind n = Some n
 
+-- the place of a header's fault, which is its line
 abbrev pub head_fault_place : HeadFault → Option ℕ
 head_fault_place fault = line_of fault.kind fault.line

@@ -1,4 +1,5 @@
--- How the fault of a header that wasn't opened is numbered among all faults, and when it is found.
+-- The faults of headers that weren't opened: their numbers among all faults, and when they are
+-- found.
 use Rattle.std.specs.Prelude.{ℕ, Bool, true, false}
 use Rattle.age_fault.specs.declared.key.KeyFault.{KeyFault}
 use Rattle.age_fault.specs.declared.key.KeyFault.TheVariants.{ScryptNotAlone, BadScrypt, WorkTooHigh, NoMatch}
@@ -13,6 +14,7 @@ is_before_work NoMatch = true
 is_before_work BadX25519 = true
 is_before_work other = false
 
+-- the number of the fault in the list of all faults
 abbrev pub key_fault_number : KeyFault → ℕ
 key_fault_number ScryptNotAlone = 9
 key_fault_number BadScrypt = 10

@@ -1,4 +1,4 @@
-//! Why a file could not be read or written.
+//! The error of reading or writing an age file.
 
 ghost use Rattle.std.specs.Prelude.{◌≡◌};
 ghost use Rattle.age_fault.specs.declared.fault.FileFault.TheVariants.{Stream, Write, Memory as MemoryFault};
@@ -16,35 +16,35 @@ use std::alloc::{AllocError, AllocFailed};
 use std::error::Error;
 use std::fmt;
 
-/// Why a file could not be read or written. Running out of memory is one case, whichever layer it
-/// came from. docs/FAULTS.md lists all faults by their numbers.
+/// The error of reading or writing an age file, by whatever layer. docs/FAULTS.md lists all faults
+/// by number.
 #[derive(Clone, Copy, Debug, PartialEq, Eq)]
 pub enum FileFault {
-    /// The header isn't valid, at this line (1 to 8).
+    /// The header isn't valid, at this line (faults 1 to 8).
     Head(HeadFault),
-    /// The header was not opened (9 to 15).
+    /// The header was not opened (faults 9 to 15).
     Key(KeyFault),
-    /// Fewer than 16 bytes follow the header (16).
+    /// Fewer than 16 bytes follow the header (fault 16).
     NonceCut,
-    /// The payload, or the text to be sealed, was refused at this chunk (17 to 22).
+    /// The payload, or the text to be sealed, was refused at this chunk (faults 17 to 22).
     Stream(StreamFault),
-    /// The text isn't a position (23).
+    /// The text isn't a position (fault 23).
     BadPosition,
-    /// The position belongs to another file (24).
+    /// The position belongs to another file (fault 24).
     OtherFile,
-    /// The earlier output is shorter than the position needs (25).
+    /// The earlier output is shorter than the position needs (fault 25).
     ShortText,
-    /// A source failed in this call (26).
+    /// A source failed in this call (fault 26).
     Read,
-    /// A sink failed in this call (27).
+    /// A sink failed in this call (fault 27).
     Write,
-    /// Memory was refused (28).
+    /// Memory ran out (fault 28).
     Memory,
-    /// The sources gave bytes in 2^63 pulls of one call (29).
+    /// The sources gave bytes in 2^63 pulls of one call (fault 29).
     ReadNeverEnds,
-    /// The position was not made under this file's key (30).
+    /// The position was not made under this file's key (fault 30).
     PositionForged,
-    /// The earlier output is not the one that the position was made for (31).
+    /// The earlier output is not the one that the position was made for (fault 31).
     OldTextDiffers,
 }
 
@@ -124,7 +124,7 @@ impl From<StreamFault> for FileFault {
 }
 
 impl FileFault {
-    /// The number of this fault in the list of all faults.
+    /// Returns the number of this fault in the list of all faults (docs/FAULTS.md).
     pub fn number(&self) -> u8
         ensures { result ≡ fault_number self.now }
     {
@@ -145,7 +145,8 @@ impl FileFault {
         }
     }
 
-    /// The line of a header's fault, from 1, or the chunk of a payload's, from 0.
+    /// Returns the line of a header's fault, from 1, or the chunk of a payload's, from 0, or `None`
+    /// for any other fault.
     pub fn place(&self) -> Option<u64>
         ensures { result ≡ fault_place self.now }
     {
@@ -156,7 +157,8 @@ impl FileFault {
         }
     }
 
-    /// What people read about a fault that no other crate found.
+    /// Returns the message for people about a fault without a type of its own, or an empty string
+    /// for one of a header, key or payload.
     fn text(&self) -> &'static str {
         match self {
             FileFault::NonceCut => "payload nonce cut",
@@ -173,7 +175,7 @@ impl FileFault {
         }
     }
 
-    /// The name of this fault in the list of all faults.
+    /// Returns the name of this fault in the list of all faults (docs/FAULTS.md).
     pub fn name(&self) -> &'static str
         ensures { result.now ≡ name_of self.now }
     {
@@ -195,6 +197,7 @@ impl FileFault {
     }
 }
 
+/// Returns the name of a header's fault.
 fn head_name(kind: HeadKind) -> &'static str
     ensures { result.now ≡ name_by (head_fault_number kind) }
 {
@@ -211,6 +214,7 @@ fn head_name(kind: HeadKind) -> &'static str
     }
 }
 
+/// Returns the name of a fault of opening a header.
 fn key_name(fault: KeyFault) -> &'static str
     ensures { result.now ≡ name_by (key_fault_number fault) }
 {
@@ -226,6 +230,7 @@ fn key_name(fault: KeyFault) -> &'static str
     }
 }
 
+/// Returns the name of a payload's fault.
 fn stream_name(kind: StreamKind) -> &'static str
     ensures { result.now ≡ name_by (stream_fault_number kind) }
 {

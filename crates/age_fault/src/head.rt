@@ -1,4 +1,4 @@
-//! Why a header was refused, and where.
+//! The error of a header that was refused, with its line.
 
 ghost use Rattle.std.specs.Prelude.{◌≡◌};
 ghost use Rattle.age_fault.specs.HeadFaults.{head_fault_number, head_fault_place};
@@ -6,7 +6,8 @@ ghost use Rattle.age_fault.specs.HeadFaults.{head_fault_number, head_fault_place
 use std::alloc::AllocError;
 use std::{error, fmt};
 
-/// Why a header was refused. The value of each kind is its number in the list of all faults.
+/// The kind of fault for which a header was refused. The value of each kind is its number in the
+/// list of all faults (docs/FAULTS.md).
 #[derive(Clone, Copy, Debug, PartialEq, Eq)]
 pub enum HeadKind {
     /// The first line isn't the version line.
@@ -22,17 +23,17 @@ pub enum HeadKind {
     BadEndLine = 5,
     /// The end line came before any stanza.
     NoStanza = 6,
-    /// The first bytes, as many as the longest header has, hold no complete header and no faulty
+    /// The first bytes, as many as the longest header has, have no complete header and no faulty
     /// line.
     HeadTooLong = 7,
     /// The input ended inside the header.
     HeadCut = 8,
-    /// Out of memory.
+    /// Memory ran out.
     Memory = 28,
 }
 
 impl HeadKind {
-    /// What people read about it.
+    /// Returns the message for people.
     fn text(&self) -> &'static str {
         match self {
             HeadKind::NotAge => "not an age file",
@@ -57,7 +58,7 @@ impl fmt::Display for HeadKind {
 impl error::Error for HeadKind {}
 
 impl HeadKind {
-    /// The kind's number in the list of all faults.
+    /// Returns the kind's number in the list of all faults (docs/FAULTS.md).
     pub fn number(&self) -> u8
         ensures { result ≡ head_fault_number self.now }
     {
@@ -75,24 +76,24 @@ impl From<AllocError> for HeadKind {
     }
 }
 
-/// Why a header was refused, and at which line, from 1 (0 if memory ran out).
+/// The error of a header that was refused, with the line.
 #[derive(Clone, Copy, Debug, PartialEq, Eq)]
 pub struct HeadFault {
-    /// What is wrong.
+    /// The kind of the fault.
     pub kind: HeadKind,
-    /// The line, from 1; 0 for [`HeadKind::Memory`].
+    /// The number of the line, from 1; 0 for [`HeadKind::Memory`].
     pub line: u64,
 }
 
 impl HeadFault {
-    /// The number of the fault's kind in the list of all faults.
+    /// Returns the number of the fault's kind in the list of all faults (docs/FAULTS.md).
     pub fn number(&self) -> u8
         ensures { result ≡ head_fault_number self.now.kind }
     {
         self.kind.number()
     }
 
-    /// The line of the fault, from 1. `None` if memory ran out.
+    /// Returns the number of the line, from 1, or `None` if memory ran out.
     pub fn place(&self) -> Option<u64>
         ensures { result ≡ head_fault_place self.now }
     {

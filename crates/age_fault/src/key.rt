@@ -1,4 +1,4 @@
-//! Why a header wasn't opened.
+//! The error of a header that wasn't opened.
 
 ghost use Rattle.std.specs.Prelude.{◌≡◌, None};
 ghost use Rattle.age_fault.specs.KeyFaults.{is_before_work, key_fault_number};
@@ -6,8 +6,8 @@ ghost use Rattle.age_fault.specs.KeyFaults.{is_before_work, key_fault_number};
 use std::alloc::AllocError;
 use std::{error, fmt};
 
-/// Why a header wasn't opened. A refusal changes nothing. The value of each fault is its number in
-/// the list of all faults.
+/// The fault for which a header wasn't opened. A refusal changes nothing. The value of each fault
+/// is its number in the list of all faults (docs/FAULTS.md).
 #[derive(Clone, Copy, Debug, PartialEq, Eq)]
 pub enum KeyFault {
     /// A stanza of type `scrypt` isn't the only stanza.
@@ -16,20 +16,20 @@ pub enum KeyFault {
     BadScrypt = 10,
     /// The scrypt stanza's work factor is above the limit.
     WorkTooHigh = 11,
-    /// No stanza has the type that was looked for.
+    /// No stanza has the type that the key is for.
     NoMatch = 12,
-    /// The body of no stanza opens.
+    /// No stanza has a body that opens with the key.
     WrongKey = 13,
     /// The header's MAC wasn't made under the file key.
     MacMismatch = 14,
     /// An X25519 stanza isn't valid, or the shared secret is zero.
     BadX25519 = 15,
-    /// Out of memory.
+    /// Memory ran out.
     Memory = 28,
 }
 
 impl KeyFault {
-    /// What people read about it.
+    /// Returns the message for people.
     fn text(&self) -> &'static str {
         match self {
             KeyFault::ScryptNotAlone => "scrypt stanza not alone",
@@ -53,15 +53,15 @@ impl fmt::Display for KeyFault {
 impl error::Error for KeyFault {}
 
 impl KeyFault {
-    /// The fault's number in the list of all faults.
+    /// Returns the fault's number in the list of all faults (docs/FAULTS.md).
     pub fn number(&self) -> u8
         ensures { result ≡ key_fault_number self.now }
     {
         *self as u8
     }
 
-    /// Whether it is found by looking at the header, before a body is tried, so that no step of
-    /// scrypt was made.
+    /// Returns whether the fault is found from the header alone, before a body is tried, so that no
+    /// step of scrypt was made.
     pub fn is_before_work(&self) -> bool
         ensures { result ≡ is_before_work self.now }
     {
@@ -75,7 +75,7 @@ impl KeyFault {
         }
     }
 
-    /// The line or chunk of the fault, which these faults don't have.
+    /// Returns `None`, since these faults have no line or chunk.
     pub fn place(&self) -> Option<u64>
         ensures { result ≡ None }
     {

@@ -1,4 +1,4 @@
--- What was encrypted under a passphrase, decrypted with it.
+-- A file that was encrypted under a passphrase and is decrypted with it.
 use Rattle.age_io.specs.Supply.{Supply}
 use Rattle.age_io.specs.Taken.{Appends}
 use Rattle.std.specs.Prelude.{◌≡◌, ℕ, List, ◌≤◌, Option, Some, Result, MatchResult, length}
@@ -23,7 +23,7 @@ pub record IsSecret (s : SecretView) : Type 0 where
   pub salt_bytes : IsBytes s.salt
   pub key_length : length s.key ≡ 16
 
--- the secret's passphrase, with a limit
+-- a secret's passphrase, with a greatest work factor
 abbrev pub passphrase_identity : SecretView → ℕ → PassphraseIdentity
 passphrase_identity s max_log = record { pass = s.pass; max_log = max_log }
 

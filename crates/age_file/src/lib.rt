@@ -1,14 +1,15 @@
 //! Age files over sources and sinks: all engines, each of which has its own crate, and the laws
 //! that join them.
 //!
-//! A `Source` gives bytes and a `Sink` takes them. Both count their failures, and those over memory
-//! show their bytes, so that the contract of an engine can name what it read and what it wrote.
+//! A [`Source`] gives bytes and a [`Sink`] takes them. Both count their failures, and those in
+//! memory show contracts their bytes, so that the contract of an engine can name what it read and
+//! what it wrote.
 //!
-//! `inspect` reads a complete file and reports what its header holds and how much plaintext the
-//! bytes after it would be. `encrypt` writes an age file of what it reads, and `decrypt` the
-//! plaintext of a file whose header an unlocker opens; if it stops, it returns the position at
-//! which to continue. `resume` continues there: it copies the earlier output up to the position,
-//! and opens the blocks after it, so that what it writes is the complete plaintext.
+//! [`inspect`] reads a complete file and reports its header, and how much plaintext the bytes after
+//! it would be. [`encrypt`] writes an age file of what it reads, and [`decrypt`] the plaintext of a
+//! file whose header an unlocker opens; if it stops, it returns the position at which to continue.
+//! [`resume`] continues from that position: it copies the earlier output up to it, and opens the
+//! blocks after it, so that what it writes is the complete plaintext.
 //!
 //! docs/LIBRARY.md says which call to use for what, and has examples.
 #![tactic(auto)]

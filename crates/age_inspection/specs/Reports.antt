@@ -1,4 +1,4 @@
--- What a report says of a file's bytes (C2SP age.md, "Payload", for the length of the plaintext).
+-- The report on a file's bytes (C2SP age.md, "Payload", for the length of the plaintext).
 use Rattle.std.specs.Prelude.{◌≡◌, ℕ, ◌-◌, ◌≤◌, List, [], ◌++◌, length, map, Option, slice_index_or}
 use Rattle.std.specs.Prelude.{MatchOption}
 use Rattle.age_io.specs.Supply.{Supply}
@@ -11,7 +11,7 @@ use Rattle.age_intake.specs.{pull_room}
 use Rattle.age_inspection.specs.declared.report.Report.{Report}
 use Rattle.age_inspection.specs.declared.report.StanzaReport.{StanzaReport}
 
--- a stanza's type, how many arguments follow it, and the length of its body
+-- the report on a stanza: its type, the number of arguments after it, and the length of its body
 abbrev pub stanza_report : Stanza → StanzaReport
 stanza_report s = record {
   kind = slice_index_or s.args 0 [];
@@ -23,7 +23,7 @@ stanza_report s = record {
 abbrev pub IsPlain : ℕ → ℕ → Type 0
 IsPlain rest p = (16 ≤ rest) × IsTextLength (rest - 16) p
 
--- the one plaintext's length that this many bytes would hold, or none
+-- the length of the one plaintext that this many bytes would have, or none
 abbrev pub IsPlainOf : ℕ → Option ℕ → Type 0
 IsPlainOf rest plain = MatchOption plain ((p : ℕ) → IsPlain rest p → ⊥) (IsPlain rest)
 
@@ -39,7 +39,7 @@ pub record IsReport (bytes : List ℕ) (r : Report) : Type 0 where
   pub rest_is : r.rest ≡ length rest
   pub plain_is : IsPlainOf (length rest) r.plain
 
--- what was read, to the end, has this report
+-- the bytes that were read, to the end, have this report
 abbrev pub Inspects : Supply → Supply → Report → Type 0
 Inspects old new r = (bytes : List ℕ) × Consumes old new bytes × IsAtEnd new × IsReport bytes r
 

@@ -1,4 +1,4 @@
-//! Reads a file to its end, or only its header, and reports what it holds.
+//! The inspection of a file: its header, and the lengths of the rest.
 
 ghost use Rattle.std.specs.Prelude.{◌≡◌, ◌^◌, ◌<◌, ◌≤◌, ℕ, List, length, Some, IfOk, IfErr, OnOk, map};
 ghost use Rattle.age_intake.specs.{HeadFails, InHeader, NoHeadFault, view_of_reader, SameReader};
@@ -15,10 +15,10 @@ use age_stanza::{Stanza, Stanzas};
 use age_stream::text_len_of;
 use std::alloc::{AllocError, Global};
 
-/// How many stanzas free their memory at once.
+/// The number of stanzas that free their memory at once.
 const STANZAS_AT_ONCE: usize = 4_096;
 
-/// Counts the bytes that are left, to the end of the source.
+/// Reads to the end of the source, and returns the number of bytes.
 fn count_rest<S: Source>(reader: &mut Reader<'_, S>) -> Result<u128, FileFault>
     requires { reader.old.intake.now.pulls ≤ 2 ^ 63 }
     ensures counts { IfOk result (CountsRest (view_of_reader S.view reader.old)
@@ -36,6 +36,7 @@ fn count_rest<S: Source>(reader: &mut Reader<'_, S>) -> Result<u128, FileFault>
     Ok(count)
 }
 
+/// Makes the report on a stanza.
 fn stanza_report_of(alloc: Global, stanza: &Stanza) -> Result<StanzaReport, AllocError>
     ensures { IfOk result (λ r. r ≡ stanza_report stanza.now) }
 {
@@ -52,8 +53,8 @@ fn stanza_report_of(alloc: Global, stanza: &Stanza) -> Result<StanzaReport, Allo
     })
 }
 
-/// The reports on stanzas. The stanzas free their memory on the way, so that the two lists take
-/// hardly more than the stanzas did.
+/// Makes the reports on stanzas. The stanzas free their memory on the way, so that the two lists
+/// take hardly more than the stanzas did.
 fn reports_of(alloc: Global, stanzas: Stanzas) -> Result<StanzaReports, AllocError>
     ensures { IfOk result (λ r. r ≡ map stanza_report stanzas) }
 {
@@ -69,7 +70,8 @@ fn reports_of(alloc: Global, stanzas: Stanzas) -> Result<StanzaReports, AllocErr
     Ok(reports)
 }
 
-/// The length of the plaintext that a nonce and a payload of this many bytes hold.
+/// Returns the length of the plaintext in a nonce and a payload of `rest` bytes together, or `None`
+/// if no valid payload has that length.
 fn plain_of(rest: u128) -> Option<u128>
     requires { rest < 2 ^ 127 }
     ensures { IsPlainOf rest result }
@@ -77,13 +79,13 @@ fn plain_of(rest: u128) -> Option<u128>
     text_len_of(rest.checked_sub(PAYLOAD_NONCE_LEN as u128)?)
 }
 
-/// Reads a source to its end, and reports what it holds: the header's length in bytes, its stanzas,
-/// how many bytes follow it, and the length in bytes of the plaintext that a payload of that length
-/// holds (<https://c2sp.org/age#header>, <https://c2sp.org/age#payload>). It opens nothing, so it
-/// checks neither the header's MAC nor any chunk.
+/// Reads a source to its end, and returns a report: the header's length in bytes, its stanzas, the
+/// number of bytes after it, and the length of the plaintext in a payload of that length
+/// (<https://c2sp.org/age#header>, <https://c2sp.org/age#payload>). Opens nothing, so it checks
+/// neither the header's MAC nor any chunk.
 ///
-/// Refuses with the header's fault (1 to 8), `Read` (26), `Memory` (28) and `ReadNeverEnds` (29).
-/// If the bytes that it read have a fault of the header, it refuses with that, not with 26 or 29.
+/// Fails with the header's fault (1 to 8), `Read` (26), `Memory` (28) and `ReadNeverEnds` (29). If
+/// the bytes that it read have a fault of the header, it fails with that, not with 26 or 29.
 pub fn inspect<S: Source>(alloc: Global, source: &mut S) -> Result<Report, FileFault>
     ensures ok { IfOk result (Inspects (S.view source.old).supply
         (S.view source.new).supply) }
@@ -109,11 +111,11 @@ pub fn inspect<S: Source>(alloc: Global, source: &mut S) -> Result<Report, FileF
     })
 }
 
-/// Reports on a source of `len` bytes as `inspect` does, but reads no more of it than its header
-/// and what one pull gives after that. How many bytes follow the header is what `len` leaves,
-/// whatever the source would give. So a failure to read those goes unnoticed.
+/// Returns the report on a source of `len` bytes, as [`inspect`] does, but reads no more than its
+/// header and what one pull gives after that. The number of bytes after the header comes from `len`
+/// alone, so a failure to read them goes unnoticed.
 ///
-/// Refuses with the header's fault (1 to 8), `Read` (26), `Memory` (28) and `ReadNeverEnds` (29).
+/// Fails with the header's fault (1 to 8), `Read` (26), `Memory` (28) and `ReadNeverEnds` (29).
 pub fn inspect_sized<S: Source>(
     alloc: Global,
     len: u64,

@@ -1,4 +1,4 @@
-//! Reports what a file holds, without opening it.
+//! The inspection of a file: reports on it without opening it.
 #![tactic(auto)]
 
 mod inspection;

@@ -1,4 +1,4 @@
--- What was pulled from a source and not used yet.
+-- The buffer of bytes that were pulled from a source and not used yet.
 use Rattle.std.specs.Prelude.{ℕ, List}
 
 -- the bytes that were pulled and not used yet, and how many pulls gave some

@@ -1,4 +1,4 @@
--- When each fault of a header comes.
+-- The faults of reading a header, and when each comes.
 use Rattle.std.specs.Prelude.{◌≡◌, ◌⊎◌, ◌*◌, ◌^◌, ◌<◌, ◌≤◌, ℕ, List, ◌++◌, length}
 use Rattle.age_io.specs.Supply.{Supply}
 use Rattle.age_io.specs.{Consumes, IsAtEnd, SourceView, HasFailed}
@@ -9,12 +9,12 @@ use Rattle.age_chunk.specs.{chunk_length}
 use Rattle.age_fault.specs.declared.fault.FileFault.{FileFault}
 use Rattle.age_fault.specs.declared.fault.FileFault.TheVariants.{Head, Read, Memory, ReadNeverEnds}
 
--- how many bytes one pull gives at most: a chunk's, so that a pull of a plaintext that is encrypted
+-- the most bytes that one pull gives: a chunk's, so that a pull of a plaintext that is encrypted
 -- fills a chunk
 abbrev pub pull_room : ℕ
 pull_room = chunk_length
 
--- the bytes end within a header, and hold no fault so far
+-- the bytes end within a header, and have no fault so far
 pub record EndsInHeader (bytes : List ℕ) : Type 0 where
   pub no_header : HasHeader bytes → ⊥
   pub no_fault : NoFault bytes
@@ -45,16 +45,16 @@ IsByAllPulls count = (2 ^ 63 ≤ count) × (count ≤ pull_room * 2 ^ 63)
 abbrev pub NeverEnds : Supply → Supply → Type 0
 NeverEnds old new = (bytes : List ℕ) × Consumes old new bytes × IsByAllPulls (length bytes)
 
--- the bytes that came end within a header, and hold no fault so far
+-- the bytes that came end within a header, and have no fault so far
 abbrev pub InHeader : Supply → Supply → Type 0
 InHeader old new = (bytes : List ℕ) × Consumes old new bytes × EndsInHeader bytes
 
--- the bytes that came end within a header and hold no fault so far, or they begin with a header
+-- the bytes that came end within a header and have no fault so far, or they begin with a header
 abbrev pub NoHeadFault : Supply → Supply → Type 0
 NoHeadFault old new = (bytes : List ℕ) × Consumes old new bytes
     × (EndsInHeader bytes ⊎ HasHeader bytes)
 
--- no more than one pull gives came after bytes that end within a header and hold no fault
+-- no more than one pull gives came after bytes that end within a header and have no fault
 pub record StopsAtHeader (old new : Supply) : Type 0 where
   pub before : List ℕ
   pub last : List ℕ
@@ -62,7 +62,8 @@ pub record StopsAtHeader (old new : Supply) : Type 0 where
   pub few : length last ≤ pull_room
   pub in_header : EndsInHeader before
 
--- when each fault comes. No more bytes came only if those that did are sound: they hold no fault
+-- the fault of reading a header, and when it comes. No more bytes came only if those that did are
+-- sound
 abbrev pub HeadFails : (Sound : Supply → Supply → Type 0) → SourceView
     → SourceView → FileFault → Type 0
 HeadFails Sound old new (Head fault) = ReportsFault old.supply new.supply fault

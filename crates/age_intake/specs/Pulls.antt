@@ -1,4 +1,4 @@
--- What pulls into the intake did, and what was read of a header.
+-- The pulls into the buffer, and what was read of a header.
 use Rattle.std.specs.Prelude.{◌≡◌, ℕ, ◌+◌, ◌*◌, ◌^◌, ◌<◌, ◌≤◌, List, [], ◌++◌, length, Result, Ok}
 use Rattle.std.specs.Prelude.{Err, Bool, true, false, not}
 use Rattle.age_io.specs.Supply.{Supply}
@@ -12,32 +12,36 @@ use Rattle.age_intake.specs.Buffer.{Unread}
 use Rattle.age_intake.specs.declared.reader.Reader.{Reader}
 use Rattle.age_intake.specs.declared.head.Head.{Head}
 
--- ---- Where a run stands, by its reader and its writer.
+-- ---- The state of a run, by its reader and its writer.
 
--- what is seen of a source, and what was pulled of it and not used yet
+-- the view of a source with its buffer
 pub record ReaderView : Type 0 where
   pub source : SourceView
   pub unread : Unread
 
+-- the view of a source and of a buffer together
 abbrev pub reader_view : SourceView → Unread → ReaderView
 reader_view source unread = record { source = source; unread = unread }
 
+-- the view of a reader, by the view of its source
 abbrev pub view_of_reader : {S : Type 0} → (S → SourceView) → Reader S → ReaderView
 view_of_reader source r = reader_view (source r.source.now) r.intake.now
 
--- a reader still has the same source, of the same name, and the same intake
+-- a reader still has the same source, of the same name, and the same buffer
 abbrev pub SameReader : {S : Type 0} → (S → SourceView) → Reader S → Reader S → Type 0
 SameReader source old new = (new.source.ghost_name ≡ old.source.ghost_name)
     × (new.intake.ghost_name ≡ old.intake.ghost_name)
     × ((source new.source.now).label ≡ (source old.source.now).label)
 
--- ---- What pulls into the intake did.
+-- ---- The pulls into the buffer.
 
--- where pulls began at a source, and how many bytes of another came by those that are counted on
+-- the beginning of some pulls: the bytes of the source, and how many bytes of another source came
+-- by the pulls that are counted on
 pub record Start : Type 0 where
   pub source : Supply
   pub before : ℕ
 
+-- the beginning of pulls at this source, before which none were made
 abbrev pub start_at : Supply → Start
 start_at source = record { source = source; before = 0 }
 
@@ -48,13 +52,14 @@ pub record Pulled (start : Start) (now : Supply) (pulls : ℕ) (bytes : List ℕ
   pub small : start.before + length bytes ≤ pull_room * pulls
   pub most : pulls ≤ 2 ^ 63
 
--- why a source gave nothing: the pull failed, or none was made, since 2^63 gave some
+-- the reason why a source gave nothing: the pull failed, or none was made, since 2^63 gave some
 abbrev pub PullFails : ReaderView → ReaderView → FileFault → Type 0
 PullFails old new Read = HasFailed old.source.failed new.source.failed new.source.failing
 PullFails old new ReadNeverEnds = (new.unread.pulls ≡ 2 ^ 63)
     × (new.source.failed ≡ old.source.failed)
 PullFails old new other = ⊥
 
+-- the buffer after one pull: it has bytes, or the source is at its end, or there was a fault
 abbrev pub Refilled : ReaderView → ReaderView → Result Bool FileFault → Type 0
 Refilled old new (Ok true) = (0 < length new.unread.bytes) × (length new.unread.bytes ≤ pull_room)
     × (new.unread.pulls ≤ 2 ^ 63) × (new.unread.pulls ≡ old.unread.pulls + 1)
@@ -77,7 +82,7 @@ pub record Refills (old new : ReaderView) (result : Result Bool FileFault) : Typ
       → Pulled start old.source.supply old.unread.pulls bytes
       → Pulled start new.source.supply new.unread.pulls (bytes ++ new.unread.bytes)
 
--- a header was read, and what follows it is in the intake: it came with the last pull
+-- a header was read, and the bytes after it are in the buffer: they came with the last pull
 pub record ReadsHead (old : SourceView) (new : ReaderView) (head : Head) : Type 0 where
   pub front : List ℕ
   pub text : HeadText head.header front
@@ -90,9 +95,9 @@ pub record ReadsHead (old : SourceView) (new : ReaderView) (head : Head) : Type 
   pub unfailed : new.source.failed ≡ old.failed
   pub goes_on : new.source.supply.is_at_end ≡ false
 
--- ---- What was read up to a payload.
+-- ---- The bytes that were read up to a payload.
 
--- bytes of the intake were used, after those that were used before
+-- bytes of the buffer were used, after those that were used before
 abbrev pub Uses : ReaderView → ReaderView → List ℕ → Type 0
 Uses old new bytes = (start : Start) (used : List ℕ)
     → Pulled start old.source.supply old.unread.pulls (used ++ old.unread.bytes)

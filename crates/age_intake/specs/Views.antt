@@ -1,14 +1,17 @@
--- What an engine's contract sees of its source and sink.
+-- The contract view of an engine's source and sink.
 use Rattle.std.specs.Prelude.{◌≡◌}
 use Rattle.age_io.specs.{SourceView, SinkView, HasFailed}
 
+-- the views of an engine's source and of its sink
 pub record Ports : Type 0 where
   pub source : SourceView
   pub sink : SinkView
 
+-- the views of this source and of this sink
 abbrev pub ports : SourceView → SinkView → Ports
 ports source sink = record { source = source; sink = sink }
 
+-- no call of the source or of the sink failed
 abbrev pub NoneFailed : Ports → Ports → Type 0
 NoneFailed old new = (new.source.failed ≡ old.source.failed) × (new.sink.failed ≡ old.sink.failed)
 

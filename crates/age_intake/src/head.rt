@@ -1,4 +1,4 @@
-//! Reads the header at the beginning of a source.
+//! The reading of the header at the beginning of a source.
 
 ghost use Rattle.std.specs.Prelude.{◌≡◌, ℕ, List, [], IfOk, IfErr};
 ghost use Rattle.age_intake.specs.Headers.{HeadFails, InHeader};
@@ -13,15 +13,18 @@ use age_stanza::{HeadFault, HeadParser, HeadStep, Header};
 use sha2::{Digest, Sha256};
 use std::alloc::Global;
 
-/// A header that was read, the length of its text in bytes, and the digest that was fed the text.
+/// A header that was read from a source.
 #[derive(Drop)]
 pub struct Head {
+    /// The header.
     pub header: Header,
+    /// The length of the header's text in bytes.
     pub len: u64,
+    /// The SHA-256 digest that was fed the header's text.
     pub digest: Sha256,
 }
 
-/// The text of a header that is being read: what parses it, its length so far in bytes, and the
+/// The state of reading a header: the parser, the length of the text so far in bytes, and the
 /// digest that was fed it.
 #[derive(Drop)]
 struct HeadReader {
@@ -31,7 +34,7 @@ struct HeadReader {
 }
 
 impl HeadReader {
-    /// Nothing has been read yet.
+    /// Makes the state in which nothing was read.
     fn new(alloc: Global) -> HeadReader
         ensures { IsFront result [] }
     {
@@ -42,7 +45,7 @@ impl HeadReader {
         }
     }
 
-    /// The header of this text, with what was counted and hashed.
+    /// Adds the length and the digest to the header that was parsed.
     fn head(self, header: Header) -> Head
         ensures { result ≡ head_of header self }
     {
@@ -53,7 +56,8 @@ impl HeadReader {
         }
     }
 
-    /// Takes the bytes that were pulled, up to the header's end. Those after it stay.
+    /// Parses the bytes that were pulled, up to the header's end, and returns the header if it is
+    /// complete. The bytes after it stay in the buffer.
     fn take(&mut self, intake: &mut Intake) -> Result<Option<Header>, HeadFault>
         requires { IsReading self.old }
         ensures { (held : List ℕ) → IsFront self.old held
@@ -77,7 +81,8 @@ impl HeadReader {
     }
 }
 
-/// Reads a header. The bytes that follow it and were pulled with it are left in the intake.
+/// Reads a header from a source. The bytes that follow it and were pulled with it stay in the
+/// buffer. Requires that nothing was pulled before.
 pub fn read_head<S: Source>(alloc: Global, reader: &mut Reader<'_, S>) -> Result<Head, FileFault>
     requires { (reader.old.intake.now.bytes ≡ []) × (reader.old.intake.now.pulls ≡ 0) }
     ensures found { IfOk result (ReadsHead (S.view reader.old.source.now)

@@ -1,4 +1,4 @@
-//! The bytes that were pulled from a source and haven't been used yet.
+//! A buffer of bytes that were read from a source and not used yet.
 
 ghost use Rattle.std.specs.Prelude.{◌≡◌, ◌≤◌, ℕ, List, [], length, drop, IfOk};
 ghost use Rattle.age_intake.specs.Pulls.{Passes, Refills, reader_view};
@@ -10,15 +10,14 @@ use age_io::Source;
 use std::alloc::{AllocError, Global};
 use std::marker::Model;
 
-/// After this many pulls that gave bytes, a call decides that its sources never end.
+/// The number of pulls that gave bytes after which a call decides that its sources never end.
 const MOST_PULLS: u64 = 9_223_372_036_854_775_808;
 
-/// How many bytes are pulled at once, at most: a chunk's, so that a pull of a plaintext that is
-/// encrypted fills a chunk.
+/// The size of the buffer, and so the most bytes of one pull. It is a chunk's, so that a pull of a
+/// plaintext that is encrypted fills a chunk.
 const PULL_ROOM: usize = CHUNK_LEN;
 
-/// The bytes that were pulled from a source and not used yet, and how many pulls of the call gave
-/// some.
+/// A buffer of bytes that were read and not used yet. Counts the reads that gave some.
 #[derive(Drop)]
 pub struct Intake {
     buffer: Vec<u8>,
@@ -45,6 +44,7 @@ impl Model for Intake {
 }
 
 impl Intake {
+    /// Makes an empty buffer. Its memory is allocated now.
     pub fn new(alloc: Global) -> Result<Intake, AllocError>
         ensures { IfOk result (λ i. (i.bytes ≡ []) × (i.pulls ≡ 0)) }
     {
@@ -57,7 +57,7 @@ impl Intake {
         })
     }
 
-    /// Counts on from the pulls of the call's other source.
+    /// Continues the count of another source's pulls in this call.
     pub fn count_on(&mut self, other: &Intake)
         ensures bytes { self.new.bytes ≡ self.old.bytes }
         ensures pulls { self.new.pulls ≡ other.now.pulls }
@@ -66,7 +66,7 @@ impl Intake {
         self.pulls = other.pulls;
     }
 
-    /// The bytes that haven't been used yet.
+    /// Returns the bytes that weren't used yet.
     pub fn bytes(&self) -> &[u8]
         ensures bytes { result.now ≡ self.now.bytes }
         ensures most { length result.now ≤ pull_room }
@@ -74,7 +74,7 @@ impl Intake {
         &self.buffer[self.from..self.to]
     }
 
-    /// Drops the first bytes, which were used.
+    /// Removes the first `n` bytes, which were used.
     pub fn use_front(&mut self, n: usize)
         requires { n ≤ length self.old.bytes }
         ensures bytes { self.new.bytes ≡ drop n self.old.bytes }
@@ -83,7 +83,7 @@ impl Intake {
         self.from += n;
     }
 
-    /// Uses all bytes.
+    /// Removes all bytes, which were used.
     pub fn use_all(&mut self)
         ensures bytes { self.new.bytes ≡ [] }
         ensures pulls { self.new.pulls ≡ self.old.pulls }
@@ -91,8 +91,8 @@ impl Intake {
         self.from = self.to;
     }
 
-    /// Passes over bytes that are to come, if all that came were used, and returns how many. They
-    /// count as the fewest pulls that could have given them.
+    /// Skips at most `most` bytes of the source, and returns the number skipped. They count as the
+    /// fewest pulls that could have given them. The buffer must be empty.
     pub fn skip<S: Source>(&mut self, source: &mut S, most: u64) -> u64
         requires { self.old.bytes ≡ [] }
         ensures bound { result ≤ most }
@@ -108,7 +108,8 @@ impl Intake {
         n
     }
 
-    /// Pulls, if all bytes were used. False means that the source is at its end.
+    /// Fills the buffer, which must be empty, by one pull. Returns `false` at the end of input.
+    /// Fails if the pull fails, or after 2^63 pulls.
     pub fn refill<S: Source>(&mut self, source: &mut S) -> Result<bool, FileFault>
         requires { self.old.bytes ≡ [] }
         ensures refills { Refills (reader_view (S.view source.old) self.old)

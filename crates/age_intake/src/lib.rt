@@ -1,4 +1,4 @@
-//! What the engines of age files read: the bytes that were pulled from a source and not used yet, and
+//! The input of the engines of age files: a buffer of bytes that were read and not used yet, and
 //! the header with which a file begins.
 #![tactic(auto)]
 

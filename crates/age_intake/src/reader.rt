@@ -1,10 +1,12 @@
-//! A source with what was pulled from it.
+//! A source with its buffer.
 
 use crate::intake::Intake;
 
-/// A source, and the bytes that were pulled from it and not used yet.
+/// A source, with the buffer of bytes that were read from it and not used yet.
 #[derive(Drop)]
 pub struct Reader<'a, S> {
+    /// The source.
     pub source: &'a mut S,
+    /// The buffer of the source.
     pub intake: &'a mut Intake,
 }

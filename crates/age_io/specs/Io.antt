@@ -1,22 +1,22 @@
--- What contracts see of sources and sinks.
+-- The contract views of sources and sinks.
 use Rattle.std.specs.Prelude.{ℕ, List, Bool, ◌+◌, ◌-◌, ◌^◌, min, Result, ◌≡◌, []}
 use Rattle.std.specs.Prelude.{◌++◌, ◌⊎◌, length, true, ◌<◌, MatchResult, OnErr}
 use Rattle.age_io.specs.Supply.{Supply}
 use Rattle.age_io.specs.Taken.{Taken, Appends}
 
--- ---- What a contract sees of a source, and of a sink.
+-- ---- The contract view of a source, and of a sink.
 
--- the bytes that came and that are still to come, how many pulls have failed, and whether the last
--- one did; the count stays at the greatest value of its type; and the name that it goes by, which no
--- call changes
+-- the view of a source: the bytes that it gave and those to come; how many pulls have failed, at
+-- most the greatest value of the count's type, and whether the last one did; and the source's name,
+-- which no call changes
 pub record SourceView : Type 0 where
   pub supply : Supply
   pub failed : ℕ
   pub failing : Bool
   pub label : List ℕ
 
--- the bytes that were taken, how many puts and flushes have failed, whether the last of them did,
--- and whether what was taken was sent on, which is true if the sink doesn't say
+-- the view of a sink: the bytes that it took; how many puts and flushes have failed, and whether
+-- the last of them did; and whether it was flushed, which is true if the sink doesn't say
 pub record SinkView : Type 0 where
   pub taken : Taken
   pub failed : ℕ
@@ -38,7 +38,7 @@ HasFailed old new failing = (new ≡ one_more old) × (failing ≡ true)
 abbrev pub HasRisen : ℕ → ℕ → Type 0
 HasRisen old new = (old < new) ⊎ (new ≡ 2 ^ 64 - 1)
 
--- ---- What a write of some bytes did.
+-- ---- The write of some bytes.
 
 -- the front of the bytes was taken and counted: all of them; or fewer, once a put failed, which is
 -- the only one that did, and the last

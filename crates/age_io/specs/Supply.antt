@@ -1,10 +1,10 @@
--- What a source gave, whatever it is over.
+-- The bytes that a source gave, whatever it is over.
 use Rattle.std.specs.Prelude.{◌≡◌, ℕ, List, ◌++◌, ◌<◌, Option, Bool, true, false, Result, MatchResult}
 use Rattle.std.specs.Prelude.{length, take}
 use Rattle.std.specs.Io.KnownBytes as known
 
--- the bytes of a source: those that it gave or passed over so far, those that are still to come if
--- they are shown, and whether the last pull that didn't fail found that none are
+-- the bytes of a source: those that it gave or skipped so far, those that are still to come if they
+-- are shown, and whether the last pull that didn't fail found the end
 pub record Supply : Type 0 where
   pub given : List ℕ
   pub left : Option (List ℕ)
@@ -15,8 +15,8 @@ pub record Consumes (old new : Supply) (bytes : List ℕ) : Type 0 where
   pub given : new.given ≡ old.given ++ bytes
   pub left : known.Consumes old.left new.left bytes
 
--- a source passed over this many bytes, which nobody read: nothing else is known of them, unless what
--- was to come is shown
+-- a source skipped this many bytes, which nobody read: nothing else is known of them, unless the
+-- bytes to come are shown
 abbrev pub Skips : Supply → Supply → ℕ → Type 0
 Skips old new n = (bytes : List ℕ) × (length bytes ≡ n) × Consumes old new bytes
     × (new.is_at_end ≡ old.is_at_end)

@@ -1,9 +1,9 @@
--- What a sink took, whatever it is over.
+-- The bytes that a sink took, whatever it is over.
 use Rattle.std.specs.Prelude.{◌≡◌, ℕ, List, ◌++◌, Option, Result, MatchResult, take}
 use Rattle.std.specs.Io.KnownBytes as known
 
--- the bytes of a sink: those that it took since it was made, and those that what it is over holds,
--- if they are shown; and the name that it goes by, which no call changes
+-- the bytes of a sink: those that it took since it was made, and its contents, if they are shown;
+-- and its name, which no call changes
 pub record Taken : Type 0 where
   pub bytes : List ℕ
   pub contents : Option (List ℕ)

@@ -1,33 +1,34 @@
-//! What sources, sinks and memory return when they fail.
+//! The errors of sources, sinks and memory.
 
 ghost use Rattle.std.specs.Prelude.{◌≡◌, None};
 
 use thiserror::Error;
 
-/// A source or a sink failed. It moved no bytes, and counted the failure.
+/// The error that a source or a sink failed. The call moved no bytes, and the source or sink
+/// counted the failure.
 #[derive(Clone, Copy, Debug, PartialEq, Eq, Error)]
 #[error("a source or a sink failed")]
 pub struct Failed;
 
-/// A sink failed, so it took not all of some bytes, or didn't send on what it had taken.
+/// The error that a sink failed before it took all bytes, or that it could not be flushed.
 #[derive(Clone, Copy, Debug, PartialEq, Eq, Error)]
 #[error("a sink failed")]
 pub struct Unsent;
 
-/// Out of memory.
+/// The error that memory ran out.
 #[derive(Clone, Copy, Debug, PartialEq, Eq, Error)]
 #[error("out of memory")]
 pub struct Memory;
 
 impl Memory {
-    /// The number of this fault in the list of all faults.
+    /// Returns 28, the number of this fault in the list of all faults (docs/FAULTS.md).
     pub fn number(&self) -> u8
         ensures { result ≡ 28 }
     {
         28
     }
 
-    /// The place of the fault, which running out of memory doesn't have.
+    /// Returns `None`, since running out of memory has no place.
     pub fn place(&self) -> Option<u64>
         ensures { result ≡ None }
     {

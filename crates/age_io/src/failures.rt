@@ -1,21 +1,21 @@
-//! How many calls of a source or a sink failed.
+//! A count of the calls of a source or a sink that failed.
 
 ghost use Rattle.std.specs.Prelude.{◌≡◌, false, MatchResult, is_err};
 ghost use Rattle.age_io.specs.{one_more};
 
 use crate::failed::Failed;
 
-/// How many calls of a source or a sink have failed, and whether the last one did.
+/// A count of the calls of a source or a sink that failed, with whether the last one did.
 #[derive(Clone, Copy, PartialEq, Eq)]
 pub struct Failures {
-    /// How many have failed. It stays at 2^64 - 1 once it is that.
+    /// The number of failed calls, saturating at `u64::MAX`.
     pub count: u64,
-    /// Whether the last one did.
+    /// `true` if the last call failed.
     pub last: bool,
 }
 
 impl Failures {
-    /// No failures, as before the first call.
+    /// Returns a count of no failures, as before the first call.
     pub fn none() -> Failures
         ensures { result ≡ record { count = 0; last = false } }
     {
@@ -25,7 +25,7 @@ impl Failures {
         }
     }
 
-    /// Counts a call, and returns its result.
+    /// Counts a call if it failed, and returns its result.
     pub fn note<T>(&mut self, call: Result<T, Failed>) -> Result<T, Failed>
         ensures result { result ≡ call }
         ensures counted { MatchResult call (λ _. self.new.count ≡ self.old.count)

@@ -1,9 +1,10 @@
-//! Where the bytes of age files come from, and where they go.
+//! Sources, which give the bytes of age files, and sinks, which take them.
 //!
-//! A `Source` gives bytes and a `Sink` takes them. Both count their failures. `Reading` and
-//! `Writing` are those over std's readers and writers; those over memory stand in `age_memory`. A
-//! `Metered` source reports to a `Meter` how many bytes each pull gave. A `List` is what other crates
-//! keep elements in, a `Tape` shows contracts bytes that went by, and a `Seen` any other value.
+//! Each [`Source`] and each [`Sink`] counts its failures. [`Reading`] and [`Writing`] are those
+//! over std's readers and writers; those in memory stand in `age_memory`. A [`Metered`] source
+//! reports to a [`Meter`] how many bytes each pull gave. A [`List`] is what other crates keep
+//! elements in. A [`Tape`] shows contracts the bytes that were moved, and a [`Seen`] any other
+//! value. Ghost: no bytes at run time.
 #![tactic(auto)]
 
 mod failed;

@@ -1,19 +1,19 @@
-//! A list. A `Vec` in a record would show a contract its capacity too; this shows the elements
-//! alone, so that what holds it can be compared with its definition.
+//! A list that shows contracts its elements alone. A `Vec` would also show its capacity, so a type
+//! that has one could not be compared with its definition.
 
 ghost use Rattle.std.specs.Prelude.{◌≡◌, ◌↔◌, ◌++◌, ◌∷◌, [], length, IsTrue, IfOk, OnOk, OnErr};
 
 use std::alloc::{AllocError, Global};
 use std::marker::Model;
 
-/// Some elements in their order. An empty list allocates nothing. A contract sees the list of the
+/// A list of elements in order. An empty list allocates nothing. Contracts see the list of the
 /// elements.
 #[derive(Drop)]
 pub struct List<T> {
     items: Vec<T>,
 }
 
-/// Some bytes, as the body of a header's stanza.
+/// A list of bytes, such as the body of a stanza.
 pub type Bytes = List<u8>;
 
 impl<T> Model for List<T> {
@@ -25,7 +25,7 @@ impl<T> Model for List<T> {
 }
 
 impl<T: Drop> List<T> {
-    /// The empty list. Allocates nothing.
+    /// Returns an empty list. Allocates nothing.
     pub fn new(alloc: Global) -> List<T>
         ensures { result ≡ [] }
     {
@@ -34,42 +34,42 @@ impl<T: Drop> List<T> {
         }
     }
 
-    /// The elements of a vector. Allocates nothing.
+    /// Makes a list of the elements of a vector. Allocates nothing.
     pub fn from_vec(items: Vec<T>) -> List<T>
         ensures { result ≡ items.items }
     {
         List { items }
     }
 
-    /// The elements as a vector. Allocates nothing.
+    /// Returns the elements as a vector. Allocates nothing.
     pub fn into_vec(self) -> Vec<T>
         ensures { result.items ≡ self }
     {
         self.items
     }
 
-    /// The elements in their order.
+    /// Returns the elements as a slice.
     pub fn as_slice(&self) -> &[T]
         ensures { result.now ≡ self.now }
     {
         self.items.as_slice()
     }
 
-    /// How many elements there are.
+    /// Returns the number of elements.
     pub fn len(&self) -> usize
         ensures { result ≡ length self.now }
     {
         self.items.len()
     }
 
-    /// Whether there is no element.
+    /// Returns whether the list is empty.
     pub fn is_empty(&self) -> bool
         ensures { IsTrue result ↔ (self.now ≡ []) }
     {
         self.items.is_empty()
     }
 
-    /// Adds an element at the end. If memory runs out, the list is unchanged.
+    /// Appends an element. Leaves the list unchanged if memory runs out.
     pub fn push(&mut self, item: T) -> Result<(), AllocError>
         ensures ok { OnOk result (self.new ≡ self.old ++ item ∷ []) }
         ensures err { OnErr result (self.new ≡ self.old) }
@@ -80,7 +80,7 @@ impl<T: Drop> List<T> {
 }
 
 impl<T: Copy> List<T> {
-    /// A copy of some elements.
+    /// Makes a list of copies of the elements of a slice.
     pub fn from_slice(alloc: Global, items: &[T]) -> Result<List<T>, AllocError>
         ensures { IfOk result (λ copy. copy ≡ items.now) }
     {
@@ -89,7 +89,7 @@ impl<T: Copy> List<T> {
         })
     }
 
-    /// Adds copies of some elements at the end. If memory runs out, the list is unchanged.
+    /// Appends copies of the elements of a slice. Leaves the list unchanged if memory runs out.
     pub fn extend_from_slice(&mut self, more: &[T]) -> Result<(), AllocError>
         ensures ok { OnOk result (self.new ≡ self.old ++ more.now) }
         ensures err { OnErr result (self.new ≡ self.old) }

@@ -1,14 +1,14 @@
-//! What is shown how far a run has come.
+//! The trait of meters, which are told the progress of a run.
 
-/// Is shown how far a run has come, in bytes. No method returns anything, so code that is generic
-/// over a meter can report to it, but never depend on it.
+/// A meter, which is told the progress of a run in bytes. No method returns anything, so code that
+/// is generic over a meter can report to it, but never depend on it.
 pub trait Meter {
-    /// A run begins. `length` says how many bytes it reads, if that is known.
+    /// Notes that a run begins. `length` is the number of bytes that it reads, if that is known.
     fn begin(&mut self, length: Option<u64>);
 
-    /// This many more bytes were read, or passed over.
+    /// Notes that `bytes` more bytes were read or skipped.
     fn advance(&mut self, bytes: u64);
 
-    /// The run is over.
+    /// Notes that the run is over.
     fn end(&mut self);
 }

@@ -6,8 +6,8 @@ use crate::failed::Failed;
 use crate::meter::Meter;
 use crate::source::Source;
 
-/// A source that passes on what another one gives, and reports to a meter, if there is one, how many
-/// bytes each pull gave. Contracts see the source alone.
+/// A source that passes on the bytes of another one, and reports to a meter, if there is one, how
+/// many bytes each pull gave. Contracts see the source alone.
 #[derive(Drop)]
 pub struct Metered<'m, S: Source, M: Meter> {
     /// The source that gives the bytes.
@@ -16,7 +16,8 @@ pub struct Metered<'m, S: Source, M: Meter> {
 }
 
 impl<'m, S: Source, M: Meter> Metered<'m, S, M> {
-    /// Begins a run over a source, and tells the meter of how many bytes, if that is known.
+    /// Wraps a source, and tells the meter that a run begins. `length` is the number of bytes that
+    /// the run reads, if that is known.
     pub fn new(source: S, meter: Option<&'m mut M>, length: Option<u64>) -> Metered<'m, S, M>
         ensures { result.source ≡ source }
     {
@@ -27,7 +28,7 @@ impl<'m, S: Source, M: Meter> Metered<'m, S, M> {
         metered
     }
 
-    /// Ends the run.
+    /// Tells the meter that the run is over.
     pub fn end(&mut self)
         ensures { self.new.source ≡ self.old.source }
     {

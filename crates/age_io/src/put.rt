@@ -1,4 +1,4 @@
-//! Writes all of some bytes, and counts them; flushes.
+//! Functions that write all of some bytes to a sink, or flush it.
 
 ghost use Rattle.std.specs.Prelude.{◌≡◌, ◌+◌, ◌^◌, ◌<◌, length, OnOk, MatchResult, true};
 ghost use Rattle.age_io.specs.Taken.{Keeps};
@@ -7,9 +7,8 @@ ghost use Rattle.age_io.specs.{HasFailed, Writes};
 use crate::failed::Unsent;
 use crate::sink::Sink;
 
-/// Writes all of some bytes, and adds to `written` as many as the sink took. Requires that the sum
-/// is below 2^128. If a put fails, it makes no other, and the bytes that were taken before are
-/// counted.
+/// Writes all of `bytes`, and adds to `written` how many the sink took. Fails at the first put that
+/// fails; the bytes taken before are counted. The sum must be below 2^128.
 pub fn write_all<O: Sink>(sink: &mut O, bytes: &[u8], written: &mut u128) -> Result<(), Unsent>
     requires { written.old + length bytes.now < 2 ^ 128 }
     ensures writes { Writes (O.view sink.old) (O.view sink.new) written.old written.new bytes.now result }
@@ -27,7 +26,7 @@ pub fn write_all<O: Sink>(sink: &mut O, bytes: &[u8], written: &mut u128) -> Res
     Ok(())
 }
 
-/// Flushes the sink.
+/// Flushes a sink.
 pub fn flush_all<O: Sink>(sink: &mut O) -> Result<(), Unsent>
     ensures flushed { OnOk result ((O.view sink.new).flushed ≡ true) }
     ensures bytes { Keeps (O.view sink.old).taken (O.view sink.new).taken }

@@ -1,21 +1,21 @@
-//! A value that contracts see, and that no code holds.
+//! Ghost values, which contracts see and no code has.
 
 ghost use Rattle.std.specs.Prelude.{◌≡◌};
 ghost use Rattle.std.specs.Borrow.{ftrue};
 
 use std::marker::{Model, PhantomData};
 
-/// What shows contracts a value of another type.
+/// A type that shows contracts a value of type `T`.
 pub trait Shows<T> {
     // The value, as contracts see a `T`.
     ghost shows: { Self → T };
 }
 
-/// A `T` that contracts see, and that no code holds: the proof of `of` sets it. It has no bytes at
-/// run time.
+/// A ghost value of type `T`, set by [`Seen::of`]. Ghost: no bytes at run time.
 #[derive(Drop)]
 pub struct Seen<T> {
     of: PhantomData<T>,
+    /// The value that contracts see.
     pub ghost value: { T },
 }
 
@@ -24,7 +24,7 @@ impl<T> Model for Seen<T> {
 }
 
 impl<T> Seen<T> {
-    /// The value that this shows.
+    /// Makes the ghost value that `_note` shows.
     pub fn of<N: Shows<T>>(_note: &N) -> Seen<T>
         ensures { result.value ≡ N.shows _note.now }
     {

@@ -1,4 +1,4 @@
-//! Where bytes go.
+//! Sinks, which take bytes.
 
 ghost use Rattle.std.specs.Prelude.{◌≡◌, ◌<◌, ◌≤◌, ℕ, [], length, true, IfOk, OnOk, MatchResult, Bool, List};
 ghost use Rattle.std.specs.Prelude.{false, is_err};
@@ -12,8 +12,8 @@ use crate::tape::Tape;
 use std::io::Write;
 use std::marker::Model;
 
-/// A sink for bytes, such as a file, a pipe or a vector. Whoever writes puts bytes into it, and it
-/// counts the calls that fail. docs/LIBRARY.md has an example, `Measure`.
+/// A sink for bytes, such as a file, a pipe or a vector. Code that writes puts bytes into it, and
+/// it counts the calls that fail. docs/LIBRARY.md has an example, `Measure`.
 pub trait Sink {
     // The bytes that were taken, and those that it holds, if they are shown, with the name that the
     // sink goes by, so that a set of files can say where its bytes end up; how many puts and flushes
@@ -21,7 +21,7 @@ pub trait Sink {
     // the next put may undo.
     ghost view: { Self → SinkView };
 
-    /// Takes bytes from the beginning of a slice, and returns how many: at least one, unless the
+    /// Takes bytes from the beginning of a slice, and returns their number: at least 1, unless the
     /// slice is empty. A put that fails takes no bytes.
     fn put(&mut self, from: &[u8]) -> Result<usize, Failed>
         ensures bound { IfOk result (λ n. (n ≤ length from.now) × (0 < length from.now → 0 < n)) }
@@ -31,7 +31,7 @@ pub trait Sink {
             (λ _. (view self.new).failed ≡ one_more (view self.old).failed) }
         ensures last { (view self.new).failing ≡ is_err result };
 
-    /// Sends on what was taken.
+    /// Flushes the sink: sends on the bytes that it has taken.
     fn flush(&mut self) -> Result<(), Failed>
         ensures flushed { OnOk result ((view self.new).flushed ≡ true) }
         ensures bytes { Keeps (view self.old).taken (view self.new).taken }
@@ -40,15 +40,15 @@ pub trait Sink {
             (λ _. (view self.new).failed ≡ one_more (view self.old).failed) }
         ensures last { (view self.new).failing ≡ is_err result };
 
-    /// How many puts and flushes have failed.
+    /// Returns the number of puts and flushes that have failed.
     fn failures(&self) -> u64
         ensures { result ≡ (view self.now).failed };
 }
 
-/// A sink over one of the machine's writers. It shows contracts the bytes that it took, and what the
-/// writer shows that it holds, which for a file, a pipe or a terminal is nothing. A writer that
-/// takes none of the bytes that it is given counts as failed. A contract also sees the writer, how
-/// many puts and flushes have failed, and whether the last of them did.
+/// A sink over one of std's writers. A write that takes none of the bytes that it is given counts
+/// as failed. Contracts see the writer, the bytes that it took, how many puts and flushes have
+/// failed, and whether the last of them did. They also see the writer's contents, if it shows them;
+/// a file, a pipe or a terminal doesn't.
 #[derive(Drop)]
 pub struct Writing<W: Write> {
     inner: W,
@@ -65,7 +65,7 @@ impl<W: Write> Model for Writing<W> {
 }
 
 impl<W: Write> Writing<W> {
-    /// A sink that passes bytes on to this writer.
+    /// Makes a sink that passes bytes on to a writer.
     pub fn new(inner: W) -> Writing<W>
         ensures { result ≡ (inner, ((0, false), [])) }
     {

@@ -1,4 +1,4 @@
-//! Where bytes come from.
+//! Sources, which give bytes.
 
 ghost use Rattle.std.specs.Prelude.{◌≡◌, ◌≤◌, ℕ, Bool, false, [], length, IfOk, MatchResult, is_err, List};
 ghost use Rattle.age_io.specs.{ReadConsumes, Skips, one_more, SourceView};
@@ -10,16 +10,16 @@ use crate::tape::Tape;
 use std::io::Read;
 use std::marker::Model;
 
-/// A source of bytes, such as a file, a pipe or a vector. Whoever reads pulls from it, and it
-/// counts the pulls that fail. docs/LIBRARY.md has an example, `Counted`.
+/// A source of bytes, such as a file, a pipe or a vector. Code that reads pulls bytes from it, and
+/// it counts the pulls that fail. docs/LIBRARY.md has an example, `Counted`.
 pub trait Source {
     // The bytes that were given, and those that are still to come, if they are shown; how many pulls
     // have failed, and whether the last one did; and the name that the source goes by, so that a set
     // of files can say which file gave its bytes.
     ghost view: { Self → SourceView };
 
-    /// Puts the next bytes at the beginning of a slice, and returns how many: none only at the end,
-    /// or if the slice is empty. A pull that fails moves no bytes.
+    /// Copies the next bytes to the beginning of a slice, and returns their number: 0 only at the
+    /// end of input, or if the slice is empty. A pull that fails moves no bytes.
     fn pull(&mut self, into: &mut [u8]) -> Result<usize, Failed>
         ensures bound { IfOk result (λ n. n ≤ length into.new) }
         ensures bytes { ReadConsumes (view self.old).supply (view self.new).supply result
@@ -30,8 +30,8 @@ pub trait Source {
         ensures last { (view self.new).failing ≡ is_err result }
         ensures named { (view self.new).label ≡ (view self.old).label };
 
-    /// Passes over bytes that are to come, without reading them, and returns how many: at most as
-    /// many as asked for, and none if the source can't, or is at its end.
+    /// Skips bytes to come without reading them, and returns their number: at most `most`, and 0 if
+    /// the source can't skip or is at its end.
     fn skip(&mut self, most: u64) -> u64
         ensures bound { result ≤ most }
         ensures skipped { Skips (view self.old).supply (view self.new).supply result }
@@ -42,15 +42,15 @@ pub trait Source {
         0
     }
 
-    /// How many pulls have failed.
+    /// Returns the number of pulls that have failed.
     fn failures(&self) -> u64
         ensures { result ≡ (view self.now).failed };
 }
 
-/// A source over one of the machine's readers. It shows contracts the bytes that it gave, and those
-/// to come that the reader shows, which for a file, a pipe or a terminal are none. A contract also
-/// sees the reader, how many pulls have failed, whether the last one did, and whether the last that
-/// did not found the end.
+/// A source over one of std's readers. Contracts see the reader, the bytes that it gave, how many
+/// pulls have failed, whether the last one did, and whether the last successful one found the end
+/// of input. They also see the bytes to come, if the reader shows them; a file, a pipe or a
+/// terminal doesn't.
 #[derive(Drop)]
 pub struct Reading<R: Read> {
     inner: R,
@@ -69,7 +69,7 @@ impl<R: Read> Model for Reading<R> {
 }
 
 impl<R: Read> Reading<R> {
-    /// A source of what this reader still has to give.
+    /// Makes a source of the bytes that a reader still has to give.
     pub fn new(inner: R) -> Reading<R>
         ensures { result ≡ (inner, ((0, false), ([], false))) }
     {

@@ -1,4 +1,4 @@
-//! The bytes that a source gave, or that a sink took, for contracts alone.
+//! A record of the bytes that a source gave, or that a sink took. Ghost: no bytes at run time.
 
 ghost use Rattle.std.specs.Prelude.{◌≡◌, [], ◌++◌, List, ℕ, length, option_map, unwrap_or};
 ghost use Rattle.std.specs.Coded.{coded_list, coded_ℕ};
@@ -8,14 +8,16 @@ use crate::list::Bytes;
 use crate::seen::{Seen, Shows};
 use std::marker::Model;
 
-/// Bytes that went by: these, or so many that nobody read.
+/// Bytes that were moved: ones that were read, or a number of unread ones.
 #[derive(Clone, Copy)]
 enum More<'b> {
+    /// Bytes that were read.
     Read(&'b [u8]),
+    /// A number of bytes that nobody read.
     Unread(u64),
 }
 
-/// What went by, if anything, and some bytes more.
+/// The tape before, if any, and more bytes.
 #[derive(Clone, Copy)]
 struct Piece<'a, 'b> {
     before: Option<&'a Seen<Bytes>>,
@@ -27,7 +29,7 @@ impl Shows<Bytes> for Piece<'_, '_> {
         ++ went_by piece.more };
 }
 
-/// The bytes that went by, in order, for contracts alone. It has no bytes at run time.
+/// A record of the bytes that were moved, in order. Ghost: no bytes at run time.
 #[derive(Drop)]
 pub struct Tape {
     bytes: Seen<Bytes>,
@@ -42,7 +44,7 @@ impl Model for Tape {
 }
 
 impl Tape {
-    /// No bytes so far.
+    /// Returns an empty tape.
     pub fn new() -> Tape
         ensures { result ≡ [] }
     {
@@ -55,7 +57,7 @@ impl Tape {
         }
     }
 
-    /// These bytes went by.
+    /// Appends bytes to the tape.
     pub fn note(&mut self, bytes: &[u8])
         ensures { self.new ≡ self.old ++ bytes.now }
     {
@@ -64,7 +66,7 @@ impl Tape {
         self.bytes = Seen::of(&Piece { before, more });
     }
 
-    /// So many bytes went by that nobody read.
+    /// Appends `count` bytes that nobody read to the tape.
     pub fn note_unread(&mut self, count: u64)
         ensures { (bytes : List ℕ) × (length bytes ≡ count) × (self.new ≡ self.old ++ bytes) }
     {

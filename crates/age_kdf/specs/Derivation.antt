@@ -1,4 +1,4 @@
--- How keys are derived from others: HMAC, HKDF and PBKDF2, all with SHA-256.
+-- The derivation of keys from others: HMAC, HKDF and PBKDF2, all with SHA-256.
 use Rattle.std.specs.Prelude.{ℕ, ◌-◌, List, ◌++◌, length, map, replicate, bit_xor, nat_le, if◌then◌else◌, []}
 use Rattle.std.specs.Prelude.{◌∷◌, take}
 use Rattle.std.specs.List.{range_with_len, flat_map}

@@ -16,12 +16,13 @@ ghost use Rattle.age_kdf.specs.{pbkdf2_block, pbkdf2_once};
 
 use sha2::{Digest, Sha256};
 
-/// The bytes that the two pads repeat (RFC 2104, section 2).
+/// The byte that the inner pad repeats (RFC 2104, section 2).
 const INNER_PAD: u8 = 0x36;
 
+/// The byte that the outer pad repeats (RFC 2104, section 2).
 const OUTER_PAD: u8 = 0x5c;
 
-/// At most 64 bytes, followed by zeros up to a block of SHA-256.
+/// Pads a key of at most 64 bytes with zeros to a block of SHA-256 (RFC 2104, section 2).
 fn key_with_zeros(key: &[u8]) -> [u8; 64]
     requires { length key.now ≤ 64 }
     ensures { result ≡ key_with_zeros key.now }
@@ -31,7 +32,7 @@ fn key_with_zeros(key: &[u8]) -> [u8; 64]
     block
 }
 
-/// The key as a block. A key longer than a block is replaced by its digest first.
+/// Converts a key to a block of SHA-256. A key longer than a block is replaced by its digest first.
 #[tactic(auto, unfolding(crate::specs::key_block), using(crate::proofs::BlockLemmas::length_tests))]
 fn key_block(key: &[u8]) -> [u8; 64]
     ensures { result ≡ key_block key.now }
@@ -43,14 +44,14 @@ fn key_block(key: &[u8]) -> [u8; 64]
     }
 }
 
-/// The exclusive or of a block and the pad that repeats a byte.
+/// Returns the exclusive or of a block and the pad that repeats one byte.
 fn xor_pad(block: &[u8; 64], pad: u8) -> [u8; 64]
     ensures { result ≡ xor_pad pad block.now }
 {
     block.map(|byte| byte ^ pad)
 }
 
-/// The HMAC of a message under each key that has this block.
+/// Returns the HMAC of a message, given the block of its key (by [`key_block`]).
 fn hmac_of_block(block: &[u8; 64], parts: &[&[u8]]) -> [u8; 32]
     ensures { (key : List ℕ) → block.now ≡ key_block key
         → result ≡ hmac key (concat (map (λ part. part.now) parts.now)) }
@@ -66,7 +67,7 @@ fn hmac_of_block(block: &[u8; 64], parts: &[&[u8]]) -> [u8; 32]
     outer.finalize()
 }
 
-/// The HMAC-SHA-256 of a message under a key (RFC 2104). The message is the parts joined.
+/// Returns the HMAC-SHA-256 of a message under a key (RFC 2104). The message is the parts joined.
 ///
 /// The key may have any length: one of more than 64 bytes counts as its SHA-256.
 pub fn hmac(key: &[u8], parts: &[&[u8]]) -> [u8; 32]
@@ -75,9 +76,9 @@ pub fn hmac(key: &[u8], parts: &[&[u8]]) -> [u8; 32]
     hmac_of_block(&key_block(key), parts)
 }
 
-/// The 32 bytes that HKDF-SHA-256 derives from input keying material (RFC 5869), by its extract
-/// step and the first block of its expand step. An empty salt means no salt, in place of which 32
-/// zero bytes are used (RFC 5869, section 2.2).
+/// Returns the 32 bytes that HKDF-SHA-256 derives from input keying material (RFC 5869), by its
+/// extract step and the first block of its expand step. An empty salt means no salt, in place of
+/// which 32 zero bytes are used (RFC 5869, section 2.2).
 #[tactic(auto, unfolding(crate::specs::hkdf32, crate::specs::extracted_key, crate::specs::expanded_key))]
 pub fn hkdf32(ikm: &[u8], salt: &[u8], info: &[u8]) -> [u8; 32]
     ensures { result ≡ hkdf32 ikm.now salt.now info.now }
@@ -88,7 +89,8 @@ pub fn hkdf32(ikm: &[u8], salt: &[u8], info: &[u8]) -> [u8; 32]
     hmac(&prk, &[info, &[1]])
 }
 
-/// The block of number `i`, from 1, for each passphrase that has this key block.
+/// Returns block `i` of the output of PBKDF2, from 1, given the block of the passphrase (by
+/// [`key_block`]).
 #[tactic(auto, unfolding(crate::specs::Derivation::pbkdf2_block))]
 fn pbkdf2_block(block: &[u8; 64], salt: &[u8], i: u32) -> [u8; 32]
     ensures { (pass : List ℕ) → block.now ≡ key_block pass

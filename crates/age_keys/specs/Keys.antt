@@ -19,7 +19,8 @@ use Rattle.age_chunk.specs.{payload, chunk_length}
 -- ---- The keys of an age file (C2SP age.md, "File key", "Header MAC", "Payload", "Recipient
 -- stanza").
 
--- the MAC of a header under a file key
+-- the MAC of a header under a file key (C2SP age.md, "Header MAC"): HMAC-SHA-256 of the text that
+-- it covers, under HKDF-SHA-256 of the file key with no salt and the info "header"
 unfoldable pub header_mac : List ℕ → Header → List ℕ
 header_mac key h = hmac (hkdf32 key [] (codes "header")) (mac_text h)
 
@@ -27,7 +28,8 @@ header_mac key h = hmac (hkdf32 key [] (codes "header")) (mac_text h)
 abbrev pub IsMacOf : Header → List ℕ → Type 0
 IsMacOf h key = h.mac ≡ header_mac key h
 
--- the payload key: HKDF of the file key, with the payload nonce as its salt
+-- the payload key (C2SP age.md, "Payload"): HKDF-SHA-256 of the file key with the payload nonce as
+-- its salt and the info "payload"
 unfoldable pub payload_key : List ℕ → List ℕ → List ℕ
 payload_key key nonce = hkdf32 key nonce (codes "payload")
 
@@ -35,17 +37,20 @@ payload_key key nonce = hkdf32 key nonce (codes "payload")
 unfoldable pub position_key : List ℕ → List ℕ → List ℕ
 position_key key nonce = hkdf32 key nonce (codes "age-tool position v2")
 
--- a file key in the body of a stanza: sealed under the wrap key, with a nonce of zeros
+-- the body of a stanza that wraps a file key: ChaCha20-Poly1305 under the wrap key, with a nonce of
+-- zeros
 unfoldable pub wrapped_key : List ℕ → List ℕ → List ℕ
 wrapped_key wrap_key key = sealing wrap_key (replicate 12 0) [] key
 
--- ---- Which bytes are the age file of a plaintext (C2SP age.md).
+-- ---- The age file of a plaintext (C2SP age.md).
 
--- the box of a file key and a payload nonce: how it seals a plaintext at a chunk's nonce, and opens
--- a block there
+-- the sealing of a file key and a payload nonce: of a plaintext at a chunk's nonce, under the
+-- payload key
 abbrev pub box : List ℕ → List ℕ → List ℕ → List ℕ → List ℕ
 box key nonce = λ chunk_nonce text. sealing (payload_key key nonce) chunk_nonce [] text
 
+-- the opening of a file key and a payload nonce: of a block at a chunk's nonce, under the payload
+-- key
 abbrev pub unbox : List ℕ → List ℕ → List ℕ → List ℕ → Option (List ℕ)
 unbox key nonce = λ chunk_nonce block. opening (payload_key key nonce) chunk_nonce [] block
 
@@ -60,14 +65,16 @@ pub record FileOf (h : Header) (key nonce text bytes : List ℕ) : Type 0 where
 
 -- ---- The types of stanzas.
 
--- the first argument of a stanza is its type
+-- a stanza is of a type, which is its first argument
 abbrev pub has_type : List ℕ → List (List ℕ) → Bool
 has_type kind [] = false
 has_type kind (first ∷ others) = bytes_eq first kind
 
+-- a stanza is of type scrypt
 abbrev pub is_scrypt : Stanza → Bool
 is_scrypt s = has_type (codes "scrypt") s.args
 
+-- some stanza of a header is of type scrypt
 abbrev pub has_scrypt : Header → Bool
 has_scrypt h = list_any is_scrypt h.stanzas
 
@@ -75,6 +82,7 @@ has_scrypt h = list_any is_scrypt h.stanzas
 abbrev pub scrypt_not_alone : Header → Bool
 scrypt_not_alone h = nat_lt 1 (length h.stanzas) && has_scrypt h
 
+-- the claim that a scrypt stanza stands beside another stanza
 abbrev pub IsScryptNotAlone : Header → Type 0
 IsScryptNotAlone h = scrypt_not_alone h ≡ true
 
@@ -84,7 +92,7 @@ IsScryptNotAlone h = scrypt_not_alone h ≡ true
 abbrev pub SpellsKey : List ℕ → List ℕ → Type 0
 SpellsKey text key = decode_sized text 16 ≡ Ok key
 
--- ---- What opening a header may return, by the unlocker's two relations.
+-- ---- The results of opening a header, by the unlocker's two relations.
 
 -- the header opens to the file key
 pub record Opens (Allows : Header → List ℕ → Type 0) (h : Header) (key : List ℕ) : Type 0 where
@@ -112,7 +120,7 @@ pub record Refuses (Allows : Header → List ℕ → Type 0) (Refused : Header �
   pub alone : ¬ IsScryptNotAlone h
       → Refused h fault ⊎ ((key : List ℕ) × Allows h key × RefusesKey h key fault)
 
--- nothing but the key and running out of memory may be returned for the header
+-- the only results for the header are the key and running out of memory
 pub record AllowsAlone (Allows : Header → List ℕ → Type 0) (Refused : Header → KeyFault → Type 0)
     (h : Header) (key : List ℕ) : Type 0 where
   -- no scrypt stanza stands beside another
@@ -126,9 +134,9 @@ pub record AllowsAlone (Allows : Header → List ℕ → Type 0) (Refused : Head
   -- the header's MAC was made under the key
   pub mac : IsMacOf h key
 
--- ---- How much work opening a header takes, by a count of scrypt's steps.
+-- ---- The work of opening a header, by a count of scrypt's steps.
 
--- how the count of steps changes as a header is opened or refused
+-- the change of the count of steps as a header is opened or refused
 pub record Counts (most : ℕ) (result : Result (List ℕ) KeyFault) (old new : ℕ) : Type 0 where
   -- no step was made if the fault is found before any work
   pub before : IfErr result (λ fault. OnTrue (is_before_work fault) (new ≡ old))

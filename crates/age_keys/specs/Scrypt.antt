@@ -1,4 +1,4 @@
--- What a passphrase finds in a header (C2SP age.md, "The scrypt recipient type").
+-- The file key that a passphrase finds in a header (C2SP age.md, "The scrypt recipient type").
 use Rattle.std.specs.Prelude.{◌≡◌, ◌≢◌, ℕ, List, [], ◌∷◌, ◌++◌, length, take, codes, ◌*◌, ◌^◌, ◌<◌, ◌≤◌, true}
 use Rattle.std.specs.Prelude.{false}
 use Rattle.std.specs.Fmt.{decimal}
@@ -15,8 +15,8 @@ use Rattle.age_fault.specs.declared.key.KeyFault.TheVariants.{NoMatch, WrongKey,
 
 -- ---- The scrypt stanza.
 
--- the key that a file key is wrapped under: scrypt of the passphrase, salted with a label and the
--- stanza's salt
+-- the wrap key of a passphrase: scrypt, with a label and the stanza's salt as its salt, N = 2^log,
+-- r = 8 and p = 1
 unfoldable pub wrap_key : List ℕ → List ℕ → ℕ → List ℕ
 wrap_key pass salt log = scrypt pass (codes "age-encryption.org/v1/scrypt" ++ salt) log
 
@@ -51,14 +51,14 @@ unfoldable pub scrypt_stanza : List ℕ → ℕ → List ℕ → Stanza
 scrypt_stanza salt log body =
     record { args = codes "scrypt" ∷ base64_text salt ∷ decimal log ∷ []; body = body }
 
--- the header of that one stanza, whose body is the file key wrapped under the passphrase, with the
--- file key's MAC, which covers the stanza alone
+-- the header of one scrypt stanza, whose body is the file key wrapped under the passphrase, with
+-- the file key's MAC, which covers the stanza alone
 unfoldable pub scrypt_head : List ℕ → ℕ → List ℕ → List ℕ → Header
 scrypt_head pass log salt key =
     let stanzas = scrypt_stanza salt log (wrapped_key (wrap_key pass salt log) key) ∷ [] in
     record { stanzas = stanzas; mac = header_mac key (record { stanzas = stanzas; mac = [] }) }
 
--- ---- What a passphrase finds in a header, and what it refuses.
+-- ---- The file key that a passphrase finds in a header, and the headers that it refuses.
 
 -- a passphrase, and the greatest work factor that is accepted with it
 pub record PassphraseIdentity : Type 0 where

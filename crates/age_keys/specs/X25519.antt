@@ -1,4 +1,4 @@
--- What a shared secret finds in a header (C2SP age.md, "The X25519 recipient type").
+-- The file key that a shared secret finds in a header (C2SP age.md, "The X25519 recipient type").
 use Rattle.std.specs.Prelude.{◌≡◌, ℕ, Bool, true, false, List, [], ◌∷◌, length, codes, ◌⊎◌, ◌++◌, Any}
 use Rattle.std.specs.Prelude.{replicate}
 use Rattle.std.specs.List.{list_any, AllByRecursion}
@@ -13,6 +13,7 @@ use Rattle.age_fault.specs.declared.key.KeyFault.TheVariants.{NoMatch, BadX25519
 
 -- ---- The X25519 stanza. The function X25519 isn't defined here: the shared secret is given.
 
+-- a stanza is of type X25519
 abbrev pub is_x25519 : Stanza → Bool
 is_x25519 s = has_type (codes "X25519") s.args
 
@@ -31,15 +32,15 @@ ReadRefuses s BadX25519 = (is_x25519 s ≡ true)
     × ((share body : List ℕ) → IsX25519Stanza s share body → ⊥)
 ReadRefuses s other = ⊥
 
--- ---- What a shared secret finds in a header, and what it refuses.
+-- ---- The file key that a shared secret finds in a header, and the headers that it refuses.
 
 -- a shared secret, and the recipient for whom the stanzas are
 pub record Shared : Type 0 where
   pub secret : List ℕ
   pub recipient : List ℕ
 
--- the key that a file key is wrapped under: HKDF of the shared secret, salted with the stanza's
--- share and the recipient
+-- the wrap key of a shared secret: HKDF-SHA-256 of it, with the stanza's share and the recipient as
+-- its salt
 unfoldable pub shared_wrap_key : Shared → List ℕ → List ℕ
 shared_wrap_key x share =
     hkdf32 x.secret (share ++ x.recipient) (codes "age-encryption.org/v1/X25519")
@@ -55,9 +56,11 @@ pub record OpensTo (x : Shared) (s : Stanza) (key : List ℕ) : Type 0 where
 abbrev pub StaysShut : Shared → Stanza → Type 0
 StaysShut x s = (key : List ℕ) → ¬ OpensTo x s key
 
+-- some stanza of a header is of type X25519
 abbrev pub has_x25519 : Header → Bool
 has_x25519 h = list_any is_x25519 h.stanzas
 
+-- the shared secret is zero
 abbrev pub IsZero : Shared → Type 0
 IsZero x = x.secret ≡ replicate 32 0
 
@@ -79,6 +82,8 @@ pub record IsFirstKey (x : Shared) (stanzas : List Stanza) (key : List ℕ) : Ty
   pub shut : AllByRecursion (StaysShut x) before
   pub opens : OpensTo x stanza key
 
+-- the key that a shared secret finds in a header: the secret is usable, and the key is that of the
+-- first stanza that opens
 abbrev pub IsSharedKey : Shared → Header → List ℕ → Type 0
 IsSharedKey x h key = IsUsable x h × IsFirstKey x h.stanzas key
 

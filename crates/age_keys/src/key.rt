@@ -4,8 +4,8 @@ ghost use Rattle.std.specs.Prelude.{◌≡◌};
 
 use std::marker::Model;
 
-/// The 16 bytes of a file key (<https://c2sp.org/age#file-key>). A contract sees the list of them.
-/// It has no `Debug`, so that no message prints it.
+/// A file key, of 16 bytes (<https://c2sp.org/age#file-key>). It has no `Debug`, so that no message
+/// prints it. Contracts see the list of its bytes.
 #[derive(Drop)]
 pub struct FileKey(pub [u8; 16]);
 
@@ -18,14 +18,14 @@ impl Model for FileKey {
 }
 
 impl FileKey {
-    /// The file key of these bytes.
+    /// Makes a file key of these bytes.
     pub fn new(bytes: [u8; 16]) -> FileKey
         ensures { result ≡ bytes }
     {
         FileKey(bytes)
     }
 
-    /// The bytes of the key.
+    /// Returns the bytes of the key.
     pub fn bytes(&self) -> &[u8; 16]
         ensures { result.now ≡ self.now }
     {

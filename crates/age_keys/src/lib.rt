@@ -1,9 +1,9 @@
 //! From the header of an age file to the key of its payload (<https://c2sp.org/age>).
 //!
-//! A file key of 16 bytes is wrapped in the body of a stanza. An [`Unlock`] finds it there, and the
-//! header's MAC, an HMAC under a key that HKDF derives from the file key, confirms it:
-//! [`open_header`]. HKDF of the file key and the payload's nonce then gives the [`PayloadKey`],
-//! under which ChaCha20 and Poly1305 seal each chunk.
+//! A file key of 16 bytes is wrapped in the body of a stanza. [`open_header`] has it found by an
+//! [`Unlock`], and checks the header's MAC, an HMAC under a key that HKDF derives from the file
+//! key. HKDF of the file key and the payload's nonce then gives the [`PayloadKey`], under which
+//! ChaCha20 and Poly1305 seal each chunk.
 //!
 //! Constant time isn't claimed, and no key is wiped.
 #![tactic(auto)]

@@ -1,4 +1,4 @@
-//! Opens a header.
+//! The opening of a header.
 
 ghost use Rattle.std.specs.Prelude.{◌≡◌, IfOk, IfErr};
 ghost use Rattle.std.specs.List.{list_any};
@@ -14,7 +14,7 @@ use age_scrypt::Steps;
 use age_stanza::{Header, Stanza};
 use std::alloc::Global;
 
-/// Whether a stanza is of a type, which is its first argument.
+/// Returns whether a stanza is of a type, which is its first argument.
 pub(crate) fn has_type(stanza: &Stanza, kind: &[u8]) -> bool
     ensures { result ≡ has_type kind.now stanza.now.args }
 {
@@ -24,23 +24,23 @@ pub(crate) fn has_type(stanza: &Stanza, kind: &[u8]) -> bool
     }
 }
 
-/// Whether a stanza is of type `scrypt`.
+/// Returns whether a stanza is of type `scrypt`.
 pub(crate) fn is_scrypt(stanza: &Stanza) -> bool
     ensures { result ≡ is_scrypt stanza.now }
 {
     has_type(stanza, b"scrypt")
 }
 
-/// Whether some stanza is of type `scrypt`.
+/// Returns whether some stanza is of type `scrypt`.
 pub(crate) fn has_scrypt(stanzas: &[Stanza]) -> bool
     ensures { result ≡ list_any is_scrypt stanzas.now }
 {
     stanzas.iter().any(is_scrypt)
 }
 
-/// Whether a scrypt stanza stands beside another stanza, which is refused: whoever decrypts with a
-/// passphrase assumes that the file's author knew it, but whoever can open another stanza can make
-/// the MAC too (<https://c2sp.org/age#scrypt-recipient-stanza>).
+/// Returns whether a scrypt stanza stands beside another stanza, which is refused
+/// (<https://c2sp.org/age#scrypt-recipient-stanza>). Whoever decrypts with a passphrase assumes
+/// that the file's author knew it, but whoever can open another stanza can make the MAC too.
 pub fn scrypt_not_alone(header: &Header) -> bool
     ensures { result ≡ scrypt_not_alone header.now }
 {
@@ -48,8 +48,8 @@ pub fn scrypt_not_alone(header: &Header) -> bool
     stanzas.len() > 1 && has_scrypt(stanzas)
 }
 
-/// The MAC of a header under a file key (<https://c2sp.org/age#header-mac>). It requires
-/// [`is_header`](age_stanza::is_header). The only fault is running out of memory.
+/// Returns the MAC of a header under a file key (<https://c2sp.org/age#header-mac>). Fails only if
+/// memory runs out. Requires [`is_header`](age_stanza::is_header).
 #[tactic(auto, unfolding(crate::specs::Keys::header_mac))]
 pub fn mac_of(alloc: Global, header: &Header, key: &FileKey) -> Result<[u8; 32], KeyFault>
     requires { HasText header.now }
@@ -64,14 +64,14 @@ pub fn mac_of(alloc: Global, header: &Header, key: &FileKey) -> Result<[u8; 32],
     Ok(age_kdf::hmac(&secret, &[text.as_slice()]))
 }
 
-/// Opens a header that [`is_header`](age_stanza::is_header), which is required: returns the file
-/// key that the unlocker finds in it, once the header's MAC confirmed that key
-/// (<https://c2sp.org/age#header-mac>).
+/// Opens a header: returns the file key that the unlocker finds in it, once the header's MAC
+/// confirmed that key (<https://c2sp.org/age#header-mac>). Requires
+/// [`is_header`](age_stanza::is_header).
 ///
-/// It refuses, in this order, a scrypt stanza beside another stanza ([`KeyFault::ScryptNotAlone`]),
-/// whatever the unlocker refuses, running out of memory for the text that the MAC covers, and a MAC
-/// that wasn't made under the key ([`KeyFault::MacMismatch`]). The unlocker's steps of scrypt are
-/// counted, and there is none before a fault that [is found before any
+/// Fails, in this order, for a scrypt stanza beside another stanza ([`KeyFault::ScryptNotAlone`]),
+/// for whatever the unlocker refuses, if memory runs out for the text that the MAC covers, and for
+/// a MAC that wasn't made under the key ([`KeyFault::MacMismatch`]). The unlocker's steps of scrypt
+/// are counted, and there is none before a fault that [is found before any
 /// work](KeyFault::is_before_work). `opened` in `age_vectors/src/keys.rt` parses a header and opens
 /// it.
 pub fn open_header<U: Unlock>(

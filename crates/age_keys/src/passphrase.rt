@@ -1,4 +1,4 @@
-//! A passphrase, which finds the file key in a scrypt stanza.
+//! Passphrases, which find the file key in a scrypt stanza.
 
 ghost use Rattle.std.specs.Option.{SomeIff};
 ghost use Rattle.age_keys.specs.{IsAllowed, IsPassphraseKey, PassphraseRefuses, passphrase_steps};
@@ -17,17 +17,17 @@ use std::marker::Model;
 /// The greatest length of a passphrase in bytes.
 pub const PASSPHRASE_LIMIT: usize = 65_536;
 
-/// A passphrase, and the greatest work factor that is accepted with it. A contract sees both.
+/// A passphrase, with the greatest work factor that is accepted. It finds the file key in the one
+/// scrypt stanza of a header (<https://c2sp.org/age#scrypt-recipient-stanza>).
 ///
-/// It finds the file key in the one scrypt stanza of a header
-/// (<https://c2sp.org/age#scrypt-recipient-stanza>). It refuses, in this order, a scrypt stanza
-/// beside another stanza ([`KeyFault::ScryptNotAlone`]), a header without a scrypt stanza
-/// ([`KeyFault::NoMatch`]), a scrypt stanza of another shape ([`KeyFault::BadScrypt`]), a work
-/// factor above the limit, however many digits it has ([`KeyFault::WorkTooHigh`]), running out of
-/// memory for scrypt's table ([`KeyFault::Memory`]), and a body that opens to no file key under the
-/// passphrase ([`KeyFault::WrongKey`]).
+/// It refuses, in this order, a scrypt stanza beside another stanza ([`KeyFault::ScryptNotAlone`]),
+/// a header without a scrypt stanza ([`KeyFault::NoMatch`]), a scrypt stanza of another shape
+/// ([`KeyFault::BadScrypt`]), a work factor above the limit, however many digits it has
+/// ([`KeyFault::WorkTooHigh`]), running out of memory for scrypt's table ([`KeyFault::Memory`]),
+/// and a body that opens to no file key under the passphrase ([`KeyFault::WrongKey`]).
 ///
 /// docs/LIBRARY.md has an example of a decryption, `text_of`, for which this is the unlocker.
+/// Contracts see the passphrase and the greatest work factor.
 #[derive(Drop)]
 pub struct Passphrase<'a> {
     bytes: &'a [u8],
@@ -45,9 +45,9 @@ impl<'a> Model for Passphrase<'a> {
 }
 
 impl<'a> Passphrase<'a> {
-    /// A passphrase of 1 to [`PASSPHRASE_LIMIT`] bytes, whatever they are, and a greatest work
-    /// factor of 1 to [`WORK_FACTOR_LIMIT`]; `None` for any other. A header with work factor n takes
-    /// `1,024 * 2^n` bytes of memory.
+    /// Makes a passphrase of 1 to [`PASSPHRASE_LIMIT`] bytes, whatever they are, with a greatest
+    /// work factor of 1 to [`WORK_FACTOR_LIMIT`], or `None` for any other. A header with work
+    /// factor n takes `1,024 * 2^n` bytes of memory.
     pub fn new(bytes: &'a [u8], max_log: u32) -> Option<Passphrase<'a>>
         ensures { SomeIff result (IsAllowed bytes.now max_log)
             (record { pass = bytes.now; max_log = max_log }) }

@@ -1,4 +1,4 @@
-//! The keys of what follows a header: the payload's, and the key of positions in it.
+//! The keys below the file key: the payload's, and the key of positions in it.
 
 ghost use Rattle.std.specs.Prelude.{◌≡◌, []};
 ghost use Rattle.age_cipher.specs.{sealing as sealing_with, opening as opening_with};
@@ -10,8 +10,8 @@ use age_chunk::{ChunkBox, PAYLOAD_NONCE_LEN};
 use age_cipher::{open_in_place, seal_in_place};
 use std::marker::Model;
 
-/// The key of a payload, which seals and opens its chunks (<https://c2sp.org/age#payload>). A
-/// contract sees the list of its 32 bytes.
+/// The key of a payload, which seals and opens its chunks (<https://c2sp.org/age#payload>).
+/// Contracts see the list of its 32 bytes.
 #[derive(Drop)]
 pub struct PayloadKey {
     bytes: [u8; 32],
@@ -41,8 +41,8 @@ impl ChunkBox for PayloadKey {
     }
 }
 
-/// The key of the payload that follows a nonce: HKDF of the file key, salted with the nonce, under
-/// the label `payload` (<https://c2sp.org/age#payload>).
+/// Derives the key of a payload: HKDF of the file key, salted with the payload nonce, under the
+/// label `payload` (<https://c2sp.org/age#payload>).
 #[tactic(auto, unfolding(crate::specs::Keys::payload_key))]
 pub fn payload_key(key: &FileKey, nonce: &[u8; PAYLOAD_NONCE_LEN]) -> PayloadKey
     ensures { result ≡ payload_key key.now nonce.now }
@@ -52,8 +52,8 @@ pub fn payload_key(key: &FileKey, nonce: &[u8; PAYLOAD_NONCE_LEN]) -> PayloadKey
     }
 }
 
-/// The key of the tags of positions in a payload: HKDF of the file key, salted with the payload's
-/// nonce, under the label `age-tool position v2`. It is no part of the age format.
+/// Derives the key of the tags of positions in a payload: HKDF of the file key, salted with the
+/// payload nonce, under the label `age-tool position v2`. It is no part of the age format.
 #[tactic(auto, unfolding(crate::specs::Keys::position_key))]
 pub fn position_key(key: &FileKey, nonce: &[u8; PAYLOAD_NONCE_LEN]) -> [u8; 32]
     ensures { result ≡ position_key key.now nonce.now }

@@ -1,10 +1,10 @@
-//! The random bytes that an age file for a passphrase is made of.
+//! The random bytes in an age file for a passphrase.
 
 ghost use Rattle.std.specs.Prelude.{◌≡◌, take, drop};
 
 use age_chunk::PAYLOAD_NONCE_LEN;
 
-/// How many random bytes an age file for a passphrase is made of.
+/// The number of random bytes in an age file for a passphrase: file key, salt and payload nonce.
 pub const RANDOM_LEN: usize = 16 + 16 + PAYLOAD_NONCE_LEN;
 
 /// The random parts of an age file for a passphrase. They must be new for each file.
@@ -19,7 +19,7 @@ pub struct FileRandom {
 }
 
 impl FileRandom {
-    /// The parts, which stand in the bytes one after the other: file key, salt and payload nonce.
+    /// Splits random bytes into the file key, the salt and the payload nonce, in this order.
     pub fn of(bytes: &[u8; RANDOM_LEN]) -> FileRandom
         ensures key { result.file_key ≡ take 16 bytes.now }
         ensures salt { result.salt ≡ take 16 (drop 16 bytes.now) }

@@ -22,11 +22,11 @@ use age_stanza::{Argument, Arguments, Header, Stanza, Stanzas, read_base64};
 use base64::engine::general_purpose::STANDARD_NO_PAD;
 use std::alloc::{AllocError, Global};
 
-/// What stands before the stanza's salt in the salt that scrypt is given.
+/// The label that precedes the stanza's salt in the salt of scrypt.
 const LABEL: &[u8; 28] = b"age-encryption.org/v1/scrypt";
 
-/// The key that a file key is wrapped under (<https://c2sp.org/age#scrypt-recipient-stanza>). The
-/// only fault is running out of memory.
+/// Derives the key that wraps a file key under a passphrase
+/// (<https://c2sp.org/age#scrypt-recipient-stanza>). Fails only if memory runs out.
 pub(crate) fn wrap_key(
     alloc: Global,
     pass: &[u8],
@@ -50,14 +50,14 @@ pub(crate) fn wrap_key(
     }
 }
 
-/// Whether all characters are decimal digits.
+/// Returns whether all characters are decimal digits.
 fn are_digits(characters: &[u8]) -> bool
     ensures { result ≡ list_all is_ascii_digit characters.now }
 {
     characters.iter().all(u8::is_ascii_digit)
 }
 
-/// Whether characters spell a work factor: decimal digits, and the first isn't zero.
+/// Returns whether characters are a work factor: decimal digits, of which the first isn't zero.
 #[tactic(auto, using(crate::proofs::WorkFactorLemmas::digit_tests))]
 fn is_work_factor(characters: &[u8]) -> bool
     ensures { IsTrue result ↔ IsWorkFactor characters.now }
@@ -68,7 +68,7 @@ fn is_work_factor(characters: &[u8]) -> bool
     }
 }
 
-/// The number that the characters spell, or the greatest `u32` if it is above that.
+/// Parses a work factor, saturating at `u32::MAX`.
 #[tactic(auto, using(crate::proofs::WorkFactorLemmas::digit_numbers))]
 fn number_of(characters: &[u8]) -> u32
     requires { IsWorkFactor characters.now }
@@ -87,17 +87,17 @@ fn number_of(characters: &[u8]) -> u32
 /// body.
 #[derive(Clone, Copy)]
 pub struct ScryptStanza {
-    /// The salt.
+    /// The salt of the stanza.
     pub salt: [u8; 16],
-    /// The work factor, or the greatest `u32` if it is above that.
+    /// The work factor, saturating at `u32::MAX`.
     pub log: u32,
     /// The body, in which the file key is wrapped.
     pub body: [u8; 32],
 }
 
 impl ScryptStanza {
-    /// Reads a stanza of type `scrypt`; `None` if it isn't valid. The body's length is checked
-    /// before it is opened, so that no body opens under many passphrases.
+    /// Parses a stanza of type `scrypt`, or returns `None` if it isn't valid. The body's length is
+    /// checked before it is opened, so that no body opens under many passphrases.
     pub fn read(stanza: &Stanza) -> Option<ScryptStanza>
         ensures read { IfSome result (λ read. (log : ℕ) × (read.log ≡ min log 4294967295)
             × IsScryptStanza stanza.now read.salt log read.body) }
@@ -122,7 +122,7 @@ impl ScryptStanza {
     }
 }
 
-/// The argument that spells a salt.
+/// Makes the argument of a salt: its base64.
 #[tactic(auto, unfolding(age_stanza::specs::Text::base64_text))]
 fn salt_argument(alloc: Global, salt: &[u8; 16]) -> Result<Argument, AllocError>
     ensures { IfOk result (λ argument. argument ≡ base64_text salt.now) }
@@ -130,14 +130,14 @@ fn salt_argument(alloc: Global, salt: &[u8; 16]) -> Result<Argument, AllocError>
     Argument::from_slice(alloc, STANDARD_NO_PAD.encode(alloc, salt)?.as_bytes())
 }
 
-/// The argument that spells a work factor.
+/// Makes the argument of a work factor: its decimal digits.
 fn log_argument(alloc: Global, log: u32) -> Result<Argument, AllocError>
     ensures { IfOk result (λ argument. argument ≡ decimal log) }
 {
     Argument::from_slice(alloc, log.to_string(alloc)?.as_bytes())
 }
 
-/// Adds the arguments of the stanza.
+/// Appends the arguments of a scrypt stanza.
 fn push_arguments(
     alloc: Global,
     args: &mut Arguments,
@@ -152,7 +152,7 @@ fn push_arguments(
     args.push(log_argument(alloc, log)?)
 }
 
-/// The stanza of a salt, a work factor and a body.
+/// Makes the stanza of a salt, a work factor and a body.
 #[tactic(auto, unfolding(crate::specs::Scrypt::scrypt_stanza))]
 fn scrypt_stanza(
     alloc: Global,
@@ -168,7 +168,7 @@ fn scrypt_stanza(
     Ok(Stanza { args, body })
 }
 
-/// The header with this scrypt stanza alone, and a MAC of zeros.
+/// Makes a header with one scrypt stanza and a MAC of zeros.
 fn header_of(
     alloc: Global,
     salt: &[u8; 16],
@@ -188,13 +188,13 @@ fn header_of(
     })
 }
 
-/// The header of a file key that is wrapped under a passphrase: one scrypt stanza, and the MAC that
-/// the file key gives it (<https://c2sp.org/age#scrypt-recipient-stanza>,
+/// Makes the header of a file key that is wrapped under a passphrase: one scrypt stanza, and the
+/// header's MAC (<https://c2sp.org/age#scrypt-recipient-stanza>,
 /// <https://c2sp.org/age#header-mac>).
 ///
-/// It requires a passphrase of 1 to [`PASSPHRASE_LIMIT`](crate::PASSPHRASE_LIMIT) bytes and a work
-/// factor `log` of 1 to [`WORK_FACTOR_LIMIT`](crate::WORK_FACTOR_LIMIT). The only fault is running
-/// out of memory ([`KeyFault::Memory`]): the passphrase's table takes `1,024 * 2^log` bytes.
+/// Fails only if memory runs out ([`KeyFault::Memory`]): the passphrase's table takes `1,024 *
+/// 2^log` bytes. Requires a passphrase of 1 to [`PASSPHRASE_LIMIT`](crate::PASSPHRASE_LIMIT) bytes
+/// and a work factor `log` of 1 to [`WORK_FACTOR_LIMIT`](crate::WORK_FACTOR_LIMIT).
 pub fn scrypt_header(
     alloc: Global,
     pass: &[u8],

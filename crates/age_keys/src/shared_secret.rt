@@ -1,4 +1,4 @@
-//! A shared secret, which finds the file key in X25519 stanzas.
+//! Shared secrets, which find the file key in X25519 stanzas.
 
 ghost use Rattle.std.specs.Prelude.{◌≡◌, ◌++◌, Any, IfSome, IfNone};
 ghost use Rattle.std.specs.Bool.{OnTrue, OnFalse};
@@ -16,14 +16,14 @@ use age_stanza::{Header, Stanza};
 use std::alloc::Global;
 use std::marker::Model;
 
-/// Whether some stanza is of type `X25519`.
+/// Returns whether some stanza is of type `X25519`.
 fn has_x25519(stanzas: &[Stanza]) -> bool
     ensures { result ≡ list_any is_x25519 stanzas.now }
 {
     stanzas.iter().any(is_x25519)
 }
 
-/// Whether a stanza is of type `X25519`, but not of its shape.
+/// Returns whether a stanza is of type `X25519`, but not of its shape.
 fn is_bad(stanza: &Stanza) -> bool
     ensures bad { OnTrue result (IsBadStanza stanza.now) }
     ensures fine { OnFalse result (¬ IsBadStanza stanza.now) }
@@ -34,7 +34,7 @@ fn is_bad(stanza: &Stanza) -> bool
     }
 }
 
-/// Whether there is such a stanza.
+/// Returns whether some stanza is of type `X25519`, but not of its shape.
 fn has_bad(stanzas: &[Stanza]) -> bool
     ensures bad { OnTrue result (Any IsBadStanza stanzas.now) }
     ensures fine { OnFalse result (AllByRecursion (λ s. ¬ IsBadStanza s) stanzas.now) }
@@ -47,7 +47,7 @@ fn has_bad(stanzas: &[Stanza]) -> bool
     false
 }
 
-/// The salt of HKDF: the share, and then the recipient.
+/// Returns the salt of HKDF: the share, and then the recipient.
 fn hkdf_salt(share: &[u8; 32], recipient: &[u8; 32]) -> [u8; 64]
     ensures { result ≡ share.now ++ recipient.now }
 {
@@ -57,17 +57,18 @@ fn hkdf_salt(share: &[u8; 32], recipient: &[u8; 32]) -> [u8; 64]
     both
 }
 
-/// A shared secret of X25519, 32 bytes, and the recipient's public key, 32 bytes. The secret was
-/// computed elsewhere from a stanza's share and the recipient's identity. A contract sees both.
+/// A shared secret of X25519, of 32 bytes, with the recipient's public key. The secret was computed
+/// elsewhere from a stanza's share and the recipient's identity. It finds the file key in the first
+/// X25519 stanza of a header that opens (<https://c2sp.org/age#x25519-recipient-stanza>), and skips
+/// stanzas of other types. It allocates nothing.
 ///
-/// It finds the file key in the first X25519 stanza of a header that opens
-/// (<https://c2sp.org/age#x25519-recipient-stanza>), and skips stanzas of other types. It refuses,
-/// in this order, a header without an X25519 stanza ([`KeyFault::NoMatch`]), a header with an
-/// X25519 stanza of another shape, or any such header if the secret is zero
+/// It refuses, in this order, a header without an X25519 stanza ([`KeyFault::NoMatch`]), a header
+/// with an X25519 stanza of another shape, or any such header if the secret is zero
 /// ([`KeyFault::BadX25519`]), and a header in which no X25519 stanza opens
-/// ([`KeyFault::WrongKey`]). It allocates nothing.
+/// ([`KeyFault::WrongKey`]).
 ///
-/// docs/RECIPES.md says how to make one from a key file.
+/// docs/RECIPES.md says how to make one from a key file. Contracts see the secret and the
+/// recipient.
 #[derive(Drop)]
 pub struct SharedSecret {
     secret: [u8; 32],
@@ -83,7 +84,7 @@ impl Model for SharedSecret {
 }
 
 impl SharedSecret {
-    /// A shared secret, and the recipient that it was computed for.
+    /// Makes a shared secret for the recipient that it was computed for.
     pub fn new(shared: &[u8; 32], recipient: &[u8; 32]) -> SharedSecret
         ensures { result ≡ record { secret = shared.now; recipient = recipient.now } }
     {
@@ -93,7 +94,7 @@ impl SharedSecret {
         }
     }
 
-    /// The key that the file key is wrapped under in the stanza of a share.
+    /// Derives the key that wraps the file key in the stanza of a share.
     #[tactic(auto, unfolding(crate::specs::X25519::shared_wrap_key))]
     fn wrap_key(&self, share: &[u8; 32]) -> [u8; 32]
         ensures { result ≡ shared_wrap_key self.now share.now }
@@ -102,7 +103,7 @@ impl SharedSecret {
         age_kdf::hkdf32(&self.secret, &salt, b"age-encryption.org/v1/X25519")
     }
 
-    /// The file key in a stanza; `None` if there is none.
+    /// Opens a stanza, and returns its file key, or `None` if the stanza doesn't open.
     fn key_in(&self, stanza: &Stanza) -> Option<FileKey>
         ensures key { IfSome result (OpensTo self.now stanza.now) }
         ensures none { IfNone result (StaysShut self.now stanza.now) }
@@ -113,7 +114,7 @@ impl SharedSecret {
         }
     }
 
-    /// The file key in the first stanza that opens.
+    /// Returns the file key of the first stanza that opens.
     fn first_key(&self, stanzas: &[Stanza]) -> Option<FileKey>
         ensures key { IfSome result (IsFirstKey self.now stanzas.now) }
         ensures none { IfNone result (AllByRecursion (StaysShut self.now) stanzas.now) }

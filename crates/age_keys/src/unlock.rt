@@ -1,4 +1,4 @@
-//! What finds a file key in a header.
+//! The trait of unlockers, which find a file key in a header.
 
 ghost use Rattle.std.specs.Prelude.{◌≡◌, ℕ, List, MatchResult, IfSome, IfNone};
 ghost use Rattle.age_stanza.specs.declared.header.Header.{Header as HeaderValue};
@@ -13,31 +13,30 @@ use hex::FromHex;
 use std::alloc::Global;
 use std::marker::Model;
 
-/// Finds the file key in the stanzas of a header, or refuses it.
+/// An unlocker, which finds the file key in the stanzas of a header, or refuses it.
 ///
 /// An implementation states two relations, which key it may return for a header and which fault,
 /// and how many steps of scrypt it makes at most. [`open_header`](crate::open_header) states its
 /// contract in these terms. docs/LIBRARY.md has an example, `Either`.
 pub trait Unlock {
-    /// The keys that it may return for a header.
+    /// The keys that an unlocker may return for a header.
     ghost allows: { Self → HeaderValue → List ℕ → Type 0 };
 
-    /// The faults that it may return for a header.
+    /// The faults that an unlocker may return for a header.
     ghost refuses: { Self → HeaderValue → Fault → Type 0 };
 
-    /// The most steps that it makes for a header.
+    /// The greatest number of steps of scrypt that an unlocker makes for a header.
     ghost most_steps: { Self → ℕ };
 
-    /// The file key of a header. Only the count of steps changes, and not even that if the fault
-    /// [is found before any work](KeyFault::is_before_work).
+    /// Returns the file key of a header, or refuses it. Only the count of steps changes, and not
+    /// even that if the fault [is found before any work](KeyFault::is_before_work).
     fn unlock(&self, alloc: Global, header: &Header, steps: &mut Steps) -> Result<FileKey, KeyFault>
         ensures answer { MatchResult result (λ key. allows self.now header.now key)
             (refuses self.now header.now) }
         ensures counted { Counts (most_steps self.now) result steps.old steps.new };
 }
 
-/// A file key that is known: it is returned for every header. A contract sees the list of its
-/// bytes.
+/// A known file key, which is returned for every header. Contracts see the list of its bytes.
 #[derive(Drop)]
 pub struct KnownKey(pub [u8; 16]);
 
@@ -50,15 +49,15 @@ impl Model for KnownKey {
 }
 
 impl KnownKey {
-    /// The known key of these bytes.
+    /// Makes a known key of these bytes.
     pub fn new(bytes: [u8; 16]) -> KnownKey
         ensures { result ≡ bytes }
     {
         KnownKey(bytes)
     }
 
-    /// The key that 32 hexadecimal digits of either case spell, two for each byte; `None` for any
-    /// other text.
+    /// Parses a key of 32 hexadecimal digits of either case, two for each byte, or returns `None`
+    /// for any other text.
     pub fn read(text: &str) -> Option<KnownKey>
         ensures key { IfSome result (λ key. SpellsKey text.now key) }
         ensures none { IfNone result ((key : List ℕ) → SpellsKey text.now key → ⊥) }

@@ -1,4 +1,4 @@
--- What contracts see of sources and sinks over memory, and what each call returns and leaves, by their
+-- The contract views of sources and sinks in memory, and what each call returns and leaves, by their
 -- plan of failures.
 use Rattle.std.specs.Prelude.{ℕ, List, Option, Bool, ◌-◌, min, Result, Ok, Err, ◌≡◌, []}
 use Rattle.std.specs.Prelude.{◌++◌, Some, ◌≢◌, ◌⊎◌, length, take, drop, true, false}
@@ -8,17 +8,17 @@ use Rattle.age_io.specs.Supply.{Supply}
 use Rattle.age_io.specs.Taken.{Taken}
 use Rattle.age_io.specs.declared.failed.Failed.{Failed}
 
--- the bytes of a source over memory
+-- the bytes of a source in memory
 abbrev pub memory_supply : List ℕ → List ℕ → Bool → Supply
 memory_supply given left is_at_end = record { given = given; left = Some left; is_at_end = is_at_end }
 
--- the bytes of a sink over memory
+-- the bytes of a sink in memory
 abbrev pub holds : List ℕ → Taken
 holds held = record { bytes = held; contents = Some held; label = [] }
 
--- a source over memory: what it gave and what is still to come, how much a pull gives at most, the
--- number of the pull that fails, how many pulls were made and have failed, whether the last one did,
--- and whether the last that did not found the end
+-- a source in memory: the bytes that it gave and those to come, the most bytes that a pull gives,
+-- the number of the pull that fails, how many pulls were made and have failed, whether the last one
+-- did, and whether the last that did not found the end
 pub record Feeding : Type 0 where
   pub given : List ℕ
   pub left : List ℕ
@@ -47,9 +47,9 @@ Pulls old room (Err failed) new = (old.fail_call ≡ Some old.calls)
       failing = true;
     })
 
--- a sink over memory: what it took, how much it holds at most, how much a put takes at most, the
--- number of the put or flush that fails, how many of both were made and have failed, whether the
--- last one did, and whether the last that did not was a flush
+-- a sink in memory: the bytes that it took, its limit, the most bytes that a put takes, the number
+-- of the put or flush that fails, how many of both were made and have failed, whether the last one
+-- did, and whether the last that did not was a flush
 pub record Holding : Type 0 where
   pub held : List ℕ
   pub room : ℕ
@@ -78,6 +78,7 @@ Puts old from (Err failed) new = ((old.fail_call ≡ Some old.calls)
       failing = true;
     })
 
+-- a flush; it fails by plan
 abbrev pub Flushes : Holding → Result (Unit {0}) Failed → Holding → Type 0
 Flushes old (Ok done) new = (old.fail_call ≢ Some old.calls)
     × (new ≡ record old { calls = one_more old.calls; failing = false; flushed = true })

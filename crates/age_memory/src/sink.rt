@@ -1,4 +1,4 @@
-//! A sink over memory, with a limit and a plan of failures.
+//! A sink in memory, with a limit and a call that fails by plan.
 
 ghost use Rattle.std.specs.Prelude.{◌≡◌, ◌<◌, ◌≤◌, [], true, false, length, IfOk, OnOk, vec_capacity};
 ghost use Rattle.age_io.specs.Taken.{WriteAppends, Keeps};
@@ -8,9 +8,9 @@ use age_io::{Failed, Failures, Memory, Sink};
 use std::alloc::Global;
 use std::marker::Model;
 
-/// A sink over memory. A contract sees what it holds, how much it holds at most, how much a put
-/// takes at most, which call fails, how many calls were made and have failed, whether the last one
-/// did, and whether a flush came after the last put.
+/// A sink in memory, with a limit and a call that fails by plan. Contracts see its bytes, its
+/// limit, the most bytes that a put takes, the call that fails, the numbers of calls and of failed
+/// ones, whether the last one failed, and whether a flush came after the last put.
 #[derive(Drop)]
 pub struct MemSink {
     held: Vec<u8>,
@@ -41,9 +41,9 @@ impl Model for MemSink {
 }
 
 impl MemSink {
-    /// An empty sink that holds at most `room` bytes, which are reserved here, and takes at most
-    /// `step` bytes a put, which has to be 1 or more. Puts and flushes are counted together from 0,
-    /// and the one numbered `fail_call` fails; later ones go on.
+    /// Makes an empty sink that holds at most `room` bytes, which are reserved now, and takes at
+    /// most `step` bytes a put. `step` must be 1 or more. Puts and flushes are counted together
+    /// from 0, and call `fail_call` fails; later calls work again.
     pub fn new(
         alloc: Global,
         room: usize,
@@ -74,14 +74,14 @@ impl MemSink {
         })
     }
 
-    /// What was taken.
+    /// Returns the bytes that were put.
     pub fn bytes(&self) -> &[u8]
         ensures { result.now ≡ self.now.held }
     {
         self.held.as_slice()
     }
 
-    /// What was taken, without a copy.
+    /// Returns the bytes that were put, without a copy.
     pub fn into_bytes(self) -> Vec<u8>
         ensures { result.items ≡ self.held }
     {

@@ -1,4 +1,4 @@
-//! A source over memory, with a plan of failures.
+//! A source in memory, with a pull that fails by plan.
 
 ghost use Rattle.std.specs.Prelude.{◌≡◌, ◌<◌, ◌≤◌, [], length, take, IfOk, MatchResult, drop, false};
 ghost use Rattle.age_io.specs.{ReadConsumes};
@@ -7,9 +7,10 @@ ghost use Rattle.age_memory.specs.{Feeding, Pulls, memory_supply};
 use age_io::{Failed, Failures, Source};
 use std::marker::Model;
 
-/// A source over memory. A contract sees what it gave and what is still to come, how much a pull
-/// gives at most, which pull fails, how many pulls were made and have failed, whether the last one
-/// did, and whether the last that did not found the end.
+/// A source in memory, with a pull that fails by plan. Contracts see the bytes that it gave and
+/// those to come, the most bytes that a pull gives, the pull that fails, the numbers of pulls and
+/// of failed ones, whether the last one failed, and whether the last successful one found the end
+/// of input.
 #[derive(Drop)]
 pub struct MemSource {
     bytes: Vec<u8>,
@@ -39,8 +40,8 @@ impl Model for MemSource {
 }
 
 impl MemSource {
-    /// A source of these bytes, which gives at most `step` bytes a pull; `step` has to be 1 or
-    /// more. The pull numbered `fail_call`, counted from 0, fails; later ones go on.
+    /// Makes a source of these bytes, which gives at most `step` bytes a pull. `step` must be 1 or
+    /// more. Pull `fail_call`, counted from 0, fails; later pulls work again.
     pub fn new(bytes: Vec<u8>, step: usize, fail_call: Option<u64>) -> MemSource
         requires { 0 < step }
         ensures { result ≡ record {
@@ -65,28 +66,28 @@ impl MemSource {
         }
     }
 
-    /// The bytes that it gave.
+    /// Returns the bytes given so far.
     pub fn given(&self) -> &[u8]
         ensures { result.now ≡ self.now.given }
     {
         &self.bytes[..self.at]
     }
 
-    /// Whether the last pull failed.
+    /// Returns whether the last pull failed.
     pub fn is_failing(&self) -> bool
         ensures { result ≡ self.now.failing }
     {
         self.failures.last
     }
 
-    /// Whether the last pull that did not fail found the end.
+    /// Returns whether the last successful pull found the end of input.
     pub fn is_at_end(&self) -> bool
         ensures { result ≡ self.now.is_at_end }
     {
         self.is_at_end
     }
 
-    /// How many bytes are still to come.
+    /// Returns the number of bytes to come.
     pub fn remaining(&self) -> usize
         ensures { result ≡ length self.now.left }
     {
@@ -94,6 +95,7 @@ impl MemSource {
     }
 }
 
+/// Copies the first `n` bytes of a slice to the beginning of another.
 fn copy_front(from: &[u8], into: &mut [u8], n: usize)
     requires from { n ≤ length from.now }
     requires into { n ≤ length into.old }
@@ -111,7 +113,7 @@ impl Source for MemSource {
       label = [];
     } };
 
-    /// Leaves the slice unchanged past the bytes that it gives, or entirely if it fails.
+    /// Gives the next bytes. Leaves the slice unchanged past them, or entirely if it fails.
     fn pull(&mut self, into: &mut [u8]) -> Result<usize, Failed>
         ensures bound { IfOk result (λ n. n ≤ length into.new) }
         ensures bytes { ReadConsumes

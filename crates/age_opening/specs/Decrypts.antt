@@ -1,4 +1,4 @@
--- What a decryption promises, done or stopped.
+-- The promise of a decryption, done or stopped.
 use Rattle.std.specs.Prelude.{Option, ◌≢◌, ◌⊎◌, ℕ, ◌<◌, ◌≤◌, List, ◌++◌, length, ◌≡◌, Some, None}
 use Rattle.std.specs.Prelude.{true, Result, MatchResult, OnOk, IsSomeAnd}
 use Rattle.age_io.specs.Taken.{Taken, Appends}
@@ -21,19 +21,20 @@ use Rattle.age_opening.specs.declared.decryption.Done.{Done}
 use Rattle.age_opening.specs.declared.decryption.Stopped.{Stopped}
 use Rattle.age_position.specs.declared.position.PositionPolicy.{PositionPolicy}
 
--- ---- What was read up to a payload.
+-- ---- The bytes that were read up to a payload.
 
--- what came is a header that was opened, and fewer than 16 bytes after it
+-- the bytes that came are a header that was opened, and fewer than 16 bytes after it
 abbrev pub InNonce : (Header → List ℕ → Type 0) → Supply → Supply → Type 0
 InNonce Allows old new =
     (h : Header) × (front : List ℕ) × (key : List ℕ) × (short : List ℕ) × HeadText h front
     × Opens Allows h key × (length short < 16) × Consumes old new (front ++ short)
 
--- what came has no fault so far
+-- the bytes that came have no fault so far
 abbrev pub IsEarly : (Header → List ℕ → Type 0) → Supply → Supply → Type 0
 IsEarly Allows old new = InHeader old new ⊎ InNonce Allows old new
 
--- why there is no payload; after a header that wasn't opened, no more was read than one pull gives
+-- the reason why there is no payload; after a header that wasn't opened, no more was read than one
+-- pull gives
 abbrev pub StartFails : (Header → List ℕ → Type 0) → (Header → KeyFault → Type 0) → SourceView
     → SourceView → FileFault → Type 0
 StartFails Allows Refused old new (Key fault) =
@@ -81,23 +82,23 @@ StopsOutside Memory = Unit {0}
 StopsOutside ReadNeverEnds = Unit {0}
 StopsOutside other = ⊥
 
--- ---- What a decryption promises.
+-- ---- The promise of a decryption.
 
--- exactly this plaintext was written, and its bytes are this many
+-- exactly this plaintext was written, of this many bytes
 abbrev pub WritesText : Taken → Taken → ℕ → List ℕ → Type 0
 WritesText old new written text = Appends old new text × (written ≡ length text)
 
--- How a decryption begins. From a file's start and from a position it promises the same, except for
--- this.
+-- the beginning of a decryption. From a file's start and from a position a decryption promises the
+-- same, except for this
 pub record Beginning : Type 1 where
-  -- where the run begins, if it comes to the payload
+  -- the run begins as it must, if it comes to the payload
   pub run : Run → Type 0
-  -- why it stops before that
+  -- the reason of a stop before that
   pub early : Ports → Ports → Stopped → Type 0
-  -- what it reads never ends
+  -- the sources never end
   pub never : Ports → Ports → Type 0
 
--- from the file's first chunk on; if there is no payload, nothing is written
+-- the beginning at the file's first chunk; if there is no payload, nothing is written
 abbrev pub from_start : (Header → List ℕ → Type 0) → (Header → KeyFault → Type 0) → Beginning
 from_start Allows Refused = record {
   run = IsFromStart;
@@ -106,24 +107,25 @@ from_start Allows Refused = record {
   never = λ old new. NeverEnds old.source.supply new.source.supply;
 }
 
--- whether positions are kept or dropped
+-- the promise of a decryption for which positions are kept or dropped
 module _ (keep : PositionPolicy) (Allows : Header → List ℕ → Type 0) (begun : Beginning)
     (old new : Ports) where
-  -- it ended in this run
+  -- the decryption ended in this run
   abbrev pub DecryptEnds : Done → Run → Type 0
   DecryptEnds done r = begun.run r × IsDone Allows old new done.written r × NoneFailed old new
 
-  -- it stopped in this run, or before the payload
+  -- the decryption stopped in this run, or before the payload
   abbrev pub DecryptStops : Option Run → Stopped → Type 0
   DecryptStops None stopped = begun.early old new stopped
   DecryptStops (Some r) stopped = begun.run r
       × StopsInPayload keep Allows (begun.never old new) old new stopped r
 
-  -- after Ok it ended in its run; after a fault it stopped in that, or before the payload
+  -- a decryption that returned Ok ended in its run; one with a fault stopped in that, or before the
+  -- payload
   abbrev pub DecryptAnswers : Option Run → Result Done Stopped → Type 0
   DecryptAnswers run result = MatchResult result (λ done. IsSomeAnd run (DecryptEnds done)) (DecryptStops run)
 
-  -- what it promises
+  -- the promise of a decryption
   pub record Decrypts (result : Result Done Stopped) : Type 0 where
     -- the run, if it came to the payload
     pub run : Option Run
@@ -133,7 +135,7 @@ module _ (keep : PositionPolicy) (Allows : Header → List ℕ → Type 0) (begu
     -- the sink keeps its label
     pub named : new.sink.taken.label ≡ old.sink.taken.label
 
-  -- what it promises that hands out its marks as well
+  -- the promise of a decryption that returns its marks as well
   pub record DecryptsMarked (result : Result Done Stopped) (marks : Option MarksView) : Type 0 where
     pub is : Decrypts result
     pub found : FindsMarks is.run keep marks

@@ -1,4 +1,4 @@
--- What several calls together promise: a decryption and its resumptions, or both directions.
+-- The promise of several calls together: a decryption and its resumptions, or both directions.
 use Rattle.age_io.specs.Supply.{Supply}
 use Rattle.age_io.specs.{Consumes, IsAtEnd}
 use Rattle.age_io.specs.Taken.{Appends}
@@ -28,13 +28,13 @@ use Rattle.age_position.specs.declared.position.PositionPolicy.{PositionPolicy}
 -- ---- Runs in a row, each from the file's start, or with the output of the run before as its
 -- earlier output.
 
--- a run, and the position that it began from, if any; if it stopped in the blocks that are skipped, no
--- bytes are after them
+-- a run, and the position that it began from, if any; it has no bytes if it stopped in the blocks
+-- that are skipped
 pub record BegunRun : Type 0 where
   pub from : Option Position
   pub run : Run
 
--- what the last run wrote; the last comes first in the list
+-- the output of the last run; the last comes first in the list
 abbrev pub held_last : List BegunRun → List ℕ
 held_last [] = []
 held_last (r ∷ earlier) = held r.run
@@ -50,8 +50,8 @@ pub record IsSame (p next : Position) : Type 0 where
 abbrev pub Hands : Run → Position → Type 0
 Hands r p = (bytes : ℕ) × IsPositionWithin r bytes p
 
--- where a run begins; what it copied is the beginning of what was written before, and has the
--- position's chain
+-- a run begins at the file's start, or from a position; the bytes that it copied are a prefix of
+-- the earlier output, and have the position's hash chain
 abbrev pub BeginsAfter : (before : List ℕ) → Option Position → Run → Type 0
 BeginsAfter before None r = IsFromStart r
 BeginsAfter before (Some p) r = (r.first ≡ p.index) × IsPrefixOf r.copied before × IsOldText p r.copied
@@ -64,24 +64,26 @@ pub record FollowsOn (text : List ℕ) (earlier : List BegunRun) (r : BegunRun) 
   -- no block that came and is tried opens, except as the writer of this plaintext sealed it
   pub authentic : IsTexts text r.run
 
+-- each run follows on those before it
 abbrev pub AllFollow : List ℕ → List BegunRun → Type 0
 AllFollow text [] = Unit {0}
 AllFollow text (r ∷ earlier) = FollowsOn text earlier r × AllFollow text earlier
 
--- what the last of such runs wrote, and which positions it handed out
+-- the output of the last of such runs, and the positions that it returned
 pub record WritesRight (text : List ℕ) (r : BegunRun) : Type 0 where
-  -- what it wrote is a prefix of the plaintext
+  -- the output is a prefix of the plaintext
   pub prefix : IsPrefixOf (held r.run) text
-  -- what one more run wrote that stopped while it copied that output is a prefix of the plaintext
-  -- too
+  -- the output of one more run, which stopped while it copied that output, is a prefix of the
+  -- plaintext too
   pub in_copy : (copied : List ℕ) → IsPrefixOf copied (held r.run) → IsPrefixOf copied text
-  -- it wrote all of the plaintext if it ended with all of its plaintext written
+  -- the output is all of the plaintext if the run ended with all of its plaintext written
   pub all : r.run.out ≡ run_text r.run → (run_outcome r.run).status ≡ AllDone → held r.run ≡ text
-  -- each position that it handed out, or began from, carries the chain over the plaintext's first
-  -- chunks
+  -- each position that the run returned, or began from, has the hash chain over the plaintext's
+  -- first chunks
   pub carries : (p : Position) → Hands r.run p ⊎ IsSomeAnd r.from (λ from. IsSame from p)
       → CarriesText text p
 
+-- the law of runs in a row: the last one writes right
 abbrev pub RunsInARow : Type 0
 RunsInARow = (text : List ℕ) (last : BegunRun) (earlier : List BegunRun)
     → chunk_count chunk_length text ≤ chunk_limit → AllFollow text (last ∷ earlier)
@@ -90,13 +92,13 @@ RunsInARow = (text : List ℕ) (last : BegunRun) (earlier : List BegunRun)
 -- ---- Calls in a row, each from the file's start, or with what the sink of the call before took,
 -- or its beginning, as its earlier output. What each call did is what its contract promises.
 
--- the sink took all of the plaintext if the call is done, and else its beginning; and a position
--- that is handed out is right
+-- the sink took all of the plaintext if the call is done, and else a prefix of it; and a position
+-- that is returned is right
 abbrev pub AnswersRight : List ℕ → List ℕ → Result Done Stopped → Type 0
 AnswersRight text took result = MatchResult result (λ done. took ≡ text)
     (λ stopped. IsPrefixOf took text × IfSome stopped.position (CarriesText text))
 
--- who unlocks, and what they allow and refuse
+-- the law is about any unlockers, and the keys and faults that they allow
 module _ (Who : Type 0) (Allows : Who → Header → List ℕ → Type 0)
     (Refused : Who → Header → KeyFault → Type 0) where
   -- a call, from a file's start or from a position, and what its sink took
@@ -113,12 +115,12 @@ module _ (Who : Type 0) (Allows : Who → Header → List ℕ → Type 0)
     pub answers : DecryptAnswers keep (Allows who) (from_either (Allows who) (Refused who) from) old new run
         result
 
-  -- the last call comes first in the list
+  -- the bytes that the last call's sink took; the last comes first in the list
   abbrev pub last_took : List DecryptCall → List ℕ
   last_took [] = []
   last_took (c ∷ earlier) = c.took
 
-  -- what the source of the earlier output gave begins what the sink of the call before took, from
+  -- the source of the earlier output gave a prefix of what the sink of the call before took, from
   -- whatever position the call begins
   abbrev pub AreInARow : List DecryptCall → Type 0
   AreInARow [] = Unit {0}
@@ -131,11 +133,12 @@ module _ (Who : Type 0) (Allows : Who → Header → List ℕ → Type 0)
   AreTexts text [] = Unit {0}
   AreTexts text (c ∷ earlier) = IfSome c.run (IsTexts text) × AreTexts text earlier
 
-  -- each of the calls answers right
+  -- each of the calls returns a right result
   abbrev pub AllAnswerRight : List ℕ → List DecryptCall → Type 0
   AllAnswerRight text [] = Unit {0}
   AllAnswerRight text (c ∷ earlier) = AnswersRight text c.took c.result × AllAnswerRight text earlier
 
+  -- the law of calls in a row: each of them returns a right result
   abbrev pub CallsInARow : Type 0
   CallsInARow = (text : List ℕ) (calls : List DecryptCall) → chunk_count chunk_length text ≤ chunk_limit
       → AreInARow calls → AreTexts text calls → AllAnswerRight text calls
@@ -153,27 +156,28 @@ pub record BindsTo (text : List ℕ) (p : Position) (r : Run) : Type 0 where
   -- no block that came and is tried opens, except as the writer of this plaintext sealed it
   pub authentic : IsTexts text r
 
--- the copied bytes are the plaintext's, and what was written begins it
+-- the copied bytes are the plaintext's, and the output is a prefix of it
 pub record Bound (text : List ℕ) (p : Position) (r : Run) : Type 0 where
   pub copied : r.copied ≡ take (p.index * chunk_length) text
   pub begins : IsPrefixOf (held r) text
 
--- every run that a position binds to a plaintext is bound; and if the call is done, all of the
--- plaintext was written
+-- the law of bound positions, for any unlockers
 module _ (Who : Type 0) (Allows : Who → Header → List ℕ → Type 0) where
+  -- every run that a position binds to a plaintext is bound
   abbrev pub RunsAreBound : Type 0
   RunsAreBound = (who : Who) (text : List ℕ) (p : Position) (old new : Ports) (written : ℕ) (r : Run)
       → BindsTo text p r → IsRun (Allows who) old new written r → Bound text p r
 
+  -- a call that is done, in a run that a position binds to a plaintext, wrote all of that plaintext
   abbrev pub DoneIsBound : Type 0
   DoneIsBound = (who : Who) (text : List ℕ) (p : Position) (old new : Ports) (written : ℕ) (r : Run)
       → BindsTo text p r → IsDone (Allows who) old new written r → held r ≡ text
 
--- ---- What follows of one run, and of one call.
+-- ---- The laws of one run, and of one call.
 
--- of a run that is authentic: what it wrote is a prefix of the plaintext, each of its positions
--- carries the chain over the plaintext's first chunks, and if it is done, all of the plaintext was
--- written
+-- the law of a run that is authentic: its output is a prefix of the plaintext, each of its
+-- positions has the hash chain over the plaintext's first chunks, and if it is done, all of the
+-- plaintext was written
 abbrev pub AuthenticRuns : (Who : Type 0) → (Who → Header → List ℕ → Type 0) → Type 0
 AuthenticRuns Who Allows = (who : Who) (old new : Ports) (written : ℕ) (r : Run) (text : List ℕ)
     → r.first < chunk_limit → IsAuthenticRun r text
@@ -203,10 +207,9 @@ UndamagedIsWritten Who Allows Refused = (keep : PositionPolicy) (who : Who) (fro
     → MatchResult result (λ done. WritesText old.sink.taken new.sink.taken done.written text)
     (λ stopped. StopsOutside stopped.fault)
 
--- ---- What a source gave, whatever it is over.
+-- ---- The bytes that a source gave, whatever it is over.
 
--- what a source gave is the age file of this plaintext, which the unlocker opens, and the source is
--- at its end
+-- the source gave the age file of this plaintext, which the unlocker opens, and is at its end
 pub record GaveFile (Allows : Header → List ℕ → Type 0) (old new : Supply) (text : List ℕ)
     : Type 0 where
   pub header : Header
@@ -243,8 +246,8 @@ pub record GaveRest (Allows : Header → List ℕ → Type 0) (p : Position) (ol
       ++ drop (p.index * block_length) (payload (box file.key file.nonce) chunk_length text))
   pub at_end : IsAtEnd new
 
--- what the sources gave is this plaintext's: its age file; or, if it was resumed, its chunks before
--- the position and the rest of its payload
+-- the sources gave this plaintext: its age file; or, if it was resumed, its chunks before the
+-- position and the rest of its payload
 abbrev pub GaveText : (Header → List ℕ → Type 0) → Option Resumption → Supply → Supply → List ℕ → Type 0
 GaveText Allows None old new text = GaveFile Allows old new text
 GaveText Allows (Some e) old new text = GaveOld e.position e.first.supply e.last.supply text
@@ -252,7 +255,8 @@ GaveText Allows (Some e) old new text = GaveOld e.position e.first.supply e.last
 
 module _ (Who : Type 0) (Allows : Who → Header → List ℕ → Type 0)
     (Refused : Who → Header → KeyFault → Type 0) where
-  -- if a decryption is done, its sources gave a plaintext, and what its sink took is exactly that
+  -- the sources of a decryption that is done gave a plaintext, and what its sink took is exactly
+  -- that
   abbrev pub DoneGaveText : Type 0
   DoneGaveText = (keep : PositionPolicy) (who : Who) (from : Option Resumption) (old new : Ports)
       (result : Result Done Stopped)
@@ -261,8 +265,9 @@ module _ (Who : Type 0) (Allows : Who → Header → List ℕ → Type 0)
       × GaveText (Allows who) from old.source.supply new.source.supply text
       × WritesText old.sink.taken new.sink.taken done.written text)
 
-  -- and so is all that was to come of a source that shows it, from its start; a sink that shows
-  -- what it holds then holds the plaintext after what it held
+  -- the source of a decryption that is done, if it shows its bytes from its start, had the age file
+  -- of the plaintext; and a sink that shows its contents has the plaintext after its earlier
+  -- contents
   abbrev pub DoneIsFile : Type 0
   DoneIsFile = (keep : PositionPolicy) (who : Who) (old new : Ports) (result : Result Done Stopped)
       (coming held : List ℕ)
@@ -286,8 +291,8 @@ pub record GaveFront (Allows : Header → List ℕ → Type 0) (p : Position) (o
       → IsPrefixOf (take (p.index * block_length)
       (payload (box file.key file.nonce) chunk_length whole)) rest
 
--- if a decryption stops at a position, its source gave the blocks before it, of the plaintext that
--- its sink took
+-- the source of a decryption that stopped at a position gave the blocks before it, of the plaintext
+-- that its sink took
 abbrev pub StoppedGaveFront : (Who : Type 0) → (Who → Header → List ℕ → Type 0)
     → (Who → Header → KeyFault → Type 0) → Type 0
 StoppedGaveFront Who Allows Refused = (keep : PositionPolicy) (who : Who) (old new : Ports)
@@ -297,9 +302,9 @@ StoppedGaveFront Who Allows Refused = (keep : PositionPolicy) (who : Who) (old n
     × GaveFront (Allows who) p old.source.supply new.source.supply text
     × WritesText old.sink.taken new.sink.taken stopped.written text))
 
--- if a decryption stops at a position, and one that is resumed from there is done, in the same file
--- by the same key, over the same blocks and after the same plaintext, then the source of the second
--- gave the age file of all that its sink took
+-- the source of a resumed decryption that is done gave the age file of all that its sink took, if
+-- an earlier decryption stopped at the position, in the same file by the same key, over the same
+-- blocks and after the same plaintext
 abbrev pub RestIsFile : (Who : Type 0) → (Who → Header → List ℕ → Type 0) → Type 0
 RestIsFile Who Allows = (first next : Who) (p : Position) (was became old new : Supply)
     (before text : List ℕ) (front : GaveFront (Allows first) p was became before)

@@ -1,4 +1,4 @@
--- What resuming at a position promises: from the text of the position to the end of the payload.
+-- The promise of a resumed decryption, from the text of the position to the end of the payload.
 use Rattle.std.specs.Prelude.{◌≡◌, ◌≢◌, ℕ, List, ◌++◌, length, ◌*◌, ◌≤◌, take, Option, Some, ◌⊎◌}
 use Rattle.std.specs.Prelude.{◌/◌, ◌+◌, ◌<◌, None}
 use Rattle.age_io.specs.Taken.{Appends}
@@ -30,43 +30,44 @@ pub record BeginsWith (p : Position) (old_coming : Supply) (text : List ℕ) : T
   pub within : p.index * chunk_length ≤ length text
   pub begins : IsPrefixOf (take (p.index * chunk_length) text) all
 
--- the position carries the chain over the first chunks of a plaintext, and these bytes have another
--- chain if they are other bytes
+-- the position has the hash chain over the first chunks of a plaintext, and other bytes than these
+-- have another hash chain
 pub record IsBoundTo (p : Position) (copied text : List ℕ) : Type 0 where
   pub carries : CarriesText text p
   pub distinct : chain_over p.index copied ≡ chain_over p.index text
       → copied ≡ take (p.index * chunk_length) text
 
--- the plaintext that the position was made for: its chunks have the position's chain
+-- the earlier output is the one that the position was made for: its chunks have the position's hash
+-- chain
 pub record IsOldText (p : Position) (copied : List ℕ) : Type 0 where
   pub size : length copied ≡ p.index * chunk_length
   pub same : chain_over p.index copied ≡ p.chain
 
--- ---- What a resumed decryption reads and writes before its payload.
+-- ---- The bytes that a resumed decryption reads and writes before its payload.
 
--- what it goes on from: a position, and what is seen of the earlier output's source, before and
--- after
+-- a resumption: the position, and the views of the earlier output's source, before and after
 pub record Resumption : Type 0 where
   pub position : Position
   pub first : SourceView
   pub last : SourceView
 
+-- the resumption of these parts
 abbrev pub resumption : Position → SourceView → SourceView → Resumption
 resumption position first last = record { position = position; first = first; last = last }
 
--- only these bytes of the earlier output were written
+-- the bytes written are only these bytes of the earlier output
 pub record WritesOld (e : Resumption) (old new : Ports) (written : ℕ) (copied : List ℕ) : Type 0 where
-  -- what was read of the earlier output
+  -- the bytes that were read of the earlier output
   pub pulled : List ℕ
   pub read : Consumes e.first.supply e.last.supply pulled
-  -- it is at most one pull more than the position needs
+  -- no more than one pull beyond the position's chunks was read
   pub few : length pulled ≤ e.position.index * chunk_length + pull_room
   -- the first of these bytes were written, and nothing else
   pub front : IsPrefixOf copied pulled
   pub wrote : Appends old.sink.taken new.sink.taken copied
   pub count : written ≡ length copied
-  -- if the earlier output begins with the chunks of a plaintext before the position, they begin
-  -- that plaintext
+  -- the copied bytes are a prefix of a plaintext, if the earlier output begins with the chunks of
+  -- that plaintext before the position
   pub of : (text : List ℕ) → BeginsWith e.position e.first.supply text → IsPrefixOf copied text
 
 -- a run that begins from a position
@@ -74,15 +75,15 @@ pub record IsFrom (e : Resumption) (r : Run) : Type 0 where
   pub index : r.first ≡ e.position.index
   -- the position is the file's, and was made under its key
   pub own : BelongsTo e.position r.file
-  -- what was copied is the plaintext that the position was made for
+  -- the bytes that were copied are the plaintext that the position was made for
   pub old_text : IsOldText e.position r.copied
-  -- of the earlier output at most one pull more was read, and no pull failed
+  -- no more than one pull beyond them was read of the earlier output, and no pull failed
   pub more : List ℕ
   pub old_read : Consumes e.first.supply e.last.supply (r.copied ++ more)
   pub few : length more ≤ pull_room
   pub unfailed : e.last.failed ≡ e.first.failed
 
--- ---- Why a resumed decryption stopped, and what it did: before the earlier output, in it, in the
+-- ---- The stop of a resumed decryption, and what it did: before the earlier output, in it, in the
 -- blocks that are skipped, or in the payload.
 
 -- | A stop                | with the fault              | What was written   | Position           |
@@ -123,8 +124,8 @@ module _ (Allows : Header → List ℕ → Type 0) (e : Resumption) (old new : P
   CopyFails pulled copied Write = WriteFailed old new × (e.last.failed ≡ e.first.failed)
   CopyFails pulled copied other = ⊥
 
-  -- all of it up to the position was copied, and isn't the plaintext that the position was made
-  -- for; or less was copied
+  -- the fault of a stop in the earlier output: all of it up to the position was copied, and isn't
+  -- the plaintext that the position was made for; or less was copied
   abbrev pub InOldFails : (pulled copied : List ℕ) → FileFault → Type 0
   InOldFails pulled copied OldTextDiffers = (length copied ≡ e.position.index * chunk_length)
       × (chain_over e.position.index copied ≢ e.position.chain)
@@ -171,8 +172,8 @@ module _ (Allows : Header → List ℕ → Type 0) (e : Resumption) (old new : P
   StopsBeforeOld Refused stopped = WritesNone old new stopped × (e.last ≡ e.first)
       × BeforeOldFails Refused stopped.fault
 
--- how a decryption begins from a position: it stops before the earlier output, in it, in the blocks
--- that are skipped, or in the payload
+-- the beginning of a decryption from a position: it may stop before the earlier output, in it, in
+-- the blocks that are skipped, or in the payload
 abbrev pub from_position : (Header → List ℕ → Type 0) → (Header → KeyFault → Type 0) → Resumption → Beginning
 from_position Allows Refused e = record {
   run = IsFrom e;
@@ -181,7 +182,7 @@ from_position Allows Refused e = record {
   never = NeverEndTogether e;
 }
 
--- or from the file's start
+-- the beginning of a decryption from the file's start, or from a position
 abbrev pub from_either : (Header → List ℕ → Type 0) → (Header → KeyFault → Type 0) → Option Resumption
     → Beginning
 from_either Allows Refused None = from_start Allows Refused

@@ -1,4 +1,5 @@
--- What a run read and wrote, where a reader may continue after it, and how it ended.
+-- A run: what it read and wrote, the positions at which a reader may continue after it, and its
+-- end.
 use Rattle.std.specs.Prelude.{◌≡◌, ◌⊎◌, ◌↔◌, ◌*◌, ◌/◌, ◌<◌, ◌≤◌, ℕ, min, List, [], ◌++◌, length, take}
 use Rattle.std.specs.Prelude.{Option, Some, None, IsSomeAnd, Bool, true, false}
 use Rattle.age_io.specs.Taken.{Appends}
@@ -48,17 +49,19 @@ pub record IsFromStart (r : Run) : Type 0 where
   pub none_copied : r.copied ≡ []
   pub none_skipped : r.skipped ≡ []
 
+-- the segment of a run: the bytes that it read of the payload
 abbrev pub segment_of : Run → Segment
 segment_of r = record { start = r.first; bytes = r.bytes; ended = r.ended; late = false }
 
--- the outcome of the bytes, and the plaintext that they release: every chunk of it was opened
+-- the outcome of a run's segment
 abbrev pub run_outcome : Run → Outcome
 run_outcome r = outcome (unbox r.file.key r.file.nonce) chunk_length (segment_of r)
 
+-- the plaintext that a run's segment releases: every chunk of it was opened
 abbrev pub run_text : Run → List ℕ
 run_text r = released (unbox r.file.key r.file.nonce) chunk_length (segment_of r)
 
--- all that was written
+-- the output of a run: the earlier output that it copied, and what it wrote after that
 abbrev pub held : Run → List ℕ
 held r = r.copied ++ r.out
 
@@ -96,33 +99,34 @@ pub record IsAuthenticRun (r : Run) (text : List ℕ) : Type 0 where
   pub old_text : r.copied ≡ take (r.first * chunk_length) text
   pub authentic : IsTexts text r
 
--- ---- Where a reader may continue: positions.
+-- ---- The positions at which a reader may continue.
 
 -- the tag was made under the position key of a file of this key and nonce
 abbrev pub IsTagged : Position → List ℕ → List ℕ → Type 0
 IsTagged p key nonce = p.tag ≡ position_tag (position_key key nonce) p.index p.file_id p.chain
 
--- the id of a position is the file's, and its tag was made under the file's key
+-- the id of a position is the file's
 abbrev pub HasId : Position → OpenedFile → Type 0
 HasId p f = p.file_id ≡ file_id f.header_bytes f.nonce
 
+-- the tag of a position was made under the file's key
 abbrev pub HasTag : Position → OpenedFile → Type 0
 HasTag p f = IsTagged p f.key f.nonce
 
--- both: the position is the file's
+-- a position is the file's: its id is, and its tag was made under the file's key
 abbrev pub BelongsTo : Position → OpenedFile → Type 0
 BelongsTo p f = HasId p f × HasTag p f
 
--- a position stands after chunks of a plaintext, and carries the chain over them
+-- a position stands after chunks of a plaintext, and has the hash chain over them
 abbrev pub CarriesText : List ℕ → Position → Type 0
 CarriesText text p = (p.index * chunk_length ≤ length text) × (p.chain ≡ chain_over p.index text)
 
--- how many chunks are written: the full ones, copied or released as not last
+-- the number of chunks that are written: the full ones, copied or released as not last
 abbrev pub whole_chunks : Run → ℕ
 whole_chunks r = min (length (held r) / chunk_length) (run_outcome r).index
 
--- where a reader may continue: after the full chunks, with the file's id, the chain over those
--- chunks, and the tag
+-- a position at which a reader may continue: after the full chunks, with the file's id, the hash
+-- chain over those chunks, and the tag
 pub record IsPositionOf (r : Run) (p : Position) : Type 0 where
   pub index : p.index ≡ whole_chunks r
   pub own : BelongsTo p r.file
@@ -133,9 +137,9 @@ abbrev pub GivesPosition : PositionPolicy → (Position → Type 0) → Option P
 GivesPosition Kept Is position = IsSomeAnd position Is
 GivesPosition Dropped Is position = position ≡ None
 
--- ---- Where a reader may continue within a part of what was written: marks.
+-- ---- Marks: the positions within a part of what was written.
 
--- what the marks of a run are over: the position key and the id of its file, and its full chunks
+-- the view of a run's marks: the position key and the id of its file, and its full chunks
 pub record MarksView : Type 0 where
   pub key : List ℕ
   pub file_id : List ℕ
@@ -150,8 +154,8 @@ pub record IsMarked (m : MarksView) (bytes : ℕ) (p : Position) : Type 0 where
   pub chain_is : p.chain ≡ chain (take p.index m.chunks)
   pub tagged : p.tag ≡ position_tag m.key p.index p.file_id p.chain
 
--- where a reader may continue if only so many bytes of what a run wrote exist: the run's own
--- position if its chunks are no more than these, and else one after fewer that is near
+-- a position at which a reader may continue if only so many bytes of a run's output exist: the
+-- run's own position if its chunks are no more than these, and else one after fewer that is near
 pub record IsPositionWithin (r : Run) (bytes : ℕ) (p : Position) : Type 0 where
   pub few : p.index ≤ whole_chunks r
   pub within : p.index * chunk_length ≤ bytes
@@ -159,14 +163,14 @@ pub record IsPositionWithin (r : Run) (bytes : ℕ) (p : Position) : Type 0 wher
   pub own : BelongsTo p r.file
   pub chain_is : p.chain ≡ chain_over p.index (held r)
 
--- marks are handed out if the run came to its payload and positions are kept, and mark its positions
+-- marks are returned if the run came to its payload and positions are kept, and mark its positions
 abbrev pub FindsMarks : Option Run → PositionPolicy → Option MarksView → Type 0
 FindsMarks None keep marks = marks ≡ None
 FindsMarks (Some r) Dropped marks = marks ≡ None
 FindsMarks (Some r) Kept marks = IsSomeAnd marks
     (λ m. (bytes : ℕ) (p : Position) → IsMarked m bytes p → IsPositionWithin r bytes p)
 
--- ---- How a run ended.
+-- ---- The end of a run.
 
 -- a stop before anything was written: it has no position
 pub record WritesNone (old new : Ports) (stopped : Stopped) : Type 0 where
@@ -178,9 +182,9 @@ pub record WritesNone (old new : Ports) (stopped : Stopped) : Type 0 where
 abbrev pub HasNoFault : Run → Type 0
 HasNoFault r = (r.ended ≡ false) × (has_failed (run_outcome r).status ≡ false)
 
--- when each fault comes in a payload. Unless the sink failed, all plaintext was written; no more
--- came only if what did has no fault; and if the sink failed, some plaintext was not written, or
--- the end of the file was seen and only the flush was left
+-- the fault of a stop in a payload, and when it comes. Unless the sink failed, all plaintext was
+-- written; no more came only if what did has no fault; and if the sink failed, some plaintext was
+-- not written, or the end of the file was seen and only the flush was left
 abbrev pub PayloadFails : (Never : Type 0) → Ports → Ports → Run → FileFault → Type 0
 PayloadFails Never old new r (Stream fault) = (r.out ≡ run_text r)
     × ((run_outcome r).status ≡ Failed fault) × NoneFailed old new

@@ -1,4 +1,4 @@
-//! Copies an earlier output, chunk by chunk, with the chain over it.
+//! The copy of an earlier output, chunk by chunk, with the hash chain over it.
 
 ghost use Rattle.std.specs.Prelude.{◌≡◌, ◌<◌, []};
 ghost use Rattle.age_position.specs.declared.position.PositionPolicy.TheVariants.{Kept};
@@ -16,7 +16,7 @@ use age_position::Writer;
 use age_stream::CHUNK_LEN;
 use sha2::Digest;
 
-/// Copies a chunk, and counts it.
+/// Copies a chunk of the earlier output, and counts it.
 fn copy_chunk<S: Source, O: Sink>(
     reader: &mut Reader<'_, S>,
     writer: &mut Writer<'_, O>,
@@ -45,7 +45,7 @@ fn copy_chunk<S: Source, O: Sink>(
     Ok(())
 }
 
-/// Copies this many chunks of an earlier output from its start.
+/// Copies the first `chunks` chunks of an earlier output.
 pub(crate) fn copy_chunks<S: Source, O: Sink>(
     reader: &mut Reader<'_, S>,
     chunks: u64,

@@ -1,4 +1,4 @@
-//! Decrypts a file.
+//! The decryption of a file from its start.
 
 ghost use Rattle.std.specs.Prelude.{◌≡◌, ◌<◌, None, false};
 ghost use Rattle.age_chunk.specs.{chunk_limit};
@@ -19,29 +19,30 @@ use age_position::{Position, PositionPolicy, Tally, Writer};
 use std::alloc::Global;
 use thiserror::Error;
 
-/// A file was decrypted to its end, into this many bytes.
+/// The result of a decryption that reached the end of the file.
 #[derive(Clone, Copy, PartialEq, Eq)]
 pub struct Done {
-    /// How many bytes were written.
+    /// The number of bytes written.
     pub written: u128,
 }
 
-/// Why a decryption stopped, and how far it got.
+/// The error of a decryption that stopped, with how far it got.
 #[derive(Clone, Copy, Debug, PartialEq, Eq, Error)]
 #[error("stopped after {written} bytes: {fault}")]
 pub struct Stopped {
-    /// Why it stopped.
+    /// The fault that stopped it.
     pub fault: FileFault,
-    /// How many bytes were written.
+    /// The number of bytes written.
     pub written: u128,
-    /// Where a reader may continue, once the payload nonce was read, and the earlier output of a
-    /// resumed decryption was found to match the position: after the full chunks before the last
-    /// that were written. `None` if positions are dropped.
+    /// The position at which a reader may continue: after the full chunks before the last that were
+    /// written. `None` if positions are dropped, if the payload nonce wasn't read yet, or if the
+    /// earlier output of a resumed decryption wasn't found to match its position. A stop in the
+    /// blocks that a resumed decryption skips always has the position that it began from.
     pub position: Option<Position>,
 }
 
 impl Stopped {
-    /// A stop before anything was written.
+    /// Makes the error of a stop before anything was written.
     pub(crate) fn early(fault: FileFault) -> Stopped
         ensures { result ≡ record { fault = fault; written = 0; position = None } }
     {
@@ -52,7 +53,7 @@ impl Stopped {
         }
     }
 
-    /// A stop after what was written.
+    /// Makes the error of a stop after some bytes were written.
     pub(crate) fn after(fault: FileFault, tally: &Tally, position: Option<Position>) -> Stopped
         ensures { result ≡ record {
           fault = fault;
@@ -68,7 +69,8 @@ impl Stopped {
     }
 }
 
-/// Where a reader of this file may continue, if a chain was kept.
+/// Returns the position at which a reader of this file may continue, or `None` if no hash chain was
+/// kept.
 fn position_of(unlocked: &Unlocked, tally: &Tally) -> Option<Position>
     ensures { PositionAt unlocked.now tally.now.index tally.now.chain result }
 {
@@ -82,7 +84,8 @@ fn position_of(unlocked: &Unlocked, tally: &Tally) -> Option<Position>
     }
 }
 
-/// How a run ended: with what it wrote, and with the position of a stop, if a chain was kept.
+/// Makes the result of a run: the bytes written, and after a fault the position, if a hash chain
+/// was kept.
 pub(crate) fn ended(
     run: Result<(), FileFault>,
     unlocked: &Unlocked,
@@ -101,7 +104,7 @@ pub(crate) fn ended(
     }
 }
 
-/// Opens the payload of a file from a chunk on, and returns how the run ended.
+/// Decrypts the payload of a file from chunk `index` on, and makes the result of the run.
 pub(crate) fn open_payload<S: Source, O: Sink>(
     unlocked: &Unlocked,
     index: u64,
@@ -123,11 +126,11 @@ pub(crate) fn open_payload<S: Source, O: Sink>(
 }
 
 /// Decrypts a file: opens its header, and writes each chunk of the plaintext once the tag of its
-/// block has been checked (<https://c2sp.org/age>). It reads to the end of the source, and flushes
+/// block has been checked (<https://c2sp.org/age>). Reads to the end of the source, and flushes
 /// before it returns `Ok`. A stop returns its position; [`decrypt_marked`] can do without.
 /// docs/LIBRARY.md has an example, `text_of`.
 ///
-/// It stops with the header's fault (1 to 8), the unlocker's or a wrong header MAC (9 to 15),
+/// Stops with the header's fault (1 to 8), the unlocker's or a wrong header MAC (9 to 15),
 /// `NonceCut` (16), a fault of the payload (17 to 22), `Read` (26), `Write` (27), `Memory` (28) and
 /// `ReadNeverEnds` (29). If the bytes that it read have a fault of 1 to 22, it stops with that, not
 /// with 26 or 29. All memory is allocated before the payload nonce is read, so if it runs out,
@@ -147,8 +150,8 @@ pub fn decrypt<U: Unlock, S: Source, O: Sink>(
     decrypt_marked(alloc, PositionPolicy::Kept, Lent { unlock }, reader, writer).0
 }
 
-/// Decrypts as [`decrypt`] does, and also returns the marks of the run, if it came to its payload and
-/// positions are kept. What opens the file is dropped before its payload is read.
+/// Decrypts as [`decrypt`] does, and also returns the marks of the run, if it came to its payload
+/// and positions are kept. The unlocker is dropped before the payload is read.
 pub fn decrypt_marked<U: Unlock + Drop, S: Source, O: Sink>(
     alloc: Global,
     positions: PositionPolicy,

@@ -1,5 +1,5 @@
-//! Decrypts a file, from its start or from a position, from any source to any sink; and laws about
-//! any number of such runs.
+//! The decryption of a file, from its start or from a position, from any source to any sink; and
+//! laws about any number of such runs.
 #![tactic(auto)]
 
 mod copy;

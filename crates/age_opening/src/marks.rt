@@ -1,4 +1,4 @@
-//! Where a decryption that stopped can be continued.
+//! The positions at which a decryption that stopped can be continued.
 
 ghost use Rattle.std.specs.Prelude.{◌≡◌};
 ghost use Rattle.age_opening.specs.Runs.{IsMarked};
@@ -9,9 +9,9 @@ use age_keys::position_key;
 use age_position::{Links, Position, Tally};
 use std::marker::Model;
 
-/// Where a decryption that came to its payload can be continued: after the full chunks before the
-/// last that it wrote, and after fewer of them. A contract sees the position key and the id of its
-/// file, and those chunks.
+/// The positions at which a decryption that came to its payload can be continued: after the full
+/// chunks before the last that it wrote, and after fewer of them. Contracts see the position key
+/// and the id of its file, and those chunks.
 #[derive(Drop)]
 pub struct Marks {
     key: [u8; 32],
@@ -36,7 +36,7 @@ impl Model for Marks {
 }
 
 impl Marks {
-    /// The marks of a run, if a chain was kept.
+    /// Returns the marks of a run, or `None` if no hash chain was kept.
     pub(crate) fn of(unlocked: &Unlocked, tally: &Tally) -> Option<Marks>
         ensures { result ≡ marks_over unlocked.now tally.now.chain }
     {
@@ -50,9 +50,9 @@ impl Marks {
         }
     }
 
-    /// The position at a mark within so many bytes of the plaintext; if all full chunks are within
-    /// them, it is the position of the stop. The mark is at most four times as far from the last
-    /// full chunk as these bytes are.
+    /// Returns the position at a mark within the first `bytes` bytes of the plaintext. It is the
+    /// position of the stop if all full chunks are within them. Otherwise the mark is at most four
+    /// times as far from the last full chunk as these bytes are.
     pub fn within(&self, bytes: u64) -> Position
         ensures { IsMarked self.now bytes result }
     {

@@ -1,4 +1,4 @@
-//! Opens what a source gives, and writes each chunk once its tag has been checked.
+//! The decryption of a payload: each chunk is written once its tag has been checked.
 
 ghost use Rattle.std.specs.Prelude.{◌≡◌, ◌+◌, ◌^◌, ◌<◌, length, OnOk, true, false};
 ghost use Rattle.age_stream.specs.{has_failed};
@@ -16,10 +16,10 @@ use age_keys::PayloadKey;
 use age_position::Writer;
 use age_stream::{BLOCK_LEN, Opener};
 
-/// What opens the blocks of a payload.
+/// The opener of an age file's payload.
 type PayloadOpener<'a> = Opener<'a, PayloadKey, BLOCK_LEN>;
 
-/// Feeds all of a piece, and writes the chunks that come out.
+/// Feeds all of a piece, and writes the chunks that are opened.
 fn feed_piece<O: Sink>(
     opener: &mut PayloadOpener<'_>,
     piece: &[u8],
@@ -47,7 +47,7 @@ fn feed_piece<O: Sink>(
     Ok(())
 }
 
-/// Ends the opener, writes the chunk that comes out, and flushes.
+/// Ends the opener, writes the last chunk, and flushes.
 fn finish<O: Sink>(
     opener: &mut PayloadOpener<'_>,
     writer: &mut Writer<'_, O>,
@@ -63,7 +63,7 @@ fn finish<O: Sink>(
     Ok(flush_all(writer.sink)?)
 }
 
-/// Opens what a source gives from a chunk on, up to its end, and writes each chunk once its tag has
+/// Opens all that a source gives, from chunk `index` on, and writes each chunk once its tag has
 /// been checked.
 pub(crate) fn decrypt_payload<S: Source, O: Sink>(
     key: &PayloadKey,

@@ -1,4 +1,4 @@
-//! Continues a decryption that stopped.
+//! The continuation of a decryption that stopped.
 
 ghost use Rattle.std.specs.Prelude.{◌≡◌, ◌<◌, [], IfOk, IfErr, false};
 ghost use Rattle.age_chunk.specs.{chunk_limit};
@@ -22,7 +22,7 @@ use age_keys::{Unlock, position_key};
 use age_position::{Position, PositionPolicy, Tally, Writer, tag_of};
 use std::alloc::Global;
 
-/// Whether a position is for this file, and was made under its key.
+/// Checks that a position is for this file, and was made under its key.
 fn verify(unlocked: &Unlocked, position: &Position) -> Result<(), FileFault>
     ensures { VerdictOn position.now unlocked.now.id unlocked.now.key unlocked.now.nonce result }
 {
@@ -37,7 +37,7 @@ fn verify(unlocked: &Unlocked, position: &Position) -> Result<(), FileFault>
     Ok(())
 }
 
-/// Reads a file up to its payload, drops what opened it, and refuses a position that isn't for this
+/// Reads a file up to its payload, drops the unlocker, and refuses a position that isn't for this
 /// file.
 fn start_for<U: Unlock + Drop, S: Source>(
     alloc: Global,
@@ -57,8 +57,8 @@ fn start_for<U: Unlock + Drop, S: Source>(
     Ok(unlocked)
 }
 
-/// Copies the earlier output that a position was made for, before more of the file is read: the
-/// pulls of both count together.
+/// Copies the earlier output that a position was made for, and checks its hash chain. The pulls of
+/// it and of the file count together.
 fn copy_old<L: Source, O: Sink>(
     positions: PositionPolicy,
     position: &Position,
@@ -90,7 +90,7 @@ fn copy_old<L: Source, O: Sink>(
     Ok(())
 }
 
-/// Skips the blocks of the earlier output, and decrypts the payload from there on.
+/// Skips the blocks before chunk `index`, and decrypts the payload from there on.
 fn resume_rest<S: Source, O: Sink>(
     unlocked: &Unlocked,
     index: u64,
@@ -119,9 +119,10 @@ fn resume_rest<S: Source, O: Sink>(
 /// tag wasn't made under the file's key; nothing was written. `ShortText` (25) means that the
 /// earlier output ended before the position, and `OldTextDiffers` (31) that its chunks aren't those
 /// that the position was made for; what was copied remains. `Truncated` (20), with its chunk, means
-/// that the source ends in the blocks that are skipped. Otherwise it stops as `decrypt` does. A
-/// position is returned once the earlier output was found to match the position; for a stop in the
-/// blocks that are skipped it is `position`. All memory is allocated before the payload nonce is
+/// that the source ends in the blocks that are skipped. Otherwise it stops as `decrypt` does.
+///
+/// A stop returns a position once the earlier output was found to match `position`; in the blocks
+/// that are skipped it is `position` itself. All memory is allocated before the payload nonce is
 /// read.
 pub fn resume<U: Unlock, S: Source, L: Source, O: Sink>(
     alloc: Global,
@@ -144,7 +145,7 @@ pub fn resume<U: Unlock, S: Source, L: Source, O: Sink>(
 }
 
 /// Resumes as [`resume`] does, and also returns the marks of the run, if it came to its payload and
-/// positions are kept. What opens the file is dropped before the earlier output is copied.
+/// positions are kept. The unlocker is dropped before the earlier output is copied.
 pub fn resume_marked<U: Unlock + Drop, S: Source, L: Source, O: Sink>(
     alloc: Global,
     positions: PositionPolicy,

@@ -1,4 +1,4 @@
-//! Reads a file up to its payload, and passes over the blocks that were opened before.
+//! The reading of a file up to its payload, and the skipping of blocks that were opened before.
 
 ghost use Rattle.std.specs.Prelude.{◌≡◌, ◌+◌, ◌-◌, ◌≤◌, ℕ, List, [], ◌++◌, length, take, min};
 ghost use Rattle.std.specs.Prelude.{IfOk, IfErr, OnOk};
@@ -19,7 +19,7 @@ use age_stanza::Header;
 use age_stream::{BLOCK_LEN, StreamFault, StreamKind};
 use std::alloc::Global;
 
-/// What a file's payload is opened with.
+/// The key and nonce that open a file's payload, with the file's id.
 #[derive(Drop)]
 pub(crate) struct Unlocked {
     pub(crate) key: FileKey,
@@ -51,7 +51,7 @@ impl<'a, U: Unlock> Unlock for Lent<'a, U> {
     }
 }
 
-/// Pulls if the buffer is empty. The end of the source is this fault.
+/// Fills the buffer by a pull if it is empty. The end of input is the fault `at_end`.
 pub(crate) fn need_bytes<S: Source>(
     reader: &mut Reader<'_, S>,
     at_end: FileFault,
@@ -68,8 +68,8 @@ pub(crate) fn need_bytes<S: Source>(
     Ok(())
 }
 
-/// Uses what was pulled, and passes over as much of what is to come as the source can, at most this
-/// many bytes; returns how many.
+/// Skips the bytes in the buffer, and then as many bytes of the source as it can skip, at most
+/// `most` bytes in all. Returns their number.
 fn skip_some<S: Source>(reader: &mut Reader<'_, S>, most: u128) -> u128
     ensures bound { result ≤ most }
     ensures skipped { (bytes : List ℕ) × (length bytes ≡ result)
@@ -85,7 +85,8 @@ fn skip_some<S: Source>(reader: &mut Reader<'_, S>, most: u128) -> u128
     n + u128::from(reader.intake.skip(reader.source, more))
 }
 
-/// Passes over this many blocks, unopened, and unread as far as the source can pass over them.
+/// Skips `blocks` blocks without opening them, and without reading them as far as the source can
+/// skip.
 pub(crate) fn skip_blocks<S: Source>(
     reader: &mut Reader<'_, S>,
     blocks: u64,
@@ -109,7 +110,7 @@ pub(crate) fn skip_blocks<S: Source>(
     Ok(())
 }
 
-/// Copies as many bytes as there is room for, and returns how many.
+/// Copies as many bytes as there is room for after the first `have`, and returns their number.
 fn copy_some(from: &[u8], into: &mut [u8; PAYLOAD_NONCE_LEN], have: usize) -> usize
     requires { have ≤ 16 }
     ensures count { result ≡ min (16 - have) (length from.now) }
@@ -140,8 +141,8 @@ fn take_nonce<S: Source>(reader: &mut Reader<'_, S>) -> Result<[u8; PAYLOAD_NONC
     Ok(nonce)
 }
 
-/// Reads a file up to its payload: the header, which is opened, and the payload nonce. What opens
-/// it is dropped before the nonce is read.
+/// Reads a file up to its payload: the header, which is opened, and the payload nonce. The unlocker
+/// is dropped before the nonce is read.
 pub(crate) fn start<U: Unlock + Drop, S: Source>(
     alloc: Global,
     unlock: U,

@@ -1,4 +1,4 @@
--- What binds a position to its file and to the plaintext before it. Not of the age format.
+-- The binding of a position to its file and to the plaintext before it. Not of the age format.
 use Rattle.std.specs.Prelude.{ℕ, List, ◌++◌, codes, replicate, fold}
 use Rattle.std.specs.Fmt.{decimal}
 use Rattle.std.specs.Simd.{first_chunks}
@@ -7,22 +7,23 @@ use Rattle.age_stanza.specs.{base64_text}
 use Rattle.age_kdf.specs.{hmac}
 use Rattle.age_chunk.specs.{chunk_length}
 
--- ---- The chain over a plaintext.
+-- ---- The hash chain over a plaintext.
 
--- the chain over chunks, one link a chunk: each is the digest of the link before it and the chunk
+-- one link of the hash chain: the digest of the link before it and the chunk
 abbrev pub link : List ℕ → List ℕ → List ℕ
 link so_far chunk = sha256 (so_far ++ chunk)
 
+-- the hash chain over chunks, one link a chunk, from 32 zero bytes on
 unfoldable pub chain : List (List ℕ) → List ℕ
 chain chunks = fold link (replicate 32 0) chunks
 
--- the chain over this many chunks of a plaintext, the first ones
+-- the hash chain over this many chunks of a plaintext, the first ones
 abbrev pub chain_over : ℕ → List ℕ → List ℕ
 chain_over count text = chain (first_chunks chunk_length count text)
 
 -- ---- The file, and the tag of a position.
 
--- what identifies a file: the digest of its header's bytes and its payload nonce
+-- the id of a file: the digest of its header's bytes and its payload nonce
 unfoldable pub file_id : List ℕ → List ℕ → List ℕ
 file_id front nonce = sha256 (front ++ nonce)
 

@@ -1,4 +1,4 @@
--- The marks of a chain.
+-- The marks of a hash chain.
 use Rattle.std.specs.Prelude.{◌≡◌, ◌⊎◌, ◌≤◌, ◌<◌, ◌+◌, ◌*◌, ◌^◌, ℕ, List, length, take}
 use Rattle.std.specs.Prelude.{slice_index_or}
 use Rattle.age_chunk.specs.{chunk_length}
@@ -6,12 +6,12 @@ use Rattle.age_position.specs.Bindings.{chain}
 use Rattle.age_position.specs.declared.links.Mark.{Mark}
 use Rattle.age_position.specs.declared.links.Pair.{Pair}
 
--- a mark has the chain over the first of these chunks
+-- a mark has the hash chain over the first of these chunks
 pub record IsMark (chunks : List (List ℕ)) (m : Mark) : Type 0 where
   pub few : m.index ≤ length chunks
   pub chain_is : m.chain ≡ chain (take m.index chunks)
 
--- and these are no more than this many bytes
+-- a mark has the hash chain over the first of these chunks, which are no more than this many bytes
 abbrev pub IsMarkWithin : List (List ℕ) → ℕ → Mark → Type 0
 IsMarkWithin chunks bytes m = IsMark chunks m × (m.index * chunk_length ≤ bytes)
 
@@ -22,7 +22,7 @@ pub record IsPair (chunks : List (List ℕ)) (p : Pair) : Type 0 where
   pub recent : length chunks < p.last.index + p.distance
   pub apart : (p.before.index + p.distance ≡ p.last.index) ⊎ ((p.last.index ≡ 0) × (p.before.index ≡ 0))
 
--- the distances of these pairs are the powers of two
+-- the pairs are pairs of marks, and their distances are the powers of two
 abbrev pub ArePairs : List (List ℕ) → List Pair → Type 0
 ArePairs chunks pairs = (k : ℕ) (d : Pair) → k < length pairs
     → IsPair chunks (slice_index_or pairs k d) × ((slice_index_or pairs k d).distance ≡ 2 ^ k)

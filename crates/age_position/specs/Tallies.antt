@@ -1,8 +1,8 @@
--- How a tally counts a chunk.
+-- The count of a chunk by a tally.
 use Rattle.std.specs.Prelude.{◌≡◌, ℕ, ◌<◌, ◌≤◌, List, Option}
 use Rattle.age_position.specs.declared.tally.Tally.{Tally}
 
--- if the index has risen, one more chunk is counted
+-- a chunk is counted if the index has risen
 pub record AdvancesTally (index : ℕ) (chunks : Option (List (List ℕ))) (risen : ℕ)
     (more : Option (List (List ℕ)))
     (new : Tally) : Type 0 where

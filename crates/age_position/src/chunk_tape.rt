@@ -1,4 +1,4 @@
-//! The chunks of a plaintext, for contracts alone.
+//! A record of the chunks of a plaintext. Ghost: no bytes at run time.
 
 ghost use Rattle.std.specs.Prelude.{◌≡◌, [], ◌∷◌, ◌++◌, List, ℕ, option_map, unwrap_or};
 ghost use Rattle.std.specs.Coded.{coded_list, coded_ℕ};
@@ -6,7 +6,7 @@ ghost use Rattle.std.specs.Coded.{coded_list, coded_ℕ};
 use age_io::{Bytes, List, Seen, Shows, Tape};
 use std::marker::Model;
 
-/// The chunks before, if any, and one more.
+/// The chunks before, if any, and one more, if any.
 #[derive(Clone, Copy)]
 struct Grown<'a, 'b> {
     before: Option<&'a Seen<List<Bytes>>>,
@@ -18,7 +18,7 @@ impl Shows<List<Bytes>> for Grown<'_, '_> {
         ++ unwrap_or (option_map (λ t. t.now ∷ []) grown.chunk) [] };
 }
 
-/// The chunks that went by, in order, for contracts alone. It has no bytes at run time.
+/// A record of the chunks of a plaintext, in order. Ghost: no bytes at run time.
 #[derive(Drop)]
 pub(crate) struct ChunkTape {
     chunks: Seen<List<Bytes>>,
@@ -33,7 +33,7 @@ impl Model for ChunkTape {
 }
 
 impl ChunkTape {
-    /// No chunks so far.
+    /// Returns an empty record.
     pub(crate) fn new() -> ChunkTape
         ensures { result ≡ [] }
     {
@@ -46,7 +46,7 @@ impl ChunkTape {
         }
     }
 
-    /// The same again.
+    /// Copies the record.
     pub(crate) fn again(&self) -> ChunkTape
         ensures { result ≡ self.now }
     {
@@ -59,7 +59,7 @@ impl ChunkTape {
         }
     }
 
-    /// This chunk went by.
+    /// Appends a chunk to the record.
     pub(crate) fn note(&mut self, chunk: &Tape)
         ensures { self.new ≡ self.old ++ chunk.now ∷ [] }
     {

@@ -1,8 +1,8 @@
 //! Positions: how far a run over an age file has come, and where another can continue after a stop.
 //!
-//! A [`Tally`] counts what a [`Writer`]'s sink took, and keeps the chain over the plaintext's
-//! chunks. A [`Position`] is after some of these, and is bound to the file and to the plaintext
-//! before it.
+//! A [`Tally`] counts the bytes that a [`Writer`]'s sink took, and has the hash chain over the
+//! plaintext's chunks. A [`Position`] is after some of these chunks, and is bound to the file and
+//! to the plaintext before it.
 #![tactic(auto)]
 
 mod chunk_tape;

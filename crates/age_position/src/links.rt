@@ -1,4 +1,4 @@
-//! The chain over the chunks of a plaintext, and the marks that are kept of it.
+//! The hash chain over the chunks of a plaintext, and the checkpoints of it that are kept.
 
 ghost use Rattle.std.specs.Prelude.{◌≡◌, ◌++◌, ◌∷◌, ◌<◌, ◌≤◌, ◌+◌, ◌*◌, ◌/◌, ◌↔◌, [], true, length, List, ℕ};
 ghost use Rattle.sha2.specs.Hashers.{Holds256};
@@ -13,18 +13,20 @@ use age_io::Tape;
 use sha2::{Digest, Sha256};
 use std::marker::Model;
 
-/// How many distances marks are kept at: each power of two below 2^48.
+/// The number of distances at which marks are kept: each power of two below 2^48.
 const DISTANCES: usize = 48;
 
-/// The chain over the first chunks of a plaintext, this many.
+/// A checkpoint of the hash chain, after the first `index` chunks of a plaintext.
 #[derive(Clone, Copy)]
 pub struct Mark {
+    /// The number of chunks before the mark.
     pub index: u64,
+    /// The hash chain over the chunks before the mark.
     pub chain: [u8; 32],
 }
 
 impl Mark {
-    /// Before the first chunk.
+    /// Returns the mark before the first chunk.
     #[tactic(auto, unfolding(crate::specs::Bindings::chain))]
     fn start() -> Mark
         ensures index { result.index ≡ 0 }
@@ -36,7 +38,7 @@ impl Mark {
         }
     }
 
-    /// Whether its chunks are no more than this many bytes.
+    /// Returns whether the chunks before the mark have at most `bytes` bytes.
     fn is_within(&self, bytes: u64) -> bool
         ensures { (result ≡ true) ↔ (self.now.index * chunk_length ≤ bytes) }
     {
@@ -44,7 +46,7 @@ impl Mark {
     }
 }
 
-/// The last two marks at a distance: whenever so many chunks came since the last, there is one more.
+/// The last two marks at a distance. A new one is kept after each `distance` chunks.
 #[derive(Clone, Copy)]
 pub(crate) struct Pair {
     pub(crate) distance: u64,
@@ -53,7 +55,7 @@ pub(crate) struct Pair {
 }
 
 impl Pair {
-    /// Before the first chunk.
+    /// Returns the pair before the first chunk.
     fn start(distance: u64) -> Pair
         requires { 0 < distance }
         ensures pair { IsPair [] result }
@@ -66,7 +68,7 @@ impl Pair {
         }
     }
 
-    /// After one more chunk, with the mark of all.
+    /// Returns the pair after one more chunk, given the mark after it.
     fn after(&self, mark: Mark) -> Pair
         ensures pair { (chunks : List (List ℕ)) (chunk : List ℕ) → IsPair chunks self.now
             → IsMark (chunks ++ chunk ∷ []) mark → mark.index ≡ length chunks + 1
@@ -84,7 +86,7 @@ impl Pair {
     }
 }
 
-/// The pairs before the first chunk.
+/// Returns the pairs before the first chunk.
 fn start_pairs() -> [Pair; DISTANCES]
     ensures { ArePairs [] result }
 {
@@ -95,7 +97,7 @@ fn start_pairs() -> [Pair; DISTANCES]
     pairs
 }
 
-/// The pairs after one more chunk, with the mark of all.
+/// Returns the pairs after one more chunk, given the mark after it.
 fn pairs_after(pairs: &[Pair; DISTANCES], mark: Mark) -> [Pair; DISTANCES]
     ensures { (chunks : List (List ℕ)) (chunk : List ℕ) → ArePairs chunks pairs.now
         → IsMark (chunks ++ chunk ∷ []) mark → mark.index ≡ length chunks + 1
@@ -108,8 +110,8 @@ fn pairs_after(pairs: &[Pair; DISTANCES], mark: Mark) -> [Pair; DISTANCES]
     next
 }
 
-/// The older mark of the first pair of which that is within this many bytes of the plaintext;
-/// before the first chunk, if there is none.
+/// Returns the older mark of the first pair for which it is within `bytes` bytes of the plaintext,
+/// or the mark before the first chunk if there is none.
 fn older_within(pairs: &[Pair; DISTANCES], bytes: u64) -> Mark
     ensures { (chunks : List (List ℕ)) → ArePairs chunks pairs.now → length chunks < chunk_limit
         → bytes / chunk_length < length chunks
@@ -124,11 +126,11 @@ fn older_within(pairs: &[Pair; DISTANCES], bytes: u64) -> Mark
     Mark::start()
 }
 
-/// The chain over the chunks of a plaintext, one link a chunk. A contract sees the chunks.
+/// The hash chain over the chunks of a plaintext, one link a chunk.
 ///
-/// Marks are kept of it, so that a run can also be continued before its end: two for each power of
+/// It keeps marks, so that a run can also be continued from before its end: two for each power of
 /// two, that far from each other. So within all but the last `d` chunks there is a mark less than
-/// `4 * d` before the end.
+/// `4 * d` before the end. Contracts see the chunks.
 #[derive(Drop)]
 pub struct Links {
     last: Mark,
@@ -152,7 +154,7 @@ impl Model for Links {
 }
 
 impl Links {
-    /// No chunks so far.
+    /// Returns the chain of no chunks.
     pub(crate) fn new() -> Links
         ensures { result ≡ [] }
     {
@@ -163,7 +165,7 @@ impl Links {
         }
     }
 
-    /// The same again.
+    /// Copies the chain and its marks.
     pub fn again(&self) -> Links
         ensures { result ≡ self.now }
     {
@@ -174,14 +176,14 @@ impl Links {
         }
     }
 
-    /// The chain over all of them.
+    /// Returns the hash chain over all chunks.
     pub fn chain(&self) -> [u8; 32]
         ensures { result ≡ chain self.now }
     {
         self.last.chain
     }
 
-    /// Links a chunk, by a digest that was fed the chain and then the chunk.
+    /// Appends a chunk, by a digest that was fed the chain and then the chunk.
     pub(crate) fn link(&mut self, digest: Sha256, chunk: &Tape)
         requires room { length self.old < chunk_limit }
         requires fed { Holds256 digest (chain self.old ++ chunk.now) }
@@ -196,7 +198,7 @@ impl Links {
         self.pairs = pairs_after(&self.pairs, mark);
     }
 
-    /// Links a chunk.
+    /// Appends a chunk to the chain.
     pub(crate) fn add(&mut self, chunk: &[u8])
         requires { length self.old < chunk_limit }
         ensures { self.new ≡ self.old ++ chunk.now ∷ [] }
@@ -209,8 +211,8 @@ impl Links {
         self.link(digest, &text);
     }
 
-    /// A mark within this many bytes of the plaintext: of all chunks, if these are, and near the
-    /// last one that is, if not.
+    /// Returns a mark within the first `bytes` bytes of the plaintext: the last one, if all chunks
+    /// are within them, or else one near the last chunk that is.
     pub fn mark_within(&self, bytes: u64) -> Mark
         requires { length self.now < chunk_limit }
         ensures mark { IsMarkWithin self.now bytes result }

@@ -12,37 +12,37 @@ use base64::engine::general_purpose::STANDARD_NO_PAD;
 use itoa::Buffer;
 use sha2::{Digest, Sha256};
 
-/// What every position's text begins with.
+/// The beginning of every position's text.
 pub(crate) const VERSION: &[u8; 16] = b"age-position/v2 ";
 
 /// A place in a payload at which a reader continues after a stop, bound to the file and to the
-/// plaintext before it. [`text`](Position::text) writes it down, and [`read`](Position::read) reads
-/// it. It is no part of the age format; docs/FORMAT.md says what it holds.
+/// plaintext before it. [`text`](Position::text) formats it, and [`read`](Position::read) parses
+/// it. It is no part of the age format; docs/FORMAT.md describes it.
 #[derive(Clone, Copy, Debug, PartialEq, Eq)]
 pub struct Position {
-    /// The chunk at which reading continues, counted from 0; below 2^48.
+    /// The number of the chunk at which reading continues, from 0; below 2^48.
     pub index: u64,
     /// The SHA-256 of the header's bytes and the payload nonce.
     pub file_id: [u8; 32],
-    /// The chain over the chunks before: 32 zero bytes, then for each chunk the SHA-256 of the link
-    /// before it and the chunk.
+    /// The hash chain over the chunks before: 32 zero bytes, then for each chunk the SHA-256 of the
+    /// link before it and the chunk.
     pub chain: [u8; 32],
     /// The HMAC of the position's text before the tag, under the position key of the file.
     pub tag: [u8; 32],
     ghost within: { index < chunk_limit },
 }
 
-/// Whether a decryption keeps the position at which a reader can continue after a stop. Keeping it
-/// costs a SHA-256 of the plaintext.
+/// The choice whether a decryption keeps the position at which a reader can continue after a stop.
+/// Keeping it costs a SHA-256 of the plaintext.
 #[derive(Clone, Copy, Debug, PartialEq, Eq)]
 pub enum PositionPolicy {
-    /// A stop returns its position.
+    /// A run that stops returns its position.
     Kept,
-    /// A stop returns none.
+    /// A run that stops returns no position.
     Dropped,
 }
 
-/// The base64 text of 32 bytes, without padding.
+/// Encodes 32 bytes as base64 without padding.
 #[tactic(auto, unfolding(age_stanza::specs::Text::base64_text))]
 pub(crate) fn spelled(bytes: &[u8; 32]) -> [u8; 43]
     ensures { result ≡ base64_text bytes.now }
@@ -54,8 +54,8 @@ pub(crate) fn spelled(bytes: &[u8; 32]) -> [u8; 43]
     text
 }
 
-/// The parts of a position's text up to its tag, from the texts of its index, its file id and its
-/// chain.
+/// Returns the parts of a position's text up to its tag, from the texts of its index, its file id
+/// and its chain.
 pub(crate) fn front_parts<'a>(
     index: &'a [u8],
     id: &'a [u8; 43],
@@ -69,7 +69,7 @@ pub(crate) fn front_parts<'a>(
     [VERSION, index, b" ", id, b" ", links, b" "]
 }
 
-/// The tag of a position under a position key.
+/// Returns the tag of a position under a position key.
 #[tactic(auto, unfolding(crate::specs::Bindings::position_tag, crate::specs::Bindings::position_front))]
 pub fn tag_of(key: &[u8; 32], index: u64, file_id: &[u8; 32], chain: &[u8; 32]) -> [u8; 32]
     ensures { result ≡ position_tag key.now index file_id.now chain.now }
@@ -80,8 +80,8 @@ pub fn tag_of(key: &[u8; 32], index: u64, file_id: &[u8; 32], chain: &[u8; 32]) 
     age_kdf::hmac(key, &front_parts(index, &id, &links))
 }
 
-/// What identifies a file: the digest of its header's bytes, which it was fed before, and of its
-/// payload nonce.
+/// Returns the identifier of a file: the SHA-256 of its header's bytes, which `digest` was fed
+/// before, and of its payload nonce.
 #[tactic(auto, unfolding(crate::specs::Bindings::file_id))]
 pub fn file_id(mut digest: Sha256, nonce: &[u8; 16]) -> [u8; 32]
     ensures { (front : List ℕ) → Holds256 digest front → result ≡ file_id front nonce.now }
@@ -91,14 +91,14 @@ pub fn file_id(mut digest: Sha256, nonce: &[u8; 16]) -> [u8; 32]
 }
 
 impl Position {
-    /// How many bytes of the plaintext come before it.
+    /// Returns the number of bytes of plaintext before the position.
     pub fn old_len(&self) -> u128
         ensures { result ≡ self.now.index * chunk_length }
     {
         u128::from(self.index) * CHUNK_LEN as u128
     }
 
-    /// The position of this index, file and chain, with its tag under a position key.
+    /// Makes the position of this index, file and chain, with its tag under a position key.
     pub fn tagged(key: &[u8; 32], index: u64, file_id: [u8; 32], chain: [u8; 32]) -> Position
         requires { index < chunk_limit }
         ensures index { result.index ≡ index }

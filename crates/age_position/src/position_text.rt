@@ -1,4 +1,4 @@
-//! The text of a position.
+//! The text of a position: written and parsed.
 
 ghost use Rattle.std.specs.Prelude.{◌≡◌, ◌≢◌, ◌<◌, ℕ, List, length, IfOk, IfErr, IfSome, IfNone, decimal};
 ghost use Rattle.age_position.specs.Texts.{position_text, NoPosition, IsDigest};
@@ -14,9 +14,11 @@ use itoa::Buffer;
 use std::alloc::{AllocError, Global};
 use std::str::from_utf8;
 
-/// How many characters follow the index: three times a space and 43 characters, and a line feed.
+/// The number of characters after the index: three times a space and 43 characters, and a line
+/// feed.
 const FIELDS: usize = 133;
 
+/// Formats a position.
 #[tactic(auto, unfolding(crate::specs::Bindings::position_front))]
 fn text_of(alloc: Global, position: &Position) -> Result<Vec<u8>, AllocError>
     ensures { IfOk result (λ text. text.items ≡ position_text position.now) }
@@ -33,7 +35,7 @@ fn text_of(alloc: Global, position: &Position) -> Result<Vec<u8>, AllocError>
     Ok(text)
 }
 
-/// The number that digits spell, without leading zeros, if it is an index.
+/// Parses an index: a number below 2^48, in decimal without leading zeros.
 fn number_of(digits: &[u8]) -> Option<u64>
     ensures limit { IfSome result (λ index. index < chunk_limit) }
     ensures some { IfSome result (λ index. digits.now ≡ decimal index) }
@@ -50,7 +52,7 @@ fn number_of(digits: &[u8]) -> Option<u64>
     }
 }
 
-/// The index in the front of a position's text, which ends with the index.
+/// Parses the front of a position's text, which ends with the index.
 fn index_of(front: &[u8]) -> Option<u64>
     ensures limit { IfSome result (λ index. index < chunk_limit) }
     ensures some { IfSome result (λ index. front.now ≡ index_text index) }
@@ -63,7 +65,7 @@ fn index_of(front: &[u8]) -> Option<u64>
     number_of(&front[16..])
 }
 
-/// The 32 bytes of a field: a space, and their text.
+/// Decodes a field: a space, and the base64 of 32 bytes.
 fn digest_of(field: &[u8]) -> Option<[u8; 32]>
     requires { length field.now ≡ 44 }
     ensures some { IfSome result (λ bytes. field.now ≡ field_text bytes) }
@@ -84,7 +86,7 @@ fn digest_of(field: &[u8]) -> Option<[u8; 32]>
     }
 }
 
-/// The position of an index, with what the text after it says.
+/// Parses the fields after the index.
 fn position_of(index: u64, fields: &[u8]) -> Option<Position>
     requires index { index < chunk_limit }
     requires size { length fields.now ≡ 133 }
@@ -106,9 +108,9 @@ fn position_of(index: u64, fields: &[u8]) -> Option<Position>
 }
 
 impl Position {
-    /// The text of a position: `age-position/v2 INDEX ID CHAIN TAG` and a line feed, INDEX in
-    /// decimal, the others as the 43 characters of unpadded base64 (RFC 4648, section 4). It fails
-    /// only if memory runs out.
+    /// Returns the text of the position: `age-position/v2 INDEX ID CHAIN TAG` and a line feed,
+    /// INDEX in decimal, the others as the 43 characters of unpadded base64 (RFC 4648, section 4).
+    /// Fails only if memory runs out.
     pub fn text(&self, alloc: Global) -> Result<Vec<u8>, FileFault>
         ensures text { IfOk result (λ text. text.items ≡ position_text self.now) }
         ensures memory { IfErr result (λ fault. fault ≡ Memory) }
@@ -116,9 +118,9 @@ impl Position {
         Ok(text_of(alloc, self)?)
     }
 
-    /// Reads the text of a position. It refuses every other text with `BadPosition`, even one that
-    /// differs only in leading zeros, in the line feed or in characters after it. It allocates
-    /// nothing.
+    /// Parses the text of a position. Fails with [`BadPosition`](FileFault::BadPosition) for every
+    /// other text, even one that differs only in leading zeros, in the line feed or in characters
+    /// after it. Allocates nothing.
     pub fn read(text: &[u8]) -> Result<Position, FileFault>
         ensures read { IfOk result (λ position. text.now ≡ position_text position) }
         ensures fault { IfErr result (λ fault. fault ≡ BadPosition) }

@@ -1,4 +1,4 @@
-//! How far a run has come.
+//! A count of how far a run has come.
 
 ghost use Rattle.std.specs.Prelude.{◌≡◌, ◌<◌, ◌≤◌, ◌++◌, ◌+◌, List, ℕ, [], length, IfSome, option_map};
 ghost use Rattle.std.specs.Option.{ForSome};
@@ -13,12 +13,15 @@ use crate::position::PositionPolicy;
 use age_io::Tape;
 use sha2::{Digest, Sha256};
 
-/// How far a run has come: how many bytes it wrote, how many full chunks before the last these make
-/// from the start of the plaintext, and the chain over those, if positions are kept.
+/// A count of how far a run has come.
 #[derive(Drop)]
 pub struct Tally {
+    /// The number of bytes that the run wrote.
     pub written: u128,
+    /// The number of full chunks, from the start of the plaintext, that come before the last one
+    /// and were written.
     pub index: u64,
+    /// The hash chain over the full chunks that were written, if positions are kept.
     pub chain: Option<Links>,
     ghost within: { index < chunk_limit },
     ghost few: { ForSome chain (λ links. length links ≤ index) },
@@ -27,7 +30,7 @@ pub struct Tally {
 impl Tally {
     ghost use Rattle.age_position.specs.Tallies.{AdvancesTally};
 
-    /// Nothing has been written.
+    /// Makes the count of a run that has written nothing.
     pub fn new(positions: PositionPolicy) -> Tally
         ensures written { result.written ≡ 0 }
         ensures index { result.index ≡ 0 }
@@ -44,7 +47,7 @@ impl Tally {
         }
     }
 
-    /// Drops the chain if positions aren't kept.
+    /// Drops the hash chain if positions aren't kept.
     pub fn keep(&mut self, positions: PositionPolicy)
         ensures written { self.new.written ≡ self.old.written }
         ensures index { self.new.index ≡ self.old.index }
@@ -74,7 +77,7 @@ impl Tally {
         }
     }
 
-    /// The chain, if it is kept.
+    /// Returns the hash chain, if it is kept.
     pub fn chain_now(&self) -> Option<[u8; 32]>
         ensures { result ≡ option_map chain self.now.chain }
     {
@@ -84,7 +87,7 @@ impl Tally {
         }
     }
 
-    /// A digest that was fed the chain, if there is one.
+    /// Returns a digest that was fed the hash chain, if it is kept.
     pub fn digest(&self) -> Sha256
         ensures { IfSome self.now.chain (λ links. Holds256 result (chain links)) }
     {
@@ -95,7 +98,7 @@ impl Tally {
         digest
     }
 
-    /// Counts a chunk, by a digest that was fed the chain and then the chunk.
+    /// Counts a chunk, by a digest that was fed the hash chain and then the chunk.
     pub fn count_fed(&mut self, digest: Sha256, chunk: &Tape)
         requires limit { self.old.index + 1 < chunk_limit }
         requires fed { IfSome self.old.chain (λ links. Holds256 digest (chain links ++ chunk.now)) }

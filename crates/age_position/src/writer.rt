@@ -1,10 +1,12 @@
-//! A sink, and how far a run has come.
+//! A sink, with a count of how far a run has come.
 
 use crate::tally::Tally;
 
-/// A sink, and how far the run has come that writes to it.
+/// A sink, with a count of how far the run that writes to it has come.
 #[derive(Drop)]
 pub struct Writer<'a, O> {
+    /// The sink.
     pub sink: &'a mut O,
+    /// The count of the run.
     pub tally: Tally,
 }

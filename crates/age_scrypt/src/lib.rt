@@ -1,5 +1,5 @@
 //! scrypt with r = 8 and p = 1 (RFC 7914), which derives a key of 32 bytes from a passphrase and a
-//! salt. It is how an age file's file key is wrapped under a passphrase
+//! salt. An age file's file key is wrapped under a passphrase by it
 //! (<https://c2sp.org/age#scrypt-recipient-stanza>).
 //!
 //! PBKDF2 makes one block of 1,024 bytes. ROMix mixes it `2^log` times by BlockMix, keeping each
@@ -11,8 +11,8 @@
 //! another, and its core, Salsa20/8, works on vectors of four words. So a key at work factor 18
 //! costs 256 MiB and about a second.
 //!
-//! A count of steps, which only contracts see, says how much work was done. A step is one BlockMix,
-//! and nothing else raises the count.
+//! [`Steps`] counts the work for contracts. A step is one BlockMix, and nothing else raises the
+//! count. Ghost: no bytes at run time.
 #![tactic(auto)]
 
 ghost use Rattle.std.specs.Prelude.{◌≡◌, ◌+◌, ◌*◌, ◌^◌, ◌≤◌, IfOk, OnOk, OnErr};
@@ -36,7 +36,7 @@ pub use steps::Steps;
 /// The greatest work factor that a caller may allow, 22: its table has 4 GiB.
 pub const WORK_FACTOR_LIMIT: u32 = 22;
 
-/// The key, in memory that the caller allocated.
+/// Derives a key in memory that the caller allocated.
 #[tactic(auto, unfolding(crate::specs::Scrypt::scrypt))]
 fn derive_in(
     pass: &[u8],
@@ -62,11 +62,11 @@ fn derive_in(
     key
 }
 
-/// The key of a passphrase and a salt at the work factor `log`, which has to be from 1 to
+/// Derives the key of a passphrase and a salt at the work factor `log`, which must be from 1 to
 /// [`WORK_FACTOR_LIMIT`]: scrypt with N = `2^log`, r = 8, p = 1 and 32 bytes of output (RFC 7914,
 /// section 6).
 ///
-/// It allocates `1,024 * 2^log` bytes and two blocks of 1,024 bytes, all of them before the first
+/// Allocates `1,024 * 2^log` bytes and two blocks of 1,024 bytes, all of them before the first
 /// step. If memory runs out, no step is counted.
 pub fn derive(
     alloc: Global,

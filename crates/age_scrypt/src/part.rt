@@ -9,9 +9,13 @@ use std::simd::u32x4;
 /// Sixteen words as a matrix of four by four: its rows, or its diagonals.
 #[derive(Clone, Copy)]
 pub(crate) struct Part {
+    /// The first row or diagonal.
     pub a: u32x4,
+    /// The second row or diagonal.
     pub b: u32x4,
+    /// The third row or diagonal.
     pub c: u32x4,
+    /// The fourth row or diagonal.
     pub d: u32x4,
     ghost a_len: { length a ≡ 4 },
     ghost b_len: { length b ≡ 4 },
@@ -19,7 +23,7 @@ pub(crate) struct Part {
     ghost d_len: { length d ≡ 4 },
 }
 
-/// Four words from a place on.
+/// Reads four words from position `at` on.
 #[inline(always)]
 fn read_row(words: &[u32], at: usize) -> u32x4
     requires { at + 4 ≤ length words.now }
@@ -28,7 +32,7 @@ fn read_row(words: &[u32], at: usize) -> u32x4
     u32x4::from_slice(&words[at..at + 4])
 }
 
-/// Writes four words from a place on.
+/// Writes four words from position `at` on.
 #[inline(always)]
 fn write_row(words: &mut [u32], at: usize, row: u32x4)
     requires { at + 4 ≤ length words.old }
@@ -40,7 +44,7 @@ fn write_row(words: &mut [u32], at: usize, row: u32x4)
 impl Part {
     ghost use Rattle.age_scrypt.specs.inner.{words};
 
-    /// Part `i` of a block of 256 words, row by row.
+    /// Reads part `i` of a block of 256 words, row by row.
     #[inline(always)]
     #[tactic(auto, using(crate::proofs::PartLemmas::rows_read), unfolding(crate::specs::Scrypt::part))]
     pub fn read(block: &[u32], i: usize) -> Part
@@ -81,7 +85,7 @@ impl Part {
         self.write_over(&mut block[16 * i..16 * i + 16]);
     }
 
-    /// The exclusive or, word by word.
+    /// Returns the exclusive or, word by word.
     #[inline(always)]
     #[tactic(auto, using(crate::proofs::SalsaLemmas::zip2_words, crate::proofs::SalsaLemmas::vector_lengths))]
     pub fn xor(self, other: Part) -> Part
@@ -95,7 +99,7 @@ impl Part {
         }
     }
 
-    /// The sums, word by word, with their carries dropped.
+    /// Returns the sums, word by word, with their carries dropped.
     #[inline(always)]
     #[tactic(auto, using(crate::proofs::SalsaLemmas::zip2_words, crate::proofs::SalsaLemmas::vector_lengths))]
     pub fn wrapping_add(self, other: Part) -> Part

@@ -9,7 +9,7 @@ use crate::part::Part;
 use crate::steps::{Steps, block_mix};
 use crate::turn::{turn, turn_back};
 
-/// How many blocks the table has.
+/// Returns the number of blocks in the table, `2^log`.
 pub(crate) fn block_count(log: u32) -> usize
     requires { log ≤ work_factor_limit }
     ensures value { result ≡ 2 ^ log }
@@ -31,8 +31,8 @@ fn xor_blocks(x: &[u32], y: &[u32], to: &mut [u32])
     }
 }
 
-/// The place in a table of `n` blocks of the one that the turned block `x` names. The lowest word
-/// says it, since 2^32 is a multiple of `n`, and it is where it was before the turn.
+/// Returns Integerify(x) mod n (RFC 7914, section 5), of a turned block. The lowest word is enough,
+/// since 2^32 is a multiple of `n`, and it is where it was before the turn.
 fn place_of(x: &[u32], n: usize) -> usize
     requires x { length x.now ≡ 256 }
     requires count { IsCount n }
@@ -42,7 +42,7 @@ fn place_of(x: &[u32], n: usize) -> usize
     x[240] as usize % n
 }
 
-/// Fills a table that has room for `n` turned blocks: block `i` is `x` mixed `i` times.
+/// Fills a table that has room for `n` turned blocks. Block `i` is `x` mixed `i` times.
 #[tactic(auto, unfolding(crate::specs::Scrypt::v_block))]
 fn fill(table: &mut Vec<u32>, x: &mut [u32], n: usize, steps: &mut Steps)
     requires count { IsCount n }
@@ -58,7 +58,8 @@ fn fill(table: &mut Vec<u32>, x: &mut [u32], n: usize, steps: &mut Steps)
     }
 }
 
-/// Looks up as many blocks as the table has.
+/// Mixes the block `x` as often as the table has blocks, each time after an XOR with one of them:
+/// the second loop of ROMix (RFC 7914, section 5).
 #[tactic(auto, unfolding(crate::specs::Scrypt::x_block))]
 fn look_up(table: &[u32], x: &mut [u32], y: &mut [u32], n: usize, steps: &mut Steps)
     requires count { IsCount n }
@@ -75,7 +76,7 @@ fn look_up(table: &[u32], x: &mut [u32], y: &mut [u32], n: usize, steps: &mut St
     }
 }
 
-/// ROMix of the block `x` in place, with `y` as a buffer for a block.
+/// Computes ROMix of the block `x` in place, with `y` as a buffer for a block.
 pub(crate) fn romix(table: &mut Vec<u32>, x: &mut [u32], y: &mut [u32], log: u32, steps: &mut Steps)
     requires log { log ≤ work_factor_limit }
     requires workspace { IsWorkspace (2 ^ log) table.old x.old y.old }

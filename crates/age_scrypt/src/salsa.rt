@@ -13,7 +13,7 @@ ghost use Rattle.age_scrypt.specs.inner.{words, IsRows, IsDiagonals, transpose, 
 use crate::part::Part;
 use std::simd::u32x4;
 
-/// `b` xor the sum of `x` and `y`, rotated to the left by `K` bits.
+/// Returns `b` XOR the sum of `x` and `y` rotated to the left by `K` bits.
 #[inline(always)]
 fn xor_rotated<const K: u32>(b: u32x4, x: u32x4, y: u32x4) -> u32x4
     requires some { 0 < K }
@@ -24,7 +24,7 @@ fn xor_rotated<const K: u32>(b: u32x4, x: u32x4, y: u32x4) -> u32x4
     b ^ ((sum << u32x4::splat(K)) | (sum >> u32x4::splat(32 - K)))
 }
 
-/// A quarter round on each lane.
+/// Computes a quarter round on each lane.
 #[inline(always)]
 fn quarter(p: Part) -> Part
     ensures a { result.a ≡ map (λ q. q.0) (quarters p.a p.b p.c p.d) }
@@ -40,7 +40,7 @@ fn quarter(p: Part) -> Part
     Part { a, b, c, d }
 }
 
-/// The diagonals of the transpose.
+/// Returns the diagonals of the transposed matrix.
 #[inline(always)]
 #[tactic(auto, unfolding(crate::specs::inner::transpose))]
 fn transposed(p: Part) -> Part
@@ -54,7 +54,7 @@ fn transposed(p: Part) -> Part
     }
 }
 
-/// The columns, and then the rows.
+/// Computes a double round: the columns, and then the rows.
 #[inline(always)]
 fn double_round(p: Part) -> Part
     ensures { (x : List ℕ) → length x ≡ 16 → IsDiagonals x p
@@ -63,7 +63,7 @@ fn double_round(p: Part) -> Part
     transposed(quarter(transposed(quarter(p))))
 }
 
-/// The even lanes of `x` and the odd ones of `y`.
+/// Returns the even lanes of `x` and the odd lanes of `y`.
 #[inline(always)]
 fn alternate(x: u32x4, y: u32x4) -> u32x4
     ensures { result ≡ slice_index x 0 ∷ slice_index y 1 ∷ slice_index x 2 ∷ slice_index y 3 ∷ [] }
@@ -71,7 +71,7 @@ fn alternate(x: u32x4, y: u32x4) -> u32x4
     x.shuffle(y, [0, 5, 2, 7])
 }
 
-/// The first half of `x` and the second of `y`.
+/// Returns the first half of `x` and the second half of `y`.
 #[inline(always)]
 fn halves(x: u32x4, y: u32x4) -> u32x4
     ensures { result ≡ slice_index x 0 ∷ slice_index x 1 ∷ slice_index y 2 ∷ slice_index y 3 ∷ [] }
@@ -79,7 +79,7 @@ fn halves(x: u32x4, y: u32x4) -> u32x4
     x.shuffle(y, [0, 1, 6, 7])
 }
 
-/// From rows to diagonals. Each word stays in its lane.
+/// Converts rows to diagonals. Each word stays in its lane.
 #[inline(always)]
 pub(crate) fn diagonals(p: Part) -> Part
     ensures { (x : List ℕ) → IsRows x p → IsDiagonals x result }
@@ -94,7 +94,7 @@ pub(crate) fn diagonals(p: Part) -> Part
     }
 }
 
-/// From diagonals to rows.
+/// Converts diagonals to rows. Each word stays in its lane.
 #[inline(always)]
 pub(crate) fn rows(p: Part) -> Part
     ensures { (x : List ℕ) → IsDiagonals x p → IsRows x result }
@@ -109,7 +109,8 @@ pub(crate) fn rows(p: Part) -> Part
     }
 }
 
-/// Four double rounds of sixteen words that are kept as their diagonals, and the sum with them.
+/// Computes Salsa20/8 of sixteen words that are kept as their diagonals: four double rounds, and
+/// the sum with the input.
 #[inline(always)]
 pub(crate) fn salsa20_8(p: Part) -> Part
     ensures { (x : List ℕ) → length x ≡ 16 → words p ≡ turned x

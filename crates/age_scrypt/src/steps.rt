@@ -1,4 +1,4 @@
-//! BlockMix with r = 8 (RFC 7914, section 4), and the count of its steps. They stand in one module,
+//! BlockMix with r = 8 (RFC 7914, section 4), and the count of its steps. They are in one module,
 //! so that no other code can raise a count.
 
 ghost use Rattle.std.specs.Prelude.{◌≡◌, ℕ, ◌+◌, List, length};
@@ -10,9 +10,8 @@ use crate::salsa::salsa20_8;
 use age_io::Tape;
 use std::marker::Model;
 
-/// A count of steps for contracts alone, which see it as a whole number without a greatest value.
-/// It has no bytes at run time. A step is one BlockMix (RFC 7914, section 4), and nothing else
-/// raises the count.
+/// A count of steps, each one BlockMix (RFC 7914, section 4). Nothing else raises it. Contracts see
+/// a number without a greatest value. Ghost: no bytes at run time.
 #[derive(Drop)]
 pub struct Steps {
     // a byte for each
@@ -26,14 +25,14 @@ impl Model for Steps {
 }
 
 impl Steps {
-    /// No steps so far.
+    /// Returns a count of no steps.
     pub fn new() -> Steps
         ensures { result ≡ 0 }
     {
         Steps { tape: Tape::new() }
     }
 
-    /// One more step.
+    /// Counts one more step.
     fn tick(&mut self)
         ensures { self.new ≡ self.old + 1 }
     {
@@ -41,7 +40,8 @@ impl Steps {
     }
 }
 
-/// Mixes a turned block of 256 words into another turned block, which is one step.
+/// Mixes a turned block of 256 words into another turned block, which is one step (RFC 7914,
+/// section 4).
 #[tactic(auto, unfolding(crate::specs::Scrypt::x_part))]
 pub(crate) fn block_mix(from: &[u32], to: &mut [u32], steps: &mut Steps)
     requires from { length from.now ≡ 256 }

@@ -1,5 +1,5 @@
-//! A block whose parts are kept as their diagonals, so that BlockMix has no words to move. ROMix
-//! turns its block once at its entry, and back at its exit.
+//! Turned blocks, whose parts are kept as their diagonals, so that BlockMix has no words to move.
+//! ROMix turns its block once at its entry, and back at its exit.
 
 ghost use Rattle.std.specs.Prelude.{◌≡◌, List, ℕ, length};
 ghost use Rattle.age_scrypt.specs.inner.{IsTurned};
@@ -7,7 +7,7 @@ ghost use Rattle.age_scrypt.specs.inner.{IsTurned};
 use crate::part::Part;
 use crate::salsa::{diagonals, rows};
 
-/// Turns each part of a block, and writes the result over `to`.
+/// Turns each part of a block, and writes the result to `to`.
 pub(crate) fn turn(from: &[u32], to: &mut [u32])
     requires from { length from.now ≡ 256 }
     requires to { length to.old ≡ 256 }
@@ -18,7 +18,7 @@ pub(crate) fn turn(from: &[u32], to: &mut [u32])
     }
 }
 
-/// Turns each part of a turned block back, and writes the result over `to`.
+/// Turns each part of a turned block back, and writes the result to `to`.
 pub(crate) fn turn_back(from: &[u32], to: &mut [u32])
     requires from { length from.now ≡ 256 }
     requires to { length to.old ≡ 256 }

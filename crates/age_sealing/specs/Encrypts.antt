@@ -1,4 +1,4 @@
--- What an encryption promises: which file it writes of a plaintext, or how much of it.
+-- The promise of an encryption: which file it writes of a plaintext, or how much of it.
 use Rattle.std.specs.Prelude.{ℕ, List, ◌≡◌, ◌-◌, ◌^◌, ◌<◌, ◌≤◌, ◌++◌, length}
 use Rattle.age_io.specs.Taken.{Appends}
 use Rattle.age_io.specs.{Consumes, IsAtEnd}
@@ -12,9 +12,10 @@ use Rattle.age_fault.specs.declared.fault.FileFault.TheVariants.{ReadNeverEnds}
 use Rattle.age_intake.specs.{IsByAllPulls, Ports, NoneFailed, ReadFailed, WriteFailed}
 use Rattle.age_sealing.specs.declared.encryption.Written.{Written}
 
--- ---- What an age file for a passphrase is made of.
+-- ---- The parts of an age file for a passphrase.
 
--- the passphrase, the work factor, the stanza's salt, the file key and the payload nonce
+-- the view of a secret: the passphrase, the work factor, the stanza's salt, the file key and the
+-- payload nonce
 pub record SecretView : Type 0 where
   pub pass : List ℕ
   pub log : ℕ
@@ -24,19 +25,20 @@ pub record SecretView : Type 0 where
 
 -- ---- The age file of a plaintext, and how an encryption ended with it.
 
--- the header's text and the payload nonce, with which the age file of each plaintext begins
+-- the beginning of the age file of each plaintext for a secret: the header's text and the payload
+-- nonce
 pub record BeginsFile (s : SecretView) (bytes : List ℕ) : Type 0 where
   pub front : List ℕ
   pub head : HeadText (scrypt_head s.pass s.log s.salt s.key) front
   pub parts : bytes ≡ front ++ s.nonce
   pub size : length s.nonce ≡ 16
 
--- these bytes, and the key of the payload after them
+-- the beginning of an age file, and the key of the payload after it
 pub record FrontView : Type 0 where
   pub bytes : List ℕ
   pub key : List ℕ
 
--- they are a secret's
+-- the beginning of an age file, and the key, are those of a secret
 abbrev pub IsFrontOf : SecretView → FrontView → Type 0
 IsFrontOf s f = BeginsFile s f.bytes × (f.key ≡ payload_key s.key s.nonce)
 
@@ -63,7 +65,7 @@ pub record Encrypts (s : SecretView) (old new : Ports) (written : Written) : Typ
   -- no call of the source or the sink failed
   pub none_failed : NoneFailed old new
 
--- ---- How an encryption stopped.
+-- ---- The stop of an encryption.
 
 -- the file of a plaintext without its last block: the header's text, the payload nonce, and the
 -- blocks before the last
@@ -71,8 +73,8 @@ abbrev pub without_last : SecretView → (front text : List ℕ) → List ℕ
 without_last s front text = (front ++ s.nonce)
     ++ block_bytes (sealed_before_last (box s.key s.nonce) chunk_length text)
 
--- why it stopped, after this plaintext was read and these bytes were written. If a pull failed, or
--- the source never ended, the last block is missing, so they are no complete file
+-- the reason of a stop, after this plaintext was read and these bytes were written. If a pull
+-- failed, or the source never ended, the last block is missing, so they are no complete file
 abbrev pub WhyStopped : SecretView → Ports → Ports → (front text out : List ℕ) → FileFault
     → Type 0
 WhyStopped s old new front text out (Stream fault) = (2 ^ 64 < length text)
@@ -94,7 +96,8 @@ pub record EncryptsFront (s : SecretView) (old new : Ports) (fault : FileFault) 
   pub prefix : IsPrefixOf out file
   pub why : WhyStopped s old new is.front text out fault
 
--- memory runs out before anything is read or written
+-- the fault of an encryption: memory ran out before anything was read or written, or another fault
+-- came after a prefix of the file was written
 abbrev pub EncryptFails : SecretView → Ports → Ports → FileFault → Type 0
 EncryptFails s old new Memory = new ≡ old
 EncryptFails s old new fault = EncryptsFront s old new fault

@@ -1,4 +1,4 @@
-//! Encrypts a file under a passphrase.
+//! The encryption of a file under a passphrase.
 
 ghost use Rattle.std.specs.Prelude.{◌≡◌, IfOk, OnOk, IfErr, true};
 ghost use Rattle.age_sealing.specs.Encrypts.{BeginsFile, Encrypts, EncryptFails, EncryptsFront};
@@ -19,7 +19,7 @@ use age_stanza::encode_head;
 use std::alloc::Global;
 use std::marker::Model;
 
-/// How many bytes were read, and how many written.
+/// The result of an encryption: the numbers of bytes read and written.
 #[derive(Clone, Copy, PartialEq, Eq)]
 pub struct Written {
     /// The length of the plaintext in bytes.
@@ -28,8 +28,7 @@ pub struct Written {
     pub file: u128,
 }
 
-/// What comes before the payload: the header's text and the payload nonce. It fails only if memory
-/// runs out.
+/// Returns the header's text and the payload nonce. Fails only if memory runs out.
 fn front_of(alloc: Global, secret: &Secret<'_>) -> Result<Vec<u8>, FileFault>
     ensures front { IfOk result (λ v. BeginsFile secret.now v.items) }
     ensures memory { IfErr result (λ fault. fault ≡ Memory) }
@@ -41,8 +40,9 @@ fn front_of(alloc: Global, secret: &Secret<'_>) -> Result<Vec<u8>, FileFault>
     Ok(front)
 }
 
-/// What the age file of each plaintext begins with for a secret, the key of its payload, and the
-/// buffer for what is read: all that an encryption allocates. A contract sees the first two.
+/// The beginning of the age file for a secret, which is the same for each plaintext, with the key
+/// of its payload and the buffer for its input: all that an encryption allocates. Contracts see the
+/// first two.
 #[derive(Drop)]
 pub struct Front {
     bytes: Vec<u8>,
@@ -62,9 +62,10 @@ impl Model for Front {
 }
 
 impl Front {
-    /// Runs scrypt and makes the header. It refuses with [`FileFault::Memory`] (28) alone: the
-    /// passphrase's table takes `1,024 * 2^n` bytes for work factor n. The secret isn't needed for
-    /// what follows.
+    /// Makes the beginning of an age file for a secret: runs scrypt, and writes the header and the
+    /// payload nonce to memory. Fails only with [`FileFault::Memory`] (28): the passphrase's table
+    /// takes `1,024 * 2^n` bytes for work factor n. [`encrypt_after`] doesn't need the secret any
+    /// more.
     pub fn of(alloc: Global, secret: &Secret<'_>) -> Result<Front, FileFault>
         ensures front { IfOk result (IsFrontOf secret.now) }
         ensures memory { IfErr result (λ fault. fault ≡ Memory) }
@@ -76,7 +77,7 @@ impl Front {
     }
 }
 
-/// Writes what comes before the payload.
+/// Writes the header and the payload nonce.
 fn write_front<O: Sink>(front: &[u8], writer: &mut Writer<'_, O>) -> Result<(), FileFault>
     requires { writer.old.tally.written ≡ 0 }
     ensures wrote { WritesFront front.now (view_of_writer O.view writer.old)
@@ -86,8 +87,8 @@ fn write_front<O: Sink>(front: &[u8], writer: &mut Writer<'_, O>) -> Result<(), 
     Ok(write_all(writer.sink, front, &mut writer.tally.written)?)
 }
 
-/// Encrypts all that a source gives, after the beginning of the file, as [`encrypt`] does. It
-/// allocates nothing, so it never fails with `Memory`.
+/// Encrypts all that a source gives, after the beginning of the file, as [`encrypt`] does.
+/// Allocates nothing, so it never fails with [`FileFault::Memory`].
 pub fn encrypt_after<S: Source, O: Sink>(
     front: Front,
     reader: &mut S,
@@ -123,14 +124,13 @@ pub fn encrypt_after<S: Source, O: Sink>(
 /// the header with one scrypt stanza, the payload nonce, and the payload in chunks of 65,536 bytes.
 /// Flushes at the end.
 ///
-/// It refuses with [`FileFault::Memory`] (28) before it reads or writes anything, with `Read` (26),
+/// Fails with [`FileFault::Memory`] (28) before it reads or writes anything, with `Read` (26),
 /// `Write` (27) and `ReadNeverEnds` (29), and with `TooManyChunks` (22) if the source gave more
 /// than 2^64 bytes. What was written by then is a prefix of the age file of what was read. After 26
 /// and 29 its last block is missing, so it is never a complete file of a shorter plaintext.
 ///
-/// [`Front::of`] and [`encrypt_after`] do the same in two steps.
-///
-/// `age_vectors/src/stops.rt` encrypts, decrypts and resumes in memory.
+/// [`Front::of`] and [`encrypt_after`] do this in two steps. `age_vectors/src/stops.rt` encrypts,
+/// decrypts and resumes in memory.
 pub fn encrypt<S: Source, O: Sink>(
     alloc: Global,
     secret: &Secret<'_>,

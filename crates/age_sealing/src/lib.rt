@@ -1,4 +1,4 @@
-//! Encrypts a file under a passphrase, from any source to any sink.
+//! The encryption of a file under a passphrase, from any source to any sink.
 #![tactic(auto)]
 
 mod encryption;

@@ -1,4 +1,4 @@
-//! Seals what a source gives, and writes each block.
+//! The sealing of a source's bytes into the blocks of a payload.
 
 ghost use Rattle.std.specs.Prelude.{◌≡◌, ◌^◌, ◌≤◌, [], length, OnOk, true};
 ghost use Rattle.age_keys.specs.inner.{seals};
@@ -16,10 +16,10 @@ use age_keys::PayloadKey;
 use age_position::Writer;
 use age_stream::{BLOCK_LEN, Sealer};
 
-/// What seals the chunks of a payload.
+/// The sealer of an age file's payload.
 type PayloadSealer<'a> = Sealer<'a, PayloadKey, BLOCK_LEN>;
 
-/// Feeds all of a piece, and writes the blocks that come out.
+/// Feeds all of a piece, and writes the blocks that are sealed.
 fn seal_piece<O: Sink>(
     sealer: &mut PayloadSealer<'_>,
     piece: &[u8],
@@ -59,8 +59,8 @@ fn finish<O: Sink>(
     Ok(flush_all(writer.sink)?)
 }
 
-/// Writes the payload of what a source gives, up to its end, flushes, and returns how many bytes
-/// the source gave, and how many were written with those before.
+/// Seals all that a source gives, writes the payload, and flushes. Returns the number of bytes that
+/// the source gave, and the number written, with those before.
 pub(crate) fn seal_all<S: Source, O: Sink>(
     key: &PayloadKey,
     reader: &mut Reader<'_, S>,

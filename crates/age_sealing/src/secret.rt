@@ -1,4 +1,4 @@
-//! What an age file for a passphrase is made of.
+//! The secret parts of an age file for a passphrase.
 
 ghost use Rattle.std.specs.Option.{SomeIff};
 ghost use Rattle.age_keys.specs.{IsAllowed};
@@ -7,8 +7,9 @@ ghost use Rattle.age_sealing.specs.Encrypts.{SecretView};
 use age_keys::{PASSPHRASE_LIMIT, WORK_FACTOR_LIMIT};
 use std::marker::Model;
 
-/// What an age file for a passphrase is made of. Salt, file key and payload nonce must be new
-/// random bytes for each file, which nothing here can check. A contract sees all five parts.
+/// The parts of an age file for a passphrase: passphrase, work factor, salt, file key and payload
+/// nonce. Salt, file key and payload nonce must be new random bytes for each file, which no code
+/// here can check. Contracts see all five.
 #[derive(Drop)]
 pub struct Secret<'a> {
     pub(crate) pass: &'a [u8],
@@ -33,7 +34,7 @@ impl<'a> Model for Secret<'a> {
 }
 
 impl<'a> Secret<'a> {
-    /// The secret of these parts; `None` if the passphrase has no byte or more than
+    /// Makes a secret of these parts, or returns `None` if the passphrase has no byte or more than
     /// [`PASSPHRASE_LIMIT`], or the work factor isn't 1 to [`WORK_FACTOR_LIMIT`].
     pub fn new(
         pass: &'a [u8],

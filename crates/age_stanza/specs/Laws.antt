@@ -1,4 +1,4 @@
--- What holds of all headers, faults and parsers, whatever the code does.
+-- Laws of headers, faults and parsers, whatever the code does.
 use Rattle.std.specs.Prelude.{◌≡◌, ◌⊎◌, ℕ, List, [], ◌∷◌, ◌++◌, Result, ◌+◌, ◌*◌, ◌/◌, ◌%◌, length, codes}
 use Rattle.std.specs.Prelude.{slice_index}
 use Rattle.std.specs.List.{concat}
@@ -15,9 +15,9 @@ use Rattle.age_stanza.specs.declared.header.Header.{Header}
 use Rattle.age_stanza.specs.declared.parser.State.{State}
 use Rattle.age_stanza.specs.declared.parser.State.TheVariants.{Open, Done, Failed}
 
--- ---- What a contract sees of a parser.
+-- ---- The contract view of a parser.
 
--- what the state of a parser stands for
+-- the view of a parser's state
 abbrev pub parsing_of : State → Parsing
 parsing_of (Open held) = reading held
 parsing_of Done = complete
@@ -33,14 +33,14 @@ pub data Fed : List (List ℕ) → Parsing → Type 0 where
       → Fed pieces old → IsOpen old → FeedsParser old piece result new
       → Fed (pieces ++ piece ∷ []) new
 
--- what a parser that was fed these bytes says of them
+-- the view of a parser that was fed these bytes is right about them
 abbrev pub StandsFor : Parsing → List ℕ → Type 0
 StandsFor (reading held) bytes = held ≡ bytes
 StandsFor complete bytes = HasHeader bytes
 StandsFor (refused fault) bytes = (fault ≡ memory_fault)
     ⊎ ((¬ HasHeader bytes) × IsFault bytes fault)
 
--- it doesn't matter how the bytes were split into pieces
+-- the state of a parser depends only on the joined bytes, however they were split into pieces
 abbrev pub AnyPieces : Type 0
 AnyPieces = (pieces : List (List ℕ)) (parser : Parsing) → Fed pieces parser
     → StandsFor parser (concat pieces)
@@ -63,18 +63,18 @@ Alphabet =
     engine_symbols standard_no_pad
     ≡ codes "ABCDEFGHIJKLMNOPQRSTUVWXYZabcdefghijklmnopqrstuvwxyz0123456789+/"
 
--- what is reported of a prefix of some bytes is reported of them all
+-- the fault of a prefix of some bytes is the fault of them all
 abbrev pub FaultsStay : Type 0
 FaultsStay = (prefix rest : List ℕ) (fault : HeadFault)
     → ¬ HasHeader prefix → IsFault prefix fault
     → (¬ HasHeader (prefix ++ rest)) × IsFault (prefix ++ rest) fault
 
--- what the MAC covers is the header's text without its last 45 bytes
+-- the MAC covers the header's text without its last 45 bytes
 abbrev pub MacTextIsFront : Type 0
 MacTextIsFront = (h : Header) (bytes : List ℕ) → HeadText h bytes
     → (last : List ℕ) × (length last ≡ 45) × (bytes ≡ mac_text h ++ last)
 
--- the character of six bits; `Alphabet` says which it is
+-- the character of six bits; `Alphabet` says which character that is
 abbrev pub character : ℕ → ℕ
 character bits = slice_index (engine_symbols standard_no_pad) bits
 

@@ -1,4 +1,4 @@
--- Which fault is reported of bytes that are no header, and what a parser says of pieces of bytes.
+-- The faults of bytes that are no header, and the results of a parser that is fed pieces of bytes.
 use Rattle.std.specs.Prelude.{ℕ, ◌≡◌, ◌≢◌, ◌⊎◌, ◌+◌, ◌-◌, ◌==◌, nat_eq, ◌||◌}
 use Rattle.std.specs.Prelude.{true, false, if◌then◌else◌, List, [], ◌∷◌, ◌++◌, length, take, codes}
 use Rattle.std.specs.Prelude.{count_by, ◌<◌, ◌≤◌, Result, Ok, Err}
@@ -25,11 +25,11 @@ use Rattle.age_stanza.specs.declared.header.Stanza.{Stanza}
 abbrev pub Begins : List ℕ → Type 0
 Begins bytes = (h : Header) × (rest : List ℕ) × Spells h (bytes ++ rest)
 
--- no LF stands in it
+-- a line, without its LF: no LF stands in it
 abbrev pub IsLine : List ℕ → Type 0
 IsLine l = AllByRecursion (λ c. c ≢ 10) l
 
--- nothing, or complete lines
+-- complete lines, or none
 abbrev pub AreLines : List ℕ → Type 0
 AreLines bytes = (bytes ≡ []) ⊎ ((lines : List ℕ) × (bytes ≡ line lines))
 
@@ -49,11 +49,11 @@ pub record FirstFault (bytes before l : List ℕ) : Type 0 where
 abbrev pub stanzas_text : List Stanza → List ℕ
 stanzas_text ss = line version ++ flat_map stanza_text ss
 
--- the text of some MAC after the mark of an end line
+-- an end line, without its LF: the mark, and the text of some MAC
 abbrev pub IsEndLine : List ℕ → Type 0
 IsEndLine l = (mac : List ℕ) × (length mac ≡ 32) × IsBytes mac × (l ≡ end_line mac)
 
--- what is reported of the first faulty line, if it stands between stanzas
+-- the fault of the first faulty line, if it stands between stanzas
 pub record RefusesBetween (l : List ℕ) (kind : HeadKind) : Type 0 where
   -- an end line is faulty only before the first stanza
   pub no_stanza : IsEndLine l → kind ≡ NoStanza
@@ -66,7 +66,7 @@ pub record RefusesBetween (l : List ℕ) (kind : HeadKind) : Type 0 where
 abbrev pub armor : List ℕ
 armor = codes "-----BEGIN AGE ENCRYPTED FILE-----"
 
--- what is reported of the first faulty line, by its place
+-- the fault of the first faulty line, by its place
 pub record RefusesLine (before l : List ℕ) (kind : HeadKind) : Type 0 where
   -- the first line is an armored file's, or no age file's
   pub first : before ≡ []
@@ -79,11 +79,11 @@ pub record RefusesLine (before l : List ℕ) (kind : HeadKind) : Type 0 where
       → ((ss : List Stanza) → AllByRecursion IsStanza ss → before ≢ stanzas_text ss)
       → kind ≡ BadBody
 
--- the line that follows some bytes
+-- the number of the line that follows some bytes, from 1
 abbrev pub line_after : List ℕ → ℕ
 line_after bytes = 1 + count_by (λ c. c == 10) bytes
 
--- ---- Which fault is reported of bytes.
+-- ---- The fault of bytes.
 
 -- the bytes begin with a header
 abbrev pub HasHeader : List ℕ → Type 0
@@ -99,23 +99,24 @@ abbrev pub IsLineFault : List ℕ → HeadFault → Type 0
 IsLineFault bytes fault = (before : List ℕ) × (l : List ℕ) × FirstFault bytes before l
     × (fault.line ≡ line_after before) × RefusesLine before l fault.kind
 
--- what is reported of bytes that begin with no header, by their first 1,048,576, which is the limit
--- of a header: the first faulty line; or, if no line is faulty and there are that many, that the
--- header is too long, at the line of the last of them
+-- the fault of bytes that begin with no header, by their first 1,048,576, which is the limit of a
+-- header: the first faulty line; or, if no line is faulty and there are that many, that the header
+-- is too long, at the line of the last of them
 abbrev pub IsFault : List ℕ → HeadFault → Type 0
 IsFault bytes fault = IsLineFault (take header_limit bytes) fault
     ⊎ (NoFault (take header_limit bytes) × (length (take header_limit bytes) ≡ header_limit)
     × (fault ≡ record { kind = HeadTooLong; line = line_after (take (header_limit - 1) bytes) }))
 
--- ---- What a parser of headers has come to, and what a call does to it.
+-- ---- The contract view of a parser, and the change of it by a call.
 
--- the joined bytes so far, or a header was found, or it was refused
+-- the view of a parser: the joined bytes so far, or that a header was found, or the fault for which
+-- it was refused
 pub data Parsing : Type 0 where
   reading : List ℕ → Parsing
   complete : Parsing
   refused : HeadFault → Parsing
 
--- what is true of every parser: the bytes so far of one that reads on are fewer than the limit,
+-- the invariant of every parser: the bytes so far of one that reads on are fewer than the limit,
 -- they begin with no header, and none of their lines is faulty
 abbrev pub IsParsing : Parsing → Type 0
 IsParsing (reading held) = (length held < header_limit) × IsBytes held × (¬ HasHeader held)
@@ -123,12 +124,13 @@ IsParsing (reading held) = (length held < header_limit) × IsBytes held × (¬ H
 IsParsing complete = Unit {0}
 IsParsing (refused fault) = Unit {0}
 
+-- the parser has returned no header
 abbrev pub IsOpen : Parsing → Type 0
 IsOpen parsing = parsing ≢ complete
 
--- what is returned for a piece, and what the parser then is: a header exactly if a prefix of the
--- joined bytes is its text; else the first fault of the joined bytes; else more is asked for. An
--- empty piece is refused only after an earlier refusal, which stays
+-- the result for a piece, and the parser after it: a header exactly if a prefix of the joined bytes
+-- is its text; else the first fault of the joined bytes; else more is asked for. An empty piece is
+-- refused only after an earlier refusal, which stays
 abbrev pub FeedsParser : Parsing → List ℕ → Result HeadStep HeadFault → Parsing → Type 0
 FeedsParser (reading held) piece (Ok More) new = (new ≡ reading (held ++ piece))
     × (length (held ++ piece) < header_limit) × (¬ HasHeader (held ++ piece))
@@ -141,8 +143,8 @@ FeedsParser (reading held) piece (Err fault) new = (new ≡ refused fault)
 FeedsParser complete piece result new = Unit {0}
 FeedsParser (refused fault) piece result new = (result ≡ Err fault) × (new ≡ refused fault)
 
--- what is returned at the end of the input: that the header is truncated, in the line in which the
--- end comes, or the earlier fault
+-- the result at the end of the input: that the header is truncated, in the line in which the end
+-- comes, or the earlier fault
 abbrev pub Cuts : Parsing → HeadFault → Parsing → Type 0
 Cuts (reading held) fault new = (fault ≡ record { kind = HeadCut; line = line_after held })
     × (new ≡ refused fault) × (¬ HasHeader held) × NoFault held

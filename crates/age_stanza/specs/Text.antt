@@ -1,11 +1,11 @@
--- What a header's text is made of: the letters of an argument, and base64.
+-- The parts of a header's text: the letters of an argument, and base64.
 use Rattle.std.specs.Prelude.{ℕ, List}
 use Rattle.base64.specs.GeneralPurpose.{encode_of}
 use Rattle.base64.specs.Engines.{standard_no_pad}
 use Rattle.age_stanza.specs.declared.argument.Letters.{Letters}
 use Rattle.age_stanza.specs.declared.argument.Letters.TheVariants.{Short, Long}
 
--- ---- What a contract sees of an argument.
+-- ---- The contract view of an argument.
 
 -- the bytes of an argument
 abbrev pub letters_of : Letters → List ℕ
@@ -14,6 +14,6 @@ letters_of (Long long) = long.value.items
 
 -- ---- The text of bytes in a header: base64 (RFC 4648, section 4) without padding.
 
--- the text of some bytes
+-- the base64 of some bytes
 unfoldable pub base64_text : List ℕ → List ℕ
 base64_text bytes = encode_of standard_no_pad bytes

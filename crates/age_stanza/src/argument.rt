@@ -7,18 +7,19 @@ use arrayvec::ArrayVec;
 use std::alloc::{AllocError, Global};
 use std::marker::Model;
 
-/// Where the bytes of an argument lie.
+/// The bytes of an argument, by where they are stored.
 #[derive(Drop)]
 enum Letters {
-    /// In the value itself.
+    /// The bytes in the value itself.
     Short(ArrayVec<u8, 8>),
-    /// In an allocation. A box, since a `Vec` would make each argument 32 bytes long.
+    /// The bytes in an allocation. It is a box, since a `Vec` would make each argument 32 bytes
+    /// long.
     Long(Box<Vec<u8>>),
 }
 
-/// An argument of a stanza (<https://c2sp.org/age#header>). The value takes 24 bytes, and up to 8
-/// bytes of the argument lie in the value itself. So a header of many short arguments needs no
-/// allocation for each. A contract sees the list of the argument's bytes.
+/// An argument of a stanza (<https://c2sp.org/age#header>). The value takes 24 bytes, and stores an
+/// argument of up to 8 bytes without an allocation, so that a header of many short arguments needs
+/// none for each. Contracts see the list of the argument's bytes.
 #[derive(Drop)]
 pub struct Argument {
     letters: Letters,
@@ -34,8 +35,9 @@ impl Model for Argument {
 }
 
 impl Argument {
-    /// A copy of some bytes, whether or not [`is_argument`](crate::is_argument) holds of them. Up
-    /// to 8 bytes need no allocation, so only more can run out of memory.
+    /// Makes an argument of a copy of some bytes, whether or not they are valid by
+    /// [`is_argument`](crate::is_argument). Up to 8 bytes need no allocation, so only more can run
+    /// out of memory.
     pub fn from_slice(alloc: Global, bytes: &[u8]) -> Result<Argument, AllocError>
         ensures copied { IfOk result (λ argument. argument ≡ bytes.now) }
         ensures refused { OnErr result (8 < length bytes.now) }
@@ -47,7 +49,7 @@ impl Argument {
         Ok(Argument { letters })
     }
 
-    /// The bytes.
+    /// Returns the argument's bytes.
     pub fn as_slice(&self) -> &[u8]
         ensures { result.now ≡ self.now }
     {
@@ -57,14 +59,14 @@ impl Argument {
         }
     }
 
-    /// How many bytes there are.
+    /// Returns the length of the argument in bytes.
     pub fn len(&self) -> usize
         ensures { result ≡ length self.now }
     {
         self.as_slice().len()
     }
 
-    /// Whether there is no byte.
+    /// Returns whether the argument is empty.
     pub fn is_empty(&self) -> bool
         ensures { IsTrue result ↔ (self.now ≡ []) }
     {

@@ -9,7 +9,8 @@ use crate::argument::{Argument, Arguments};
 use crate::valid::is_argument;
 use std::alloc::{AllocError, Global};
 
-/// Adds an argument. False if its characters aren't valid; then nothing changes.
+/// Appends an argument, and returns whether its characters are valid. Leaves `args` unchanged if
+/// they aren't.
 fn push_valid(alloc: Global, args: &mut Arguments, characters: &[u8]) -> Result<bool, AllocError>
     ensures pushed { IfOk result (λ r. r ≡ true → IsArgument characters.now
         × (args.new ≡ args.old ++ characters.now ∷ [])) }
@@ -22,14 +23,15 @@ fn push_valid(alloc: Global, args: &mut Arguments, characters: &[u8]) -> Result<
     Ok(true)
 }
 
-/// Where the first argument ends.
+/// Returns the position of the first space, which ends the first argument.
 fn argument_end(letters: &[u8]) -> Option<usize>
     ensures { result ≡ position (λ c. c == 32) letters.now }
 {
     letters.iter().position(|c| *c == b' ')
 }
 
-/// Adds the arguments that letters hold, separated by single spaces. False if one isn't valid.
+/// Appends the arguments that `letters` has, separated by single spaces, and returns whether all
+/// are valid.
 fn push_all(alloc: Global, args: &mut Arguments, letters: &[u8]) -> Result<bool, AllocError>
     ensures all { IfOk result
         (λ r. r ≡ true → arguments_from args.old (at_spaces letters.now) ≡ Some args.new) }
@@ -46,14 +48,14 @@ fn push_all(alloc: Global, args: &mut Arguments, letters: &[u8]) -> Result<bool,
     push_valid(alloc, args, rest)
 }
 
-/// How many spaces letters hold.
+/// Returns the number of spaces.
 fn spaces_in(letters: &[u8]) -> usize
     ensures { result ≤ length letters.now }
 {
     letters.iter().filter(|c| **c == b' ').count()
 }
 
-/// The arguments that letters hold, separated by single spaces, or `None` if one isn't valid.
+/// Parses arguments that are separated by single spaces. Returns `None` if one isn't valid.
 fn arguments_in(alloc: Global, letters: &[u8]) -> Result<Option<Arguments>, AllocError>
     ensures { IfOk result (λ r. r ≡ arguments_from [] (at_spaces letters.now)) }
 {
@@ -65,7 +67,7 @@ fn arguments_in(alloc: Global, letters: &[u8]) -> Result<Option<Arguments>, Allo
     }
 }
 
-/// The arguments of a line, without its LF; `None` if it is no argument line.
+/// Parses an argument line, without its LF. Returns `None` if it isn't one.
 #[tactic(auto, unfolding(crate::specs::inner::LineMachine::arguments_of))]
 pub(crate) fn arguments_of(alloc: Global, line: &[u8]) -> Result<Option<Arguments>, AllocError>
     ensures { IfOk result (λ r. r ≡ spec_arguments_of line.now) }

@@ -1,4 +1,4 @@
-//! Writes the text of a header.
+//! Functions that write the text of a header.
 
 ghost use Rattle.std.specs.Prelude.{◌≡◌, ◌++◌, ◌∷◌, ◌≤◌, length, IfOk, IfErr, OnOk};
 ghost use Rattle.std.specs.List.{flat_map};
@@ -13,11 +13,11 @@ use age_fault::HeadFault;
 use base64::engine::general_purpose::STANDARD_NO_PAD;
 use std::alloc::{AllocError, Global};
 
-/// How many bytes of a header's text follow what its MAC covers: a space, the MAC's characters and
-/// LF.
+/// The number of bytes of a header's text after the part that its MAC covers: a space, the MAC's
+/// characters and LF.
 const AFTER_MAC_TEXT: usize = 1 + MAC_CHARACTERS + 1;
 
-/// Writes the text of no more bytes than one line spells.
+/// Writes the base64 of at most 48 bytes, which one line of a body has.
 fn put_text(out: &mut Vec<u8>, bytes: &[u8]) -> Result<(), AllocError>
     requires { length bytes.now ≤ 48 }
     ensures { OnOk result (out.new.items ≡ out.old.items ++ base64_text bytes.now) }
@@ -29,7 +29,7 @@ fn put_text(out: &mut Vec<u8>, bytes: &[u8]) -> Result<(), AllocError>
     out.extend_from_slice(&characters[..len])
 }
 
-/// Writes the text of no more bytes than one line spells, and LF.
+/// Writes the base64 of at most 48 bytes, which one line of a body has, and LF.
 fn put_line(out: &mut Vec<u8>, bytes: &[u8]) -> Result<(), AllocError>
     requires { length bytes.now ≤ 48 }
     ensures { OnOk result (out.new.items ≡ out.old.items ++ line (base64_text bytes.now)) }
@@ -38,7 +38,7 @@ fn put_line(out: &mut Vec<u8>, bytes: &[u8]) -> Result<(), AllocError>
     out.extend_from_slice(b"\n")
 }
 
-/// Writes the text of a body in lines.
+/// Writes the base64 of a body, wrapped into lines.
 fn put_body(out: &mut Vec<u8>, body: &[u8]) -> Result<(), AllocError>
     ensures { OnOk result (out.new.items ≡ out.old.items ++ in_lines (base64_text body.now)) }
 {
@@ -51,7 +51,7 @@ fn put_body(out: &mut Vec<u8>, body: &[u8]) -> Result<(), AllocError>
     put_line(out, rest)
 }
 
-/// Writes arguments, each with the space before it.
+/// Writes arguments, each after a space.
 fn put_args(out: &mut Vec<u8>, args: &[Argument]) -> Result<(), AllocError>
     ensures { OnOk result (out.new.items ≡ out.old.items ++ flat_map (λ a. 32 ∷ a) args.now) }
 {
@@ -62,7 +62,7 @@ fn put_args(out: &mut Vec<u8>, args: &[Argument]) -> Result<(), AllocError>
     Ok(())
 }
 
-/// Writes a stanza.
+/// Writes the text of a stanza.
 fn put_stanza(out: &mut Vec<u8>, stanza: &Stanza) -> Result<(), AllocError>
     ensures { OnOk result (out.new.items ≡ out.old.items ++ stanza_text stanza.now) }
 {
@@ -72,7 +72,7 @@ fn put_stanza(out: &mut Vec<u8>, stanza: &Stanza) -> Result<(), AllocError>
     put_body(out, stanza.body.as_slice())
 }
 
-/// Writes stanzas in their order.
+/// Writes the texts of stanzas in order.
 fn put_stanzas(out: &mut Vec<u8>, stanzas: &[Stanza]) -> Result<(), AllocError>
     ensures { OnOk result (out.new.items ≡ out.old.items ++ flat_map stanza_text stanzas.now) }
 {
@@ -82,7 +82,7 @@ fn put_stanzas(out: &mut Vec<u8>, stanzas: &[Stanza]) -> Result<(), AllocError>
     Ok(())
 }
 
-/// The part of a header's text that its MAC covers, with room for `len` bytes.
+/// Returns the part of a header's text that its MAC covers, in a vector with room for `len` bytes.
 fn front_text(alloc: Global, header: &Header, len: usize) -> Result<Vec<u8>, AllocError>
     ensures { IfOk result (λ bytes. bytes.items ≡ mac_text header.now) }
 {
@@ -94,7 +94,7 @@ fn front_text(alloc: Global, header: &Header, len: usize) -> Result<Vec<u8>, All
     Ok(out)
 }
 
-/// The text of a header, with room for `len` bytes.
+/// Returns the text of a header, in a vector with room for `len` bytes.
 fn whole_text(alloc: Global, header: &Header, len: usize) -> Result<Vec<u8>, AllocError>
     ensures { IfOk result (λ bytes. bytes.items ≡ head_text header.now) }
 {
@@ -104,9 +104,9 @@ fn whole_text(alloc: Global, header: &Header, len: usize) -> Result<Vec<u8>, All
     Ok(out)
 }
 
-/// The text of a header (<https://c2sp.org/age#header>). It requires
-/// [`is_header`](crate::is_header). All memory is allocated at once; the only fault is running out
-/// of it ([`HeadKind::Memory`](crate::HeadKind::Memory)).
+/// Returns the text of a header (<https://c2sp.org/age#header>), for which
+/// [`is_header`](crate::is_header) must hold. Fails only if memory runs out
+/// ([`HeadKind::Memory`](crate::HeadKind::Memory)). All memory is allocated at once.
 pub fn encode_head(alloc: Global, header: &Header) -> Result<Vec<u8>, HeadFault>
     requires { HasText header.now }
     ensures text { IfOk result (λ bytes. HeadText header.now bytes.items) }
@@ -118,10 +118,10 @@ pub fn encode_head(alloc: Global, header: &Header) -> Result<Vec<u8>, HeadFault>
     Ok(whole_text(alloc, header, len)?)
 }
 
-/// The part of a header's text that its MAC covers: from the version line up to and with the `---`
-/// of the end line, without the space that follows (<https://c2sp.org/age#header-mac>). It requires
-/// [`is_header`](crate::is_header). All memory is allocated at once; the only fault is running out
-/// of it ([`HeadKind::Memory`](crate::HeadKind::Memory)).
+/// Returns the part of a header's text that its MAC covers: from the version line up to and with
+/// the `---` of the end line, without the space that follows (<https://c2sp.org/age#header-mac>).
+/// Requires [`is_header`](crate::is_header). Fails only if memory runs out
+/// ([`HeadKind::Memory`](crate::HeadKind::Memory)). All memory is allocated at once.
 #[tactic(auto, using(crate::proofs::TextLengthLemmas::head_least))]
 pub fn mac_text(alloc: Global, header: &Header) -> Result<Vec<u8>, HeadFault>
     requires { HasText header.now }

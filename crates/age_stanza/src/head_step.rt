@@ -1,11 +1,11 @@
-//! What the parser returns for a piece.
+//! The result of feeding a piece to the parser of a header.
 
 use crate::header::Header;
 
-/// What a piece led to, if not to a fault.
+/// The result of feeding a piece to a [`HeadParser`](crate::HeadParser) that found no fault.
 #[derive(Drop)]
 pub enum HeadStep {
-    /// The bytes so far are the beginning of a header; all of the piece was taken.
+    /// The bytes so far are the beginning of a header, and all of the piece was taken.
     More,
     /// The header is complete with the first `taken` bytes of the piece. The last of these is the
     /// end line's LF.

@@ -1,13 +1,13 @@
-//! The lengths and the fixed line of a header's text.
+//! The lengths in a header's text, and its version line.
 
 /// The version line, without its LF.
 pub(crate) const VERSION: &[u8; 21] = b"age-encryption.org/v1";
 
-/// How many characters a full line of a body has.
+/// The number of characters in a full line of a body.
 pub(crate) const COLUMNS: usize = 64;
 
-/// How many bytes a full line of a body spells.
+/// The number of bytes that a full line of a body encodes.
 pub(crate) const LINE_BYTES: usize = COLUMNS / 4 * 3;
 
-/// How many characters the base64 of a header's MAC has.
+/// The number of characters in the base64 of a header's MAC.
 pub(crate) const MAC_CHARACTERS: usize = 43;

@@ -1,4 +1,4 @@
-//! The part of a header that came so far.
+//! The part of a header that was read so far.
 
 ghost use Rattle.std.specs.Prelude.{◌≡◌, ◌++◌, ◌+◌, ◌<◌, ◌≤◌, [], length, OnOk, IfErr, OnErr};
 ghost use Rattle.age_stanza.specs.Grammar.{header_limit};
@@ -14,9 +14,9 @@ use std::alloc::Global;
 use std::marker::Model;
 use std::mem;
 
-/// What an open parser holds: the place of the line that isn't finished, with what the lines before
-/// it held, and the characters of that line so far. Finished lines aren't kept as text. A contract
-/// sees the bytes that came.
+/// The part of a header that a parser has read: the place of the line that isn't finished, with the
+/// contents of the lines before it, and the characters of that line so far. Finished lines aren't
+/// kept as text. Contracts see the bytes that were read.
 #[derive(Drop)]
 pub(crate) struct PartialHeader {
     place: Place,
@@ -36,7 +36,7 @@ impl Model for PartialHeader {
     ghost invariant = { λ p. IsPartial p.place p.line.items p.bytes p.finished_lines };
 }
 
-/// A refusal at this line; running out of memory has no line.
+/// Returns the fault of a header at a line. Running out of memory has no line.
 fn fault_at(kind: HeadKind, line: u64) -> HeadFault
     ensures { result ≡ spec_fault_at kind line }
 {
@@ -46,8 +46,8 @@ fn fault_at(kind: HeadKind, line: u64) -> HeadFault
     }
 }
 
-/// Where a line leads if its first characters were kept, and its last ones came just now. A line
-/// that came in one piece is judged where it lies, without a copy.
+/// Parses a line whose first bytes are in `kept` and whose rest is `last`. Copies nothing if `kept`
+/// is empty.
 fn step_whole(
     alloc: Global,
     place: Place,
@@ -73,7 +73,7 @@ impl PartialHeader {
     ghost use Rattle.age_stanza.specs.Grammar.{line};
     ghost use Rattle.age_stanza.specs.inner.LineMachine.{EndsLine, Fails};
 
-    /// Nothing has come yet. Allocates nothing.
+    /// Makes the part of which nothing was read. Allocates nothing.
     pub(crate) fn new(alloc: Global) -> PartialHeader
         ensures { result ≡ [] }
     {
@@ -85,7 +85,7 @@ impl PartialHeader {
         }
     }
 
-    /// How many bytes came.
+    /// Returns the number of bytes that were read.
     #[tactic(auto, using(crate::proofs::FinishedLineLemmas::under_way))]
     pub(crate) fn len(&self) -> usize
         ensures len { result ≡ length self.now }
@@ -94,7 +94,7 @@ impl PartialHeader {
         self.bytes
     }
 
-    /// Adds characters to the line that isn't finished.
+    /// Appends characters to the line that isn't finished.
     pub(crate) fn extend(&mut self, characters: &[u8]) -> Result<(), HeadFault>
         requires one_line { IsLine characters.now }
         requires within { length self.old + length characters.now ≤ header_limit }
@@ -107,7 +107,8 @@ impl PartialHeader {
         Ok(())
     }
 
-    /// Takes what is left of the line, and its LF. A header, or a fault, leaves no state.
+    /// Parses the line that isn't finished, after appending the rest of it, whose LF has arrived.
+    /// Returns the header if it was the end line. After a header or a fault, the state is empty.
     pub(crate) fn end_line(&mut self, characters: &[u8]) -> Result<Option<Header>, HeadFault>
         requires one_line { IsLine characters.now }
         requires within { length self.old + length characters.now < header_limit }
@@ -138,7 +139,7 @@ impl PartialHeader {
         }
     }
 
-    /// The fault of a header that the end of the input truncated.
+    /// Returns the fault of a header that the end of input truncated.
     pub(crate) fn cut_fault(&self) -> HeadFault
         ensures { result ≡ record { kind = HeadKind.HeadCut; line = line_after self.now } }
     {
@@ -148,7 +149,7 @@ impl PartialHeader {
         }
     }
 
-    /// The fault of a header that reached the limit: its line is the last byte's.
+    /// Returns the fault of a header that reached the limit. Its line is the last byte's.
     pub(crate) fn too_long_fault(&self) -> HeadFault
         requires { length self.now ≡ header_limit }
         ensures { Fails result self.now }

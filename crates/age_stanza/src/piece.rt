@@ -1,4 +1,4 @@
-//! One more piece of a header.
+//! The parsing of one more piece of a header.
 
 ghost use Rattle.std.specs.Prelude.{◌≡◌, ◌==◌, ◌+◌, ◌<◌, ◌≤◌, length, take};
 ghost use Rattle.std.specs.List.{position};
@@ -10,14 +10,14 @@ use crate::head_step::HeadStep;
 use crate::partial::PartialHeader;
 use age_fault::HeadFault;
 
-/// Where the first line ends.
+/// Returns the position of the first LF.
 fn line_end(bytes: &[u8]) -> Option<usize>
     ensures { result ≡ position (λ c. c == 10) bytes.now }
 {
     bytes.iter().position(|c| *c == b'\n')
 }
 
-/// The first bytes of a piece, as many as there is room for.
+/// Returns the first bytes of a piece, at most `room`.
 fn first_bytes(piece: &[u8], room: usize) -> &[u8]
     ensures { result.now ≡ take room piece.now }
 {
@@ -28,7 +28,7 @@ fn first_bytes(piece: &[u8], room: usize) -> &[u8]
     }
 }
 
-/// Reads bytes line by line.
+/// Parses bytes line by line.
 fn read_lines(partial: &mut PartialHeader, bytes: &[u8]) -> Result<HeadStep, HeadFault>
     requires { length partial.old + length bytes.now ≤ header_limit }
     ensures { ReadsLines partial.old bytes.now result partial.new }
@@ -45,7 +45,7 @@ fn read_lines(partial: &mut PartialHeader, bytes: &[u8]) -> Result<HeadStep, Hea
     Ok(HeadStep::More)
 }
 
-/// Takes a piece, and reads no more of it than the limit allows.
+/// Parses a piece, and reads no more of it than the limit allows.
 pub(crate) fn take_piece(partial: &mut PartialHeader, piece: &[u8]) -> Result<HeadStep, HeadFault>
     requires { length partial.old < header_limit }
     ensures { TakesPiece partial.old piece.now result partial.new }

@@ -9,8 +9,8 @@ ghost use Rattle.age_stanza.specs.{base64_text};
 
 use base64::engine::general_purpose::STANDARD_NO_PAD;
 
-/// Reads the bytes of a body's line into `room`, and returns how many there are; `None` if it is no
-/// canonical text. So a line needs no allocation of its own.
+/// Decodes a line of a body into `room`, and returns the number of bytes. Returns `None` if the
+/// line isn't canonical base64. Allocates nothing.
 pub(crate) fn decode_line(line: &[u8], room: &mut [u8]) -> Option<usize>
     requires line { length line.now ≤ 64 }
     requires room { length room.old ≡ 48 }
@@ -21,9 +21,9 @@ pub(crate) fn decode_line(line: &[u8], room: &mut [u8]) -> Option<usize>
     STANDARD_NO_PAD.decode_slice_unchecked(line, room).ok()
 }
 
-/// Reads as many bytes as there is room for, at most 32, out of a text in canonical base64 without
-/// padding (RFC 4648, sections 3.5 and 4). False means that the text doesn't spell this many bytes,
-/// and leaves `bytes` unchanged.
+/// Decodes canonical base64 without padding (RFC 4648, sections 3.5 and 4) into `bytes`, which has
+/// at most 32 bytes. Returns `false`, and leaves `bytes` unchanged, if the text doesn't encode
+/// exactly as many bytes as there is room for.
 pub fn read_base64(characters: &[u8], bytes: &mut [u8]) -> bool
     requires { length bytes.old ≤ 32 }
     ensures read { OnTrue result (characters.now ≡ base64_text bytes.new) }
@@ -45,7 +45,7 @@ pub fn read_base64(characters: &[u8], bytes: &mut [u8]) -> bool
     }
 }
 
-/// The 32 bytes that an end line, without its LF, spells; `None` if it is no end line.
+/// Decodes the MAC of an end line, without its LF. Returns `None` if it isn't an end line.
 pub(crate) fn mac_of(line: &[u8]) -> Option<[u8; 32]>
     ensures { result ≡ spec_mac_of line.now }
 {

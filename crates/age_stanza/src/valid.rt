@@ -1,4 +1,4 @@
-//! Which headers have a text, and how long it is.
+//! Tests of which headers have a text, and the length of that text.
 
 ghost use Rattle.std.specs.Prelude.{◌≡◌, ◌↔◌, ◌≤◌, ◌+◌, ◌*◌, ◌/◌, ◌∷◌, ◌&&◌, IsTrue, length, nat_le};
 ghost use Rattle.std.specs.List.{flat_map, list_all};
@@ -11,22 +11,22 @@ use crate::argument::Argument;
 use crate::header::{Header, Stanza};
 use crate::lengths::{COLUMNS, VERSION};
 
-/// Whether all bytes are visible ASCII characters.
+/// Returns whether all bytes are visible ASCII characters.
 fn are_visible(bytes: &[u8]) -> bool
     ensures { result ≡ list_all (λ c. nat_le 33 c && nat_le c 126) bytes.now }
 {
     bytes.iter().all(|c| b'!' <= *c && *c <= b'~')
 }
 
-/// Whether some bytes are a valid argument of a stanza: one or more visible ASCII characters, from
-/// `!` to `~` (<https://c2sp.org/age#header>).
+/// Returns whether some bytes are a valid argument of a stanza: one or more visible ASCII
+/// characters, from `!` to `~` (<https://c2sp.org/age#header>).
 pub fn is_argument(bytes: &[u8]) -> bool
     ensures { IsTrue result ↔ IsArgument bytes.now }
 {
     !bytes.is_empty() && are_visible(bytes)
 }
 
-/// Whether a stanza has one or more arguments, which are all valid.
+/// Returns whether a stanza has one or more arguments, all of them valid.
 fn has_arguments(stanza: &Stanza) -> bool
     ensures { IsTrue result ↔ HasArguments stanza.now }
 {
@@ -34,7 +34,8 @@ fn has_arguments(stanza: &Stanza) -> bool
     !args.is_empty() && args.iter().all(|argument| is_argument(argument.as_slice()))
 }
 
-/// What arguments leave of some room, each with the space before it.
+/// Subtracts the length of arguments, each with the space before it, from `room`. Returns `None` if
+/// they are longer.
 fn room_after_arguments(room: usize, args: &[Argument]) -> Option<usize>
     ensures { Leaves room (length (flat_map (λ a. 32 ∷ a) args.now)) result }
 {
@@ -45,7 +46,7 @@ fn room_after_arguments(room: usize, args: &[Argument]) -> Option<usize>
     Some(left)
 }
 
-/// How many characters the text of some bytes has.
+/// Returns the number of characters in the base64 of some bytes, without padding.
 #[tactic(auto, using(crate::proofs::TextLengthLemmas::text_characters))]
 fn characters_of(bytes: &[u8]) -> usize
     requires { length bytes.now ≤ header_limit }
@@ -56,7 +57,7 @@ fn characters_of(bytes: &[u8]) -> usize
     (4 * bytes.len()).div_ceil(3)
 }
 
-/// What a body's text leaves of some room.
+/// Subtracts the length of a body's text from `room`. Returns `None` if it is longer.
 fn room_after_body(room: usize, body: &[u8]) -> Option<usize>
     requires { room ≤ header_limit }
     ensures leaves { Leaves room (length (in_lines (base64_text body.now))) result }
@@ -69,7 +70,7 @@ fn room_after_body(room: usize, body: &[u8]) -> Option<usize>
     room.checked_sub(characters + characters / COLUMNS + 1)
 }
 
-/// What a stanza's text leaves of some room.
+/// Subtracts the length of a stanza's text from `room`. Returns `None` if it is longer.
 fn room_after_stanza(room: usize, stanza: &Stanza) -> Option<usize>
     requires { room ≤ header_limit }
     ensures { LeavesAfterStanza room stanza.now result }
@@ -80,7 +81,7 @@ fn room_after_stanza(room: usize, stanza: &Stanza) -> Option<usize>
     room_after_body(left, stanza.body.as_slice())
 }
 
-/// The length of a header's text, if it is within the limit.
+/// Returns the length of a header's text, or `None` if it exceeds the limit.
 pub(crate) fn text_len(header: &Header) -> Option<usize>
     ensures { IsHeaderLength header.now result }
 {
@@ -93,8 +94,8 @@ pub(crate) fn text_len(header: &Header) -> Option<usize>
     Some(HEAD_MAX - left)
 }
 
-/// Whether a header has a text: one or more stanzas, each with one or more arguments, which are all
-/// valid ([`is_argument`]), and a text of no more than [`HEAD_MAX`] bytes.
+/// Returns whether a header has a text: one or more stanzas, each with one or more arguments, which
+/// are all valid ([`is_argument`]), and a text of no more than [`HEAD_MAX`] bytes.
 pub fn is_header(header: &Header) -> bool
     ensures { IsTrue result ↔ HasText header.now }
 {

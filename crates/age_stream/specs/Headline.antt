@@ -1,4 +1,4 @@
--- When what is held is what was written: the premises of the headline, and the headline.
+-- The headline, that the text held is the one that was written, and its premises.
 use Rattle.std.specs.Prelude.{◌≡◌, ◌≢◌, ℕ, ◌+◌, ◌-◌, ◌<◌, Bool, false, ◌&&◌, List, [], ◌∷◌, Contains, Some}
 use Rattle.std.specs.Prelude.{None, if◌then◌else◌, ◌*◌, ◌≤◌, true, ◌++◌, length, take, drop, IsSome, ◌⊎◌, map}
 use Rattle.std.specs.Str.{bytes_eq}
@@ -13,10 +13,10 @@ use Rattle.age_stream.specs.declared.delivery.Delivery.TheVariants.{Piece, End, 
 use Rattle.age_stream.specs.declared.step.Status.{Status}
 use Rattle.age_stream.specs.declared.step.Status.TheVariants.{Done}
 
--- ---- The premise: what opens is the writer's. A chunk has n bytes.
+-- ---- The premise: a block that opens is the writer's. A chunk has n bytes.
 
 module _ (sealing : Seals) (opening : OpensBlock) (n : ℕ) (text : List ℕ) where
-  -- if the block opens at the nonce, the writer of the plaintext sealed it there
+  -- a block that opens at the nonce is one that the writer of the plaintext sealed there
   -- (in any order: a nonce has the number of its chunk)
   abbrev pub IsWriters : List ℕ → List ℕ → Type 0
   IsWriters nonce block = IsSome (opening nonce block)
@@ -40,14 +40,16 @@ module _ (sealing : Seals) (opening : OpensBlock) (n : ℕ) (text : List ℕ) wh
 -- ---- An undamaged payload.
 
 module _ (sealing : Seals) (opening : OpensBlock) (n : ℕ) (text : List ℕ) where
-  -- the deliveries may be anything up to a restart at k that is accepted, or up to the beginning
+  -- the deliveries are a front after which a reader stands at chunk k: anything up to a restart at
+  -- k that is accepted, or nothing
   abbrev pub IsStart : ℕ → List Delivery → Type 0
   IsStart k front =
       ((front ≡ []) × (k ≡ 0))
       ⊎ ((earlier : List Delivery) × (front ≡ earlier ++ Restart k ∷ [])
       × (accepts opening n (standing opening n earlier) k ≡ true))
 
-  -- after that start come the writer's blocks from k on, in any pieces, and an end
+  -- the deliveries are undamaged from chunk k on: a front, then the writer's blocks from k on, in
+  -- any pieces, and an end
   pub record IsUndamaged (k : ℕ) (deliveries : List Delivery) : Type 0 where
     pub front : List Delivery
     pub pieces : List (Bor (List ℕ))
@@ -77,7 +79,7 @@ sealed_as (pair ∷ pairs) (chunk ∷ chunks) nonce block =
     else sealed_as pairs chunks nonce block
 
 module _ (sealing : Seals) (n : ℕ) (text : List ℕ) where
-  -- comparing blocks with the writer's instead of opening them
+  -- the opening by comparison: a block is compared with the writer's, and none is decrypted
   abbrev pub compared : OpensBlock
   compared = sealed_as (sealed sealing n text) (chunks n text)
 
@@ -98,15 +100,16 @@ module _ (sealing : Seals) (opening : OpensBlock) (n : ℕ) (text : List ℕ) wh
         → IsFirstWrong sealing n text s i
     pub few : (i : ℕ) → status ≢ failed TooManyChunks i
 
--- ---- What then holds of the plaintext.
+-- ---- The claims of the headline about the plaintext.
 
+-- a list is a prefix of another one
 abbrev pub IsPrefixOf : List ℕ → List ℕ → Type 0
 IsPrefixOf xs ys = (rest : List ℕ) × (xs ++ rest ≡ ys)
 
 module _ (sealing : Seals) (opening : OpensBlock) (n : ℕ) (text : List ℕ) where
-  -- what is held is a prefix of the plaintext, its end is reported only with all of it and only of
-  -- a segment that starts within it, what is undamaged gives all of it and its end, and each block
-  -- of the current segment stands in its place
+  -- the text held is a prefix of the plaintext, the end is reported only with all of it and only of
+  -- a segment that starts within it, undamaged deliveries give all of it and its end, and each
+  -- block of the current segment is in its place
   pub record IsRight (Undamaged : Type 0) (s : Segment) (held : List ℕ)
       (status : Status) : Type 0 where
     pub prefix : IsPrefixOf held text

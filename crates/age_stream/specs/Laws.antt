@@ -1,4 +1,4 @@
--- What follows from the definitions alone: lengths, chunks, when the headline's premise is met.
+-- The laws of the definitions alone: lengths, chunks, when the headline's premise is met.
 use Rattle.std.specs.Prelude.{◌≡◌, ℕ, ◌+◌, ◌-◌, ◌*◌, ◌/◌, ◌≤◌, List, length, Option, MatchOption, ◌<◌, ◌==◌}
 use Rattle.std.specs.Prelude.{◌⊎◌, [], ◌∷◌, ◌++◌, slice_index_or, true, false, None, map, ◌≢◌, Bool, take}
 use Rattle.std.specs.List.{AllByRecursion, flat_map}
@@ -16,10 +16,10 @@ use Rattle.age_stream.specs.declared.delivery.Delivery.{Delivery}
 use Rattle.age_stream.specs.declared.delivery.Delivery.TheVariants.{Piece, End}
 use Rattle.age_stream.specs.declared.step.Status.TheVariants.{Done, Open, Failed}
 
--- ---- How long a plaintext and its payload are, in chunks of 65,536 bytes (C2SP age.md,
+-- ---- The length of a plaintext and of its payload, in chunks of 65,536 bytes (C2SP age.md,
 -- "Payload").
 
--- how many chunks a plaintext of this many bytes has
+-- the number of chunks of a plaintext of this many bytes
 abbrev pub chunks_for : ℕ → ℕ
 chunks_for len = (len - 1) / chunk_length + 1
 
@@ -35,8 +35,8 @@ abbrev pub IsTextLengthOf : ℕ → Option ℕ → Type 0
 IsTextLengthOf size len =
     MatchOption len ((l : ℕ) → IsTextLength size l → ⊥) (IsTextLength size)
 
--- if the payloads of two plaintexts have the same length, so have the plaintexts, and a plaintext
--- has the length that its payload says
+-- plaintexts whose payloads have one length have one length too, and a plaintext has the length
+-- that its payload's gives
 abbrev pub LengthsAreOne : Type 0
 LengthsAreOne = ((size len other : ℕ) → IsTextLength size len → IsTextLength size other
     → len ≡ other)
@@ -45,8 +45,8 @@ LengthsAreOne = ((size len other : ℕ) → IsTextLength size len → IsTextLeng
 
 -- ---- The chunks of a plaintext, in the words of the standard. A chunk has n bytes.
 
--- the parts join to the plaintext; all but the last have n bytes; the last has 1 to n, or the
--- plaintext is empty and there is one empty part
+-- the chunks of a plaintext: the parts join to it; all but the last have n bytes; the last has 1 to
+-- n, or the plaintext is empty and there is one empty part
 pub record AreChunks (n : ℕ) (text : List ℕ) (parts : List (List ℕ)) : Type 0 where
   pub front : List (List ℕ)
   pub last : List ℕ
@@ -72,8 +72,8 @@ SealsChunks = (sealing : Seals) (n : ℕ) (text : List ℕ) (parts : List (List 
       sealing (nonce_bytes i (i + 1 == length parts)) (slice_index_or parts i []),
     ))
 
--- ---- When the headline's premise is met: the payload of a writer, delivered unchanged. A chunk
--- has n bytes.
+-- ---- The headline's premise is met by the payload of a writer that is delivered unchanged. A
+-- chunk has n bytes.
 
 -- the bytes come once, in any pieces, and then an end
 pub record AreWhole (bytes : List ℕ) (deliveries : List Delivery) : Type 0 where
@@ -81,7 +81,7 @@ pub record AreWhole (bytes : List ℕ) (deliveries : List Delivery) : Type 0 whe
   pub are : deliveries ≡ map Piece pieces ++ End ∷ []
   pub join : flat_map (λ (piece : Bor (List ℕ)). piece.now) pieces ≡ bytes
 
--- if all of these bytes are delivered, the plaintext is held, and its end was reported
+-- the deliveries of all of these bytes give the plaintext, and its end is reported
 abbrev pub GivesBack : OpensBlock → ℕ → List ℕ → List ℕ → Type 0
 GivesBack opening n bytes text = (deliveries : List Delivery) → AreWhole bytes deliveries
     → (text_held opening n (standing opening n deliveries) ≡ text)
@@ -95,14 +95,15 @@ module _ (sealing : Seals) (opening : OpensBlock) (n : ℕ) (text : List ℕ) wh
       (sealing (nonce_bytes (last_index n text) true) (last_chunk n text))
       ≡ None
 
-  -- a box that meets its law seals the plaintext in chunks of n bytes, and the payload is closed
+  -- a payload is sealable: a box that meets its law seals the plaintext in chunks of n bytes, and
+  -- the payload is closed
   pub record IsSealable : Type 0 where
     pub valid : IsChunkBox sealing opening
     pub some : 0 < n
     pub few : chunk_count n text ≤ chunk_limit
     pub closed : IsClosed
 
--- a claim about every such box and plaintext
+-- a claim about every sealable payload
 abbrev pub OfAllSealable : (Seals → OpensBlock → ℕ → List ℕ → Type 0) → Type 0
 OfAllSealable Claim = (sealing : Seals) (opening : OpensBlock) (n : ℕ) (text : List ℕ)
     → IsSealable sealing opening n text → Claim sealing opening n text
@@ -142,7 +143,7 @@ abbrev pub NoncesDiffer : Type 0
 NoncesDiffer = (i j : ℕ) (a b : Bool) → i < chunk_limit → j < chunk_limit
     → nonce_bytes i a ≡ nonce_bytes j b → (i ≡ j) × (a ≡ b)
 
--- different plaintexts seal to different blocks
+-- different plaintexts seal to different blocks at a nonce
 abbrev pub SealingsDiffer : Type 0
 SealingsDiffer = OfAllBoxes (λ sealing opening. (nonce text other : List ℕ) → length nonce ≡ 12
     → sealing nonce text ≡ sealing nonce other → text ≡ other)
@@ -170,14 +171,14 @@ pub record IsSettled (old new : Outcome) : Type 0 where
   pub index : new.index ≡ old.index
   pub fault : (fault : StreamFault) → old.status ≡ Failed fault → new.status ≡ Failed fault
 
--- once a segment isn't open, it is settled, whatever comes
+-- a segment that isn't open is settled, whatever comes
 abbrev pub ClosedStays : Type 0
 ClosedStays = (opening : OpensBlock) (n : ℕ) (s : Segment)
     → (s.ended ≡ false → s.late ≡ false) → (outcome opening n s).status ≢ Open
     → ((piece : List ℕ) → IsSettled (outcome opening n s) (outcome opening n (with_piece s piece)))
     × IsSettled (outcome opening n s) (outcome opening n (with_end s))
 
--- after an end it isn't open, and it stands at the same chunk
+-- a segment isn't open after an end, and it stands at the same chunk
 abbrev pub EndCloses : Type 0
 EndCloses = (opening : OpensBlock) (n : ℕ) (s : Segment)
     → ((outcome opening n (with_end s)).status ≢ Open)
@@ -188,7 +189,7 @@ abbrev pub ReleasedIsWritten : Type 0
 ReleasedIsWritten = OfAllBoxes (λ sealing opening. (n : ℕ) → 0 < n → (s : Segment)
     → ReleasesWritten sealing opening n s (released opening n s) (outcome opening n s).status)
 
--- how long a payload is: each chunk is sealed with 16 bytes more
+-- the length of a payload: each chunk is sealed with 16 bytes more
 abbrev pub PayloadIsLonger : Type 0
 PayloadIsLonger = OfAllBoxes (λ sealing opening. (n : ℕ) (text : List ℕ)
     → (length (payload sealing n text) ≡ length text + chunk_count n text * tag_length)

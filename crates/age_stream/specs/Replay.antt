@@ -1,4 +1,4 @@
--- What plaintext a replay holds after any deliveries, and what a drill answers.
+-- The plaintext that a replay has after any deliveries, and the result of a drill.
 use Rattle.std.specs.Prelude.{◌≡◌, ◌<◌, ◌≤◌, ◌+◌, ℕ, List, [], ◌∷◌, ◌++◌, length, vec_capacity, Result, OnOk}
 use Rattle.std.specs.Prelude.{OnErr}
 use Rattle.age_chunk.specs.{Seals, OpensBlock}
@@ -11,22 +11,23 @@ use Rattle.age_stream.specs.declared.delivery.Delivery.TheVariants.{Piece, End, 
 use Rattle.age_stream.specs.declared.replay.Drill.{Drill}
 use Rattle.age_stream.specs.declared.replay.ReplayState.{ReplayState}
 
--- ---- What a replay stands for. A chunk has n bytes.
+-- ---- The contract view of a replay. A chunk has n bytes.
 
--- what contracts see of a replay
+-- the view of a replay
 pub record ReplayView (B : Type 0) : Type 0 where
   pub key : B
   -- the opener of the current segment
   pub opener : OpenerView B
-  -- the plaintext that is held
+  -- the plaintext that was released and kept
   pub text : List ℕ
-  -- how many bytes of plaintext there is room for with no more memory
+  -- the number of bytes of plaintext that fit without more memory
   pub capacity : ℕ
-  -- how many restarts were refused
+  -- the number of restarts that were refused
   pub refused : ℕ
 
--- what a contract sees of a replay's state
+-- the view of a replay's state, for any box and chunk
 module _ {B : Type 0} {n : _} {g : _} where
+  -- the view of a replay's state
   abbrev pub replay_view : ReplayState B n g → ReplayView B
   replay_view r =
       record {
@@ -38,7 +39,7 @@ module _ {B : Type 0} {n : _} {g : _} where
       }
 
 module _ {B : Type 0} (opening : B → OpensBlock) (n : ℕ) where
-  -- a replay stands where the standing says
+  -- a replay is in the state of a standing
   pub record IsReplayAt (r : ReplayView B) (s : Standing) : Type 0 where
     pub key : r.opener.key ≡ r.key
     pub segment : Stands opening n r.opener s.segment
@@ -49,7 +50,7 @@ module _ {B : Type 0} (opening : B → OpensBlock) (n : ℕ) where
   abbrev pub Replays : ReplayView B → List Delivery → Type 0
   Replays r deliveries = IsReplayAt r (standing (opening r.key) n deliveries)
 
--- how many bytes of plaintext a delivery releases at most: room for no more is asked for
+-- the greatest number of bytes of plaintext that a delivery releases: room for no more is asked for
 abbrev pub could_release : {B : Type 0} → ℕ → OpenerView B → Delivery → ℕ
 could_release n o (Piece piece) = text_of_piece n o (length piece.now)
 could_release n o End = text_at_end o
@@ -61,8 +62,9 @@ pub record IsCramped {B : Type 0} (n : ℕ) (r : ReplayView B) (delivery : Deliv
   pub some : 0 < could_release n r.opener delivery
   pub full : r.capacity < length r.text + could_release n r.opener delivery
 
--- what `take` does with a delivery
+-- the result of `take`, and the replay after it
 module _ {B : Type 0} (sealing : B → Seals) (opening : B → OpensBlock) (n : ℕ) where
+  -- the result of `take` for a delivery, and the replay after it
   pub record TakesDelivery (old : ReplayView B) (delivery : Delivery)
       (answer : Result (Unit {0}) Memory) (new : ReplayView B) : Type 0 where
     -- whatever deliveries it was given before, it was then given these and this one
@@ -74,17 +76,17 @@ module _ {B : Type 0} (sealing : B → Seals) (opening : B → OpensBlock) (n : 
     pub written : OnOk answer ((deliveries : List Delivery) → Replays opening n old deliveries
         → HoldsWritten (sealing old.key) (opening old.key) n (deliveries ++ delivery ∷ [])
         new.text new.opener.status)
-    -- if memory runs out, nothing changes
+    -- the replay is unchanged if memory runs out
     pub err : OnErr answer (new ≡ old)
     -- memory runs out only if the delivery could release more plaintext than there is room for:
     -- never at a restart, nor after the last chunk or a fault
     pub memory : OnErr answer (IsCramped n old delivery)
     -- the room for plaintext doesn't shrink
     pub capacity : old.capacity ≤ new.capacity
-    -- its key stays
+    -- the key stays
     pub key : new.key ≡ old.key
 
--- ---- What a drill answers. A chunk has n bytes.
+-- ---- The result of a drill. A chunk has n bytes.
 
 -- the bytes of a delivery
 abbrev pub bytes_in : Delivery → List ℕ
@@ -92,7 +94,7 @@ bytes_in (Piece piece) = piece.now
 bytes_in End = []
 bytes_in (Restart k) = []
 
--- a drill answers what the definition holds after these deliveries
+-- a drill returns what the definitions give after these deliveries
 pub record IsHeldAfter (opening : OpensBlock) (n : ℕ) (deliveries : List Delivery)
     (drill : Drill) : Type 0 where
   pub text : drill.text.items ≡ text_held opening n (standing opening n deliveries)

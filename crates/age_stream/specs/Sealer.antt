@@ -1,4 +1,4 @@
--- What a sealer stands for, what its calls answer, and how a complete plaintext is sealed.
+-- The contract view of a sealer, the results of its calls, and the sealing of a complete plaintext.
 use Rattle.std.specs.Prelude.{◌≡◌, ℕ, ◌-◌, List, [], ◌∷◌, Option, Some, None, length, min, Bool, nat_lt, ◌==◌}
 use Rattle.std.specs.Prelude.{◌&&◌, ◌||◌, if◌then◌else◌, ◌<◌, ◌++◌, take, true, false, Result, IfOk, IfErr}
 use Rattle.std.specs.Prelude.{IfSome, OnOk, OnErr, ◌+◌, ◌*◌, ◌≤◌}
@@ -15,10 +15,10 @@ use Rattle.age_stream.specs.declared.step.Step.{Step}
 use Rattle.age_stream.specs.declared.whole_text.SealFault.{SealFault}
 use Rattle.age_stream.specs.declared.whole_text.SealFault.TheVariants.{Stream, Memory}
 
--- ---- What a sealer stands for, and what its calls answer. A chunk has n bytes.
+-- ---- The contract view of a sealer, and the results of its calls. A chunk has n bytes.
 
--- a sealer's key, the plaintext of the chunk that is open, that chunk's number, whether it was
--- refused, and whether the last chunk was sealed
+-- the view of a sealer: its key, the plaintext of the chunk that is open, that chunk's number,
+-- whether a call was refused, and whether the last chunk was sealed
 pub record SealerView (B : Type 0) : Type 0 where
   pub key : B
   pub held : List ℕ
@@ -26,17 +26,18 @@ pub record SealerView (B : Type 0) : Type 0 where
   pub failed : Bool
   pub finished : Bool
 
--- the plaintext of the open chunk: what the buffer holds; or, while the buffer's block is lent, the
--- one byte that is kept beside it
+-- the plaintext of the open chunk: the buffer; or, while the buffer's block is lent, the one byte
+-- that is kept beside it
 abbrev pub text_beside : Option ℕ → List ℕ → List ℕ
 text_beside None text = text
 text_beside (Some byte) text = byte ∷ []
 
 module _ {B : Type 0} {n : ℕ} {g : _} where
+  -- the plaintext of the open chunk of a sealer's state
   abbrev pub held_text : SealerState B n g → List ℕ
   held_text s = text_beside s.beside s.buffer.items
 
-  -- what a contract sees of a sealer's state
+  -- the view of a sealer's state
   abbrev pub sealer_view : SealerState B n g → SealerView B
   sealer_view s = record {
     key = s.key.now;
@@ -56,19 +57,21 @@ abbrev pub needs_too_many : {B : Type 0} → ℕ → SealerView B → List ℕ �
 needs_too_many n s piece =
     s.failed || (nat_lt 0 (length piece) && (length s.held == n && s.index == chunk_limit - 1))
 
+-- the fault of a plaintext that has too many chunks
 abbrev pub too_many : ℕ → StreamFault
 too_many index = record { kind = TooManyChunks; chunk = index }
 
--- how many bytes of a piece are taken: what there is room for, or, after a chunk that is full, one
+-- the number of bytes of a piece that are taken: as many as fit, or, after a chunk that is full,
+-- one
 abbrev pub step_len : ℕ → List ℕ → List ℕ → ℕ
 step_len n held piece =
     if length piece == 0 then 0
     else (if nat_lt (length held) n then min (n - length held) (length piece) else 1)
 
--- ---- What a sealer's calls answer, and what it is once a call returned and what was lent is back.
--- A chunk has n bytes.
+-- ---- The results of a sealer's calls, and the sealer once a call returned and the loan ended. A
+-- chunk has n bytes.
 
--- a sealer holds what it held, and was refused
+-- a sealer refused a call, and is otherwise unchanged
 pub record IsRefused {B : Type 0} (old new : SealerView B) : Type 0 where
   pub key : new.key ≡ old.key
   pub held : new.held ≡ old.held
@@ -77,10 +80,10 @@ pub record IsRefused {B : Type 0} (old new : SealerView B) : Type 0 where
   pub failed : new.failed ≡ true
 
 module _ {B : Type 0} (n : ℕ) (old : SealerView B) where
-  -- what a sealer is after `feed`
+  -- a sealer after `feed`
   pub record IsTaken (piece : List ℕ) (answer : Result Step StreamFault)
       (new : SealerView B) : Type 0 where
-    -- its key stays
+    -- the key stays
     pub key : new.key ≡ old.key
     -- a piece never finishes it
     pub unfinished : new.finished ≡ false
@@ -96,26 +99,27 @@ module _ {B : Type 0} (n : ℕ) (old : SealerView B) where
     -- an empty piece changes nothing
     pub unchanged : length piece ≡ 0 → new ≡ old
 
-  -- what a sealer is after `finish`
+  -- a sealer after `finish`
   pub record IsFinished (answer : Result (Bor (List ℕ)) StreamFault)
       (new : SealerView B) : Type 0 where
-    -- its key stays
+    -- the key stays
     pub key : new.key ≡ old.key
     -- the last chunk was sealed
     pub finished : OnOk answer (new.finished ≡ true)
     -- after Ok it isn't refused
     pub unfailed : OnOk answer (new.failed ≡ false)
-    -- it stays at the last chunk
+    -- the sealer stays at the last chunk
     pub index : OnOk answer (new.index ≡ old.index)
-    -- it holds the block that it lent
+    -- the block that was lent is in the buffer
     pub held : IfOk answer (λ block. new.held ≡ block.now)
     -- a refusal leaves all else unchanged
     pub refused : OnErr answer (IsRefused old new)
     -- a refusal doesn't finish the sealer
     pub unfinished : OnErr answer (new.finished ≡ false)
 
--- what `feed` and `finish` answer, for blocks of `size` bytes
+-- the results of `feed` and `finish`, for blocks of `size` bytes
 module _ {B : Type 0} (sealing : B → Seals) (size : ℕ) (old : SealerView B) where
+  -- the result of `feed`
   pub record Takes (piece : List ℕ) (answer : Result Step StreamFault) : Type 0 where
     -- bytes are taken as far as the open chunk has room, or one after a full chunk
     pub taken : IfOk answer
@@ -135,6 +139,7 @@ module _ {B : Type 0} (sealing : B → Seals) (size : ℕ) (old : SealerView B) 
         (λ fault. (needs_too_many (text_length size) old piece ≡ true)
         × (fault ≡ too_many old.index))
 
+  -- the result of `finish`
   pub record Finishes (answer : Result (Bor (List ℕ)) StreamFault) : Type 0 where
     -- the block that is lent ends the payload of the plaintext that the sealer was given
     pub chunk : IfOk answer (λ block. (text : List ℕ) → Holds (text_length size) old text
@@ -148,17 +153,17 @@ module _ {B : Type 0} (sealing : B → Seals) (size : ℕ) (old : SealerView B) 
     -- the end is refused only if a feed was, with the same fault
     pub refused : IfErr answer (λ fault. (old.failed ≡ true) × (fault ≡ too_many old.index))
 
--- ---- How a complete plaintext is sealed, and why it isn't. A chunk has n bytes.
+-- ---- The sealing of a complete plaintext, and its faults. A chunk has n bytes.
 
--- a plaintext has more than 2^48 chunks, which is reported at the last that a payload may have; or
--- memory ran out, if the payload has more bytes than there was room for
+-- the faults of sealing: a plaintext has more than 2^48 chunks, which is reported at the last that
+-- a payload may have; or memory ran out, if the payload has more bytes than there was room for
 abbrev pub SealRefuses : ℕ → List ℕ → ℕ → SealFault → Type 0
 SealRefuses n text room (Stream fault) = (chunk_limit * n < length text)
     × (fault ≡ too_many (chunk_limit - 1))
 SealRefuses n text room Memory = room < length text + chunk_count n text * tag_length
 
 module _ (sealing : Seals) (n : ℕ) (text : List ℕ) where
-  -- what `seal_into` does with the bytes before the call, if there is this much room for more
+  -- the result of `seal_into`, after the bytes before the call, if there is this much room for more
   pub record AppendsPayload (old : List ℕ) (room : ℕ) (answer : Result (Unit {0}) SealFault)
       (new : List ℕ) : Type 0 where
     -- the payload is appended
@@ -171,7 +176,7 @@ module _ (sealing : Seals) (n : ℕ) (text : List ℕ) where
     pub unchanged : OnErr answer (new ≡ old)
 
 module _ (sealing : Seals) (opening : OpensBlock) (n : ℕ) (text : List ℕ) where
-  -- what `seal_all` answers
+  -- the result of `seal_all`
   pub record SealsPayload {Z : Type 0} (answer : Result (Vec ℕ Z) SealFault) : Type 0 where
     -- the answer is the payload
     pub sealed : IfOk answer (λ bytes. bytes.items ≡ payload sealing n text)
@@ -184,14 +189,14 @@ module _ (sealing : Seals) (opening : OpensBlock) (n : ℕ) (text : List ℕ) wh
     -- a refusal has a reason; there was no room before
     pub refused : IfErr answer (SealRefuses n text 0)
 
--- ---- How a refusal is numbered among all faults.
+-- ---- The numbers of these faults among all faults.
 
--- the number of a refusal in the list of all faults
+-- the number of a fault of sealing in the list of all faults (docs/FAULTS.md)
 abbrev pub seal_fault_number : SealFault → ℕ
 seal_fault_number (Stream fault) = stream_fault_number fault.kind
 seal_fault_number Memory = 28
 
--- the chunk of a refusal, if it has one
+-- the chunk of a fault of sealing, if it has one
 abbrev pub seal_fault_place : SealFault → Option ℕ
 seal_fault_place (Stream fault) = Some fault.chunk
 seal_fault_place Memory = None

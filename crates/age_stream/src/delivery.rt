@@ -1,9 +1,9 @@
-//! What may come to a reader.
+//! The events of a transfer.
 
-/// A step of a transfer.
+/// An event of a transfer: bytes, an end or a restart.
 #[derive(Clone, Copy)]
 pub enum Delivery<'a> {
-    /// Bytes of the payload, or whatever came in their place.
+    /// Bytes of the payload, or others that came in their place.
     Piece(&'a [u8]),
     /// The input ended.
     End,

@@ -1,4 +1,4 @@
-//! Whole lists of deliveries.
+//! Plaintexts that result from whole lists of deliveries.
 ghost use Rattle.std.specs.Prelude.{◌<◌, ◌≤◌, length, IfOk, OnErr};
 ghost use Rattle.std.specs.List.{flat_map};
 ghost use Rattle.age_stream.specs.{IsHeldAfter, bytes_in, HoldsWritten};
@@ -9,8 +9,9 @@ use crate::replay::{Drill, Replay};
 use age_chunk::{ChunkBox, Memory};
 use std::alloc::Global;
 
-/// Gives deliveries to a new [`Replay`], and returns what it then holds, unless memory runs out.
-/// Requires `SEALED`, the length of a full block in bytes, from 17 to 65,552.
+/// Gives deliveries to a new [`Replay`], and returns the plaintext that it then has, with the
+/// status of its opener. Fails only if memory runs out. Requires `SEALED`, the length of a full
+/// block in bytes, from 17 to 65,552.
 pub fn drill<B: ChunkBox, const SEALED: usize>(
     alloc: Global,
     key: &B,

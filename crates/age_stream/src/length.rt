@@ -1,17 +1,18 @@
-//! How long a plaintext is, by the length of its payload.
+//! The length of a plaintext, from the length of its payload.
 ghost use Rattle.std.specs.Prelude.{◌<◌, ◌^◌};
 ghost use Rattle.age_stream.specs.{IsTextLengthOf};
 
 use age_chunk::{BLOCK_LEN, CHUNK_LIMIT, TAG_LEN};
 
-/// The lengths of a tag and a full block.
+/// The length of a tag.
 const TAG: u128 = TAG_LEN as u128;
 
+/// The length of a full block.
 const BLOCK: u128 = BLOCK_LEN as u128;
 
-/// The length in bytes of the plaintext whose payload has this many bytes, in chunks of
-/// [`CHUNK_LEN`](crate::CHUNK_LEN); `None` if no payload has that length. Requires less than 2^127
-/// bytes.
+/// Returns the length in bytes of the plaintext whose payload has `size` bytes, in chunks of
+/// [`CHUNK_LEN`](crate::CHUNK_LEN), or `None` if no payload has that length. Requires a size below
+/// 2^127.
 pub fn text_len_of(size: u128) -> Option<u128>
     requires { size < 2 ^ 127 }
     ensures { IsTextLengthOf size result }

@@ -9,7 +9,7 @@
 //! A [`Sealer`] takes a plaintext in pieces and lends the blocks, and an [`Opener`] takes the
 //! blocks in pieces and lends the plaintext, each out of one buffer of `SEALED` bytes, the length
 //! of a full block; for age files that is [`BLOCK_LEN`]. Neither allocates memory. A [`ChunkBox`]
-//! is what seals and opens a chunk. [`Replay`] and [`drill`] hold the plaintext that results from
+//! seals and opens single chunks. [`Replay`] and [`drill`] collect the plaintext that results from
 //! any list of pieces, ends and restarts. docs/LIBRARY.md says what to use for what.
 #![tactic(auto)]
 

@@ -1,4 +1,4 @@
-//! The reader's side: sealed chunks in, plaintext out.
+//! The opener of a payload: sealed chunks in, plaintext out.
 ghost use Rattle.std.specs.Prelude.{◌≡◌, ◌≢◌, ◌+◌, ◌-◌, ◌<◌, ◌≤◌, [], length, take, IfOk, Some, None, true};
 ghost use Rattle.std.specs.Prelude.{false, if◌then◌else◌, nat_lt, ◌==◌, ◌&&◌};
 ghost use Rattle.std.specs.Bool.{OnTrue, OnFalse};
@@ -14,7 +14,7 @@ use age_chunk::{CHUNK_LIMIT, ChunkBox, StreamFault, StreamKind, TAG_LEN, nonce_o
 use arrayvec::ArrayVec;
 use std::marker::Model;
 
-/// What an opener holds.
+/// The state of an opener.
 #[derive(Drop)]
 struct OpenerState<'k, B: ChunkBox, const SEALED: usize> {
     key: &'k B,
@@ -37,7 +37,7 @@ impl<'k, B: ChunkBox, const SEALED: usize> OpenerState<'k, B, SEALED> {
     ghost use Rattle.age_stream.specs.inner.{OpenerEndsAs, end_of_open, end_of_closed};
     ghost use Rattle.age_stream.specs.Opener.{held_bytes};
 
-    /// Empties the buffer of a plaintext that was lent.
+    /// Empties the buffer if its plaintext was lent.
     fn reclaim(&mut self)
         ensures buffer { self.new.buffer.items ≡ held_bytes self.old }
         ensures lent { self.new.lent ≡ false }
@@ -50,7 +50,8 @@ impl<'k, B: ChunkBox, const SEALED: usize> OpenerState<'k, B, SEALED> {
         }
     }
 
-    /// Tries the block in the buffer, as one before the last and then as the last.
+    /// Opens the block in the buffer, as one before the last or else as the last. Fails if it opens
+    /// as neither.
     fn try_block(&mut self) -> Result<(), StreamFault>
         requires full { length self.old.buffer.items ≡ SEALED }
         requires open { self.old.status ≡ Status.Open }
@@ -74,7 +75,7 @@ impl<'k, B: ChunkBox, const SEALED: usize> OpenerState<'k, B, SEALED> {
         Err(self.fail(StreamKind::ChunkDamaged))
     }
 
-    /// Takes what the block has room for, and tries the block that is full.
+    /// Appends as many bytes as the block has room for, and opens the block if it is full.
     fn take_open(&mut self, piece: &[u8]) -> Result<(usize, bool), StreamFault>
         requires { self.old.status ≡ Status.Open }
         ensures { OpenerAdvances B.sealing B.opening self.old piece.now result self.new }
@@ -91,7 +92,7 @@ impl<'k, B: ChunkBox, const SEALED: usize> OpenerState<'k, B, SEALED> {
         Ok((room, true))
     }
 
-    /// Takes nothing more.
+    /// Refuses bytes, since no block is open.
     fn take_closed(&mut self, piece: &[u8]) -> Result<(usize, bool), StreamFault>
         requires { self.old.status ≢ Status.Open }
         ensures { TakesNone self.old piece.now result self.new }
@@ -107,8 +108,8 @@ impl<'k, B: ChunkBox, const SEALED: usize> OpenerState<'k, B, SEALED> {
         }
     }
 
-    /// Takes the beginning of a piece; returns how many bytes, and whether the buffer now holds a
-    /// plaintext.
+    /// Takes the beginning of a piece. Returns the number of bytes taken, and whether the buffer
+    /// now has a plaintext.
     fn advance(&mut self, piece: &[u8]) -> Result<(usize, bool), StreamFault>
         ensures { OpenerAdvances B.sealing B.opening self.old piece.now result self.new }
     {
@@ -118,7 +119,7 @@ impl<'k, B: ChunkBox, const SEALED: usize> OpenerState<'k, B, SEALED> {
         }
     }
 
-    /// Tries what is held as the last block.
+    /// Opens the bytes in the buffer as the last block.
     fn end_open(&mut self) -> Result<usize, StreamFault>
         requires { self.old.status ≡ Status.Open }
         ensures { OpenerEndsAs (end_of_open B.opening self.old) self.old result self.new }
@@ -142,7 +143,7 @@ impl<'k, B: ChunkBox, const SEALED: usize> OpenerState<'k, B, SEALED> {
         Err(self.fail(StreamKind::ChunkDamaged))
     }
 
-    /// Takes an end if no block is open.
+    /// Ends an opener without an open block.
     fn end_closed(&mut self) -> Result<usize, StreamFault>
         requires { self.old.status ≢ Status.Open }
         ensures { OpenerEndsAs (end_of_closed B.opening self.old) self.old result self.new }
@@ -154,7 +155,8 @@ impl<'k, B: ChunkBox, const SEALED: usize> OpenerState<'k, B, SEALED> {
         Ok(0)
     }
 
-    /// Ends, and says how many bytes at the beginning of the buffer are the last plaintext.
+    /// Ends the opener, and returns the length of the last plaintext, at the beginning of the
+    /// buffer.
     fn close(&mut self) -> Result<usize, StreamFault>
         ensures open { self.old.status ≡ Status.Open
             → OpenerEndsAs (end_of_open B.opening self.old) self.old result self.new }
@@ -168,7 +170,7 @@ impl<'k, B: ChunkBox, const SEALED: usize> OpenerState<'k, B, SEALED> {
         }
     }
 
-    /// Fails for good, and holds nothing more.
+    /// Fails for good, and drops the bytes in the buffer.
     fn fail(&mut self, kind: StreamKind) -> StreamFault
         ensures status { self.new.status ≡ failed kind self.old.index }
         ensures fault { Status.Failed result ≡ failed kind self.old.index }
@@ -185,19 +187,19 @@ impl<'k, B: ChunkBox, const SEALED: usize> OpenerState<'k, B, SEALED> {
     }
 }
 
-/// Opens a payload that comes in pieces, however they are split (<https://c2sp.org/age#payload>). A
-/// full block is tried at the nonce of a chunk that isn't the last, and then at the nonce of the
-/// last one; what is left at the end of the input is tried as the last alone. A plaintext is lent
-/// only once its tag was checked.
-///
-/// A contract sees the key, the bytes of the block that is open, the chunk's number and the status.
-/// They are what the outcome of a segment says about all bytes since the opener was made, and about
-/// the end of the input.
+/// An opener of a payload that comes in pieces, however they are split
+/// (<https://c2sp.org/age#payload>). It lends a plaintext only once its tag was checked. A full
+/// block is tried at the nonce of a chunk that isn't the last, and then at the nonce of the last
+/// one; the bytes left at the end of input are tried as the last alone.
 ///
 /// `SEALED` is the length of a full block in bytes, from 17 to 65,552
 /// ([`BLOCK_LEN`](crate::BLOCK_LEN), which age files have); each call that makes an opener requires
-/// this. `feed_piece` in `age_opening/src/payload.rt` feeds complete pieces and writes what is
-/// lent.
+/// this. `feed_piece` in `age_opening/src/payload.rt` feeds complete pieces and writes the
+/// plaintext that is lent.
+///
+/// Contracts see the key, the bytes of the block that is open, the chunk's number and the status.
+/// They are what the outcome of a segment says about all bytes since the opener was made, and about
+/// the end of input.
 #[derive(Drop)]
 pub struct Opener<'k, B: ChunkBox, const SEALED: usize> {
     state: OpenerState<'k, B, SEALED>,
@@ -216,7 +218,7 @@ impl<'k, B: ChunkBox, const SEALED: usize> Opener<'k, B, SEALED> {
     ghost use Rattle.age_stream.specs.Opener.{Stands, has_failed, Feeds, IsFed, Ends, IsEnded};
     ghost use Rattle.age_stream.specs.Rows.{opener_row};
 
-    /// An opener of a complete payload. Allocates nothing.
+    /// Makes an opener of a complete payload. Allocates nothing.
     pub fn new(key: &'k B) -> Self
         requires least { tag_length < SEALED }
         requires most { SEALED ≤ block_length }
@@ -227,8 +229,8 @@ impl<'k, B: ChunkBox, const SEALED: usize> Opener<'k, B, SEALED> {
         Opener::at(key, 0)
     }
 
-    /// An opener of a payload from a chunk on, by the chunk's number, which is below
-    /// [`CHUNK_LIMIT`]. Allocates nothing.
+    /// Makes an opener of a payload from chunk `index` on, which is below [`CHUNK_LIMIT`].
+    /// Allocates nothing.
     #[tactic(auto, using(crate::proofs::GoingLemmas::fresh_outcome, crate::proofs::GoingLemmas::fresh_rest))]
     pub fn at(key: &'k B, index: u64) -> Self
         requires least { tag_length < SEALED }
@@ -241,9 +243,8 @@ impl<'k, B: ChunkBox, const SEALED: usize> Opener<'k, B, SEALED> {
         Opener::between(key, index, Status::Open)
     }
 
-    /// An opener that holds no byte of the block that is open, by the number of its chunk, which is
-    /// below [`CHUNK_LIMIT`], and its status: for a caller that keeps both itself between two
-    /// calls. Allocates nothing.
+    /// Makes an opener with an empty buffer at chunk `index`, which is below [`CHUNK_LIMIT`], with
+    /// a status. It is for a caller that stores both itself between two calls. Allocates nothing.
     pub fn between(key: &'k B, index: u64, status: Status) -> Self
         requires least { tag_length < SEALED }
         requires most { SEALED ≤ block_length }
@@ -262,8 +263,8 @@ impl<'k, B: ChunkBox, const SEALED: usize> Opener<'k, B, SEALED> {
         }
     }
 
-    /// The number of the chunk at which it stands: the one that it started at, and one more for
-    /// each chunk that was opened as not the last.
+    /// Returns the number of the current chunk: the one that the opener started at, and one more
+    /// for each chunk that was opened as not the last.
     pub fn index(&self) -> u64
         ensures index { result ≡ self.now.index }
         ensures limit { result < chunk_limit }
@@ -271,23 +272,23 @@ impl<'k, B: ChunkBox, const SEALED: usize> Opener<'k, B, SEALED> {
         self.state.index
     }
 
-    /// Whether blocks may still come, the last one was opened, the input ended, or a call was
-    /// refused.
+    /// Returns the status: blocks may still come, the last one was opened, the input ended, or a
+    /// call was refused.
     pub fn status(&self) -> Status
         ensures { result ≡ self.now.status }
     {
         self.state.status
     }
 
-    /// Whether a call was refused. Then each call is refused with the same fault.
+    /// Returns whether a call was refused. Then each call is refused with the same fault.
     pub fn has_failed(&self) -> bool
         ensures { result ≡ has_failed self.now.status }
     {
         matches!(self.state.status, Status::Failed(_))
     }
 
-    /// How many bytes of the block that is open are held: fewer than a block has, and none once no
-    /// block is open.
+    /// Returns the number of bytes in the buffer of the block that is open: fewer than a block has,
+    /// and 0 once no block is open.
     pub fn held_len(&self) -> usize
         ensures len { result ≡ length self.now.held }
         ensures below { result < SEALED }
@@ -301,7 +302,7 @@ impl<'k, B: ChunkBox, const SEALED: usize> Opener<'k, B, SEALED> {
         }
     }
 
-    /// How many bytes a chunk has.
+    /// Returns the length of a full chunk in bytes.
     pub(crate) fn chunk_len(&self) -> u64
         ensures len { result ≡ text_length SEALED }
         ensures most { result ≤ chunk_length }
@@ -313,12 +314,13 @@ impl<'k, B: ChunkBox, const SEALED: usize> Opener<'k, B, SEALED> {
     }
 
     /// Takes bytes of the payload, up to the end of the block that is open, and lends the plaintext
-    /// of a block that is full. Takes nothing from an empty piece. A full block that opens neither
-    /// as its chunk nor as the last is [`ChunkDamaged`](StreamKind::ChunkDamaged), one that opens
-    /// as chunk number [`CHUNK_LIMIT`] less one and not the last is
-    /// [`TooManyChunks`](StreamKind::TooManyChunks), and bytes after the last chunk are
-    /// [`Trailing`](StreamKind::Trailing). After a refusal each call is refused with the same
-    /// fault.
+    /// of a block that is full. Takes nothing from an empty piece.
+    ///
+    /// Fails with [`ChunkDamaged`](StreamKind::ChunkDamaged) if a full block opens neither as its
+    /// chunk nor as the last, with [`TooManyChunks`](StreamKind::TooManyChunks) if it opens as
+    /// chunk number [`CHUNK_LIMIT`] less one and not the last, and with
+    /// [`Trailing`](StreamKind::Trailing) if bytes come after the last chunk. After a refusal each
+    /// call is refused with the same fault.
     pub fn feed(&mut self, piece: &[u8]) -> Result<Step<'_>, StreamFault>
         // The opener, once the loan has ended.
         ensures* after { sem 𝓛 (Rests (opener_row B.row SEALED.row B.ChunkBox) self.entry
@@ -342,14 +344,15 @@ impl<'k, B: ChunkBox, const SEALED: usize> Opener<'k, B, SEALED> {
         })
     }
 
-    /// The input ended: what is held is tried as the last chunk, and its plaintext is lent. The
-    /// plaintext is empty if the last chunk came before. It is refused as
-    /// [`Truncated`](StreamKind::Truncated) if nothing is held, as
-    /// [`ChunkCut`](StreamKind::ChunkCut) if fewer bytes than a tag has are held, and as
-    /// [`EmptyLast`](StreamKind::EmptyLast) if a tag alone is held after other chunks, since a
-    /// writer makes an empty chunk only for the empty plaintext. What doesn't open is
-    /// [`ChunkDamaged`](StreamKind::ChunkDamaged). After a refusal each call is refused with the
-    /// same fault.
+    /// Ends the input: opens the bytes in the buffer as the last chunk, and lends its plaintext,
+    /// which is empty if the last chunk came before.
+    ///
+    /// Fails with [`Truncated`](StreamKind::Truncated) if the buffer is empty, with
+    /// [`ChunkCut`](StreamKind::ChunkCut) if it has fewer bytes than a tag, and with
+    /// [`EmptyLast`](StreamKind::EmptyLast) if it has a tag alone after other chunks, since a
+    /// writer makes an empty chunk only for the empty plaintext. Fails with
+    /// [`ChunkDamaged`](StreamKind::ChunkDamaged) if the bytes don't open. After a refusal each
+    /// call is refused with the same fault.
     pub fn end(&mut self) -> Result<&[u8], StreamFault>
         // The opener, once the loan has ended.
         ensures* after { sem 𝓛 (Rests (opener_row B.row SEALED.row B.ChunkBox) self.entry
@@ -361,7 +364,7 @@ impl<'k, B: ChunkBox, const SEALED: usize> Opener<'k, B, SEALED> {
     }
 }
 
-/// Opens the block in the buffer in place.
+/// Opens the block in the buffer in place, and returns whether it opens.
 fn open_block<B: ChunkBox, const SEALED: usize>(
     key: &B,
     index: u64,
@@ -380,8 +383,8 @@ fn open_block<B: ChunkBox, const SEALED: usize>(
     key.open_at(&nonce_of(index, last), buffer.as_mut_slice())
 }
 
-/// Whether this many bytes, at an end, are a chunk without plaintext after others, which no writer
-/// makes.
+/// Returns whether `len` bytes at the end of input are a chunk without plaintext after others,
+/// which no writer makes.
 fn is_empty_last(len: usize, index: u64) -> bool
     ensures { result ≡ (len == tag_length && nat_lt 0 index) }
 {

@@ -1,4 +1,4 @@
-//! What a reader holds, under any deliveries.
+//! The plaintext that a reader has after any deliveries.
 ghost use Rattle.std.specs.Prelude.{◌≡◌, ◌+◌, ◌*◌, ◌^◌, ◌<◌, ◌≤◌, [], ◌++◌, length, vec_len};
 ghost use Rattle.std.specs.Prelude.{vec_capacity, nat_lt, nat_le, ◌&&◌};
 ghost use Rattle.std.specs.Bool.{OnTrue};
@@ -12,20 +12,20 @@ use age_chunk::{CHUNK_LIMIT, ChunkBox, Memory, TAG_LEN};
 use std::alloc::Global;
 use std::marker::Model;
 
-/// What is held after a list of deliveries.
+/// The result of a list of deliveries: the plaintext, and the state of the last segment.
 #[derive(Drop)]
 pub struct Drill {
-    /// The plaintext that is held.
+    /// The plaintext that was released and kept.
     pub text: Vec<u8>,
-    /// The status of the opener of the last segment.
+    /// The status of the last segment's opener.
     pub status: Status,
-    /// The number of the chunk at which the last segment stands.
+    /// The number of the last segment's current chunk.
     pub index: u64,
-    /// How many restarts were refused, at most 2^64 - 1.
+    /// The number of restarts that were refused, saturating at `u64::MAX`.
     pub refused: u64,
 }
 
-/// What a replay keeps.
+/// The state of a replay.
 #[derive(Drop)]
 struct ReplayState<'k, B: ChunkBox, const SEALED: usize> {
     key: &'k B,
@@ -41,8 +41,8 @@ impl<'k, B: ChunkBox, const SEALED: usize> ReplayState<'k, B, SEALED> {
     ghost use Rattle.age_stream.specs.Segment.{after_delivery};
     ghost use Rattle.age_stream.specs.declared.delivery.Delivery.TheVariants.{Piece, End, Restart};
 
-    /// Feeds the beginning of a piece, and returns how much was taken, unless the opener refused
-    /// it.
+    /// Feeds the beginning of a piece, and returns the number of bytes taken, or `None` if the
+    /// opener refused it.
     fn feed_once(&mut self, piece: &[u8]) -> Option<usize>
         requires some { 0 < length piece.now }
         requires room { self.old.opener.status ≡ Status.Open → vec_len self.old.text
@@ -60,7 +60,7 @@ impl<'k, B: ChunkBox, const SEALED: usize> ReplayState<'k, B, SEALED> {
         }
     }
 
-    /// Feeds all of a piece, for whose plaintext there is room.
+    /// Feeds all of a piece. The text must have room for its plaintext.
     fn feed_all(&mut self, piece: &[u8])
         requires { self.old.opener.status ≡ Status.Open → vec_len self.old.text
             + whole_text (text_length SEALED) (length self.old.opener.held + length piece.now)
@@ -76,7 +76,7 @@ impl<'k, B: ChunkBox, const SEALED: usize> ReplayState<'k, B, SEALED> {
         }
     }
 
-    /// How much plaintext a piece releases at most.
+    /// Returns the most bytes of plaintext that a piece can release.
     fn piece_room(&self, piece: &[u8]) -> usize
         ensures { result ≡ text_of_piece (text_length SEALED) self.now.opener (length piece.now) }
     {
@@ -86,7 +86,7 @@ impl<'k, B: ChunkBox, const SEALED: usize> ReplayState<'k, B, SEALED> {
         }
     }
 
-    /// How much plaintext an end releases, if it releases any.
+    /// Returns the number of bytes of plaintext that an end releases, if it releases any.
     fn end_room(&self) -> usize
         ensures { result ≡ text_at_end self.now.opener }
     {
@@ -96,7 +96,7 @@ impl<'k, B: ChunkBox, const SEALED: usize> ReplayState<'k, B, SEALED> {
         }
     }
 
-    /// Takes a piece, after making room for its plaintext.
+    /// Feeds a piece, after reserving room for its plaintext.
     fn take_piece(&mut self, piece: &[u8]) -> Result<(), Memory>
         ensures { Delivers B.opening self.old (Piece piece.entry) result self.new }
     {
@@ -106,7 +106,7 @@ impl<'k, B: ChunkBox, const SEALED: usize> ReplayState<'k, B, SEALED> {
         Ok(())
     }
 
-    /// Ends the opener, for whose last plaintext there is room.
+    /// Ends the opener. The text must have room for the last plaintext.
     fn end_opener(&mut self)
         requires { vec_len self.old.text + text_at_end self.old.opener
             ≤ vec_capacity self.old.text }
@@ -118,7 +118,7 @@ impl<'k, B: ChunkBox, const SEALED: usize> ReplayState<'k, B, SEALED> {
         }
     }
 
-    /// Takes an end, after making room for its plaintext.
+    /// Ends the opener, after reserving room for the last plaintext.
     fn take_end(&mut self) -> Result<(), Memory>
         ensures { Delivers B.opening self.old End result self.new }
     {
@@ -128,7 +128,7 @@ impl<'k, B: ChunkBox, const SEALED: usize> ReplayState<'k, B, SEALED> {
         Ok(())
     }
 
-    /// Whether this many chunks are held.
+    /// Returns whether the text has `k` full chunks, for a `k` below [`CHUNK_LIMIT`].
     fn reaches(&self, k: u64) -> bool
         ensures answer { result ≡ (nat_lt k chunk_limit
             && nat_le (k * text_length SEALED) (length self.now.text.items)) }
@@ -137,7 +137,7 @@ impl<'k, B: ChunkBox, const SEALED: usize> ReplayState<'k, B, SEALED> {
         k < CHUNK_LIMIT && k * self.opener.chunk_len() <= self.text.len() as u64
     }
 
-    /// Starts again at a chunk, if the plaintext reaches it.
+    /// Starts again at chunk `k` if the text reaches it, and counts a refusal if it doesn't.
     fn restart(&mut self, k: u64)
         ensures { Goes B.opening self.old self.new
             (λ s. after_delivery (B.opening self.old.key.now) (text_length SEALED) s (Restart k)) }
@@ -150,7 +150,7 @@ impl<'k, B: ChunkBox, const SEALED: usize> ReplayState<'k, B, SEALED> {
         }
     }
 
-    /// Takes a delivery.
+    /// Takes one delivery.
     fn deliver(&mut self, delivery: &Delivery<'_>) -> Result<(), Memory>
         ensures { Delivers B.opening self.old delivery.now result self.new }
     {
@@ -165,13 +165,12 @@ impl<'k, B: ChunkBox, const SEALED: usize> ReplayState<'k, B, SEALED> {
     }
 }
 
-/// Feeds deliveries to an opener, and holds the plaintext that it released. A restart truncates the
-/// plaintext to the chunks before it and makes a new opener. [`drill`](crate::drill) gives a
-/// complete list of deliveries to a new replay.
+/// A reader that feeds deliveries to an opener, and keeps the plaintext that it released. A restart
+/// truncates the plaintext to the chunks before it and makes a new opener. [`drill`](crate::drill)
+/// gives a complete list of deliveries to a new replay.
 ///
-/// A contract sees the key, the opener of the current segment, the plaintext that is held and the
-/// number of restarts that were refused. `SEALED` is the length of a full block in bytes, from 17
-/// to 65,552.
+/// `SEALED` is the length of a full block in bytes, from 17 to 65,552. Contracts see the key, the
+/// opener of the current segment, the plaintext and the number of restarts that were refused.
 #[derive(Drop)]
 pub struct Replay<'k, B: ChunkBox, const SEALED: usize> {
     state: ReplayState<'k, B, SEALED>,
@@ -188,7 +187,8 @@ impl<'k, B: ChunkBox, const SEALED: usize> Model for Replay<'k, B, SEALED> {
 impl<'k, B: ChunkBox, const SEALED: usize> Replay<'k, B, SEALED> {
     ghost use Rattle.age_stream.specs.Replay.{Replays, TakesDelivery};
 
-    /// A replay that was given nothing yet. Requires `SEALED` from 17 to 65,552. Allocates nothing.
+    /// Makes a replay that was given nothing yet. Requires `SEALED` from 17 to 65,552. Allocates
+    /// nothing.
     #[tactic(auto, using(crate::proofs::GoingLemmas::fresh_outcome))]
     pub fn new(alloc: Global, key: &'k B) -> Self
         requires least { tag_length < SEALED }
@@ -207,35 +207,35 @@ impl<'k, B: ChunkBox, const SEALED: usize> Replay<'k, B, SEALED> {
         }
     }
 
-    /// The plaintext that is held.
+    /// Returns the plaintext that was released and kept.
     pub fn text(&self) -> &[u8]
         ensures { result.now ≡ self.now.text }
     {
         self.state.text.as_slice()
     }
 
-    /// The status of the opener of the current segment.
+    /// Returns the status of the current segment's opener.
     pub fn status(&self) -> Status
         ensures { result ≡ self.now.opener.status }
     {
         self.state.opener.status()
     }
 
-    /// The number of the chunk at which the current segment stands.
+    /// Returns the number of the current segment's current chunk.
     pub fn index(&self) -> u64
         ensures { result ≡ self.now.opener.index }
     {
         self.state.opener.index()
     }
 
-    /// How many restarts were refused, at most 2^64 - 1.
+    /// Returns the number of restarts that were refused, saturating at `u64::MAX`.
     pub fn refused(&self) -> u64
         ensures { result ≡ self.now.refused }
     {
         self.state.refused
     }
 
-    /// What it holds, with its plaintext.
+    /// Converts the replay to its result, with the plaintext.
     pub(crate) fn into_drill(self) -> Drill
         ensures text { result.text.items ≡ self.entry.text }
         ensures status { result.status ≡ self.entry.opener.status }
@@ -253,12 +253,14 @@ impl<'k, B: ChunkBox, const SEALED: usize> Replay<'k, B, SEALED> {
         }
     }
 
-    /// Takes a delivery. All bytes of a piece are taken, unless there is a fault, which is then the
-    /// status. A restart at chunk k is refused if k is [`CHUNK_LIMIT`] or more, or fewer than k
-    /// full chunks are held. If memory runs out, nothing changes.
+    /// Takes a delivery. Fails only if memory runs out, and then changes nothing.
     ///
-    /// While no block opens except as the writer of a plaintext sealed it, what is held is a prefix
-    /// of that plaintext, and [`Done`](Status::Done) comes only with all of it.
+    /// All bytes of a piece are taken, unless there is a fault, which then is the status. A restart
+    /// at chunk k is refused if k is [`CHUNK_LIMIT`] or more, or if the plaintext has fewer than k
+    /// full chunks.
+    ///
+    /// While no block opens except as the writer of a plaintext sealed it, the text is a prefix of
+    /// that plaintext, and [`Done`](Status::Done) comes only with all of it.
     pub fn take(&mut self, delivery: &Delivery<'_>) -> Result<(), Memory>
         ensures { TakesDelivery B.sealing B.opening (text_length SEALED)
             self.old delivery.now result self.new }
@@ -277,7 +279,7 @@ fn push_text(text: &mut Vec<u8>, bytes: &[u8])
     let _ = text.extend_from_slice(bytes);
 }
 
-/// Appends what is lent, if anything is, to a plaintext that has room for it.
+/// Appends the bytes that a call lent, if any, to a plaintext that has room for them.
 pub(crate) fn push_lent(text: &mut Vec<u8>, chunk: Option<&[u8]>)
     requires { vec_len text.old + length (chunk_bytes chunk) ≤ vec_capacity text.old }
     ensures items { text.new.items ≡ text.old.items ++ chunk_bytes chunk.entry }

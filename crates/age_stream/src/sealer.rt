@@ -1,4 +1,4 @@
-//! The writer's side: plaintext in, sealed chunks out.
+//! The sealer of a payload: plaintext in, sealed chunks out.
 ghost use Rattle.std.specs.Prelude.{◌≡◌, ◌+◌, ◌<◌, ◌≤◌, [], length, OnOk, None, IsNone, true, false};
 ghost use Rattle.std.specs.Borrow.{sem};
 ghost use Rattle.std.specs.Io.BufRead.{Rests};
@@ -10,13 +10,13 @@ use age_chunk::{CHUNK_LIMIT, ChunkBox, StreamFault, StreamKind, TAG_LEN, nonce_o
 use arrayvec::ArrayVec;
 use std::marker::Model;
 
-/// What a sealer holds.
+/// The state of a sealer.
 #[derive(Drop)]
 struct SealerState<'k, B: ChunkBox, const SEALED: usize> {
     key: &'k B,
-    /// the plaintext of the chunk that is open; or its block, until the next call
+    /// The plaintext of the chunk that is open, or its block until the next call.
     buffer: ArrayVec<u8, SEALED>,
-    /// the next chunk's first byte, while the block is lent
+    /// The next chunk's first byte, while the block is lent.
     beside: Option<u8>,
     index: u64,
     failed: bool,
@@ -30,7 +30,7 @@ impl<'k, B: ChunkBox, const SEALED: usize> SealerState<'k, B, SEALED> {
     ghost use Rattle.age_stream.specs.Sealer.{held_text, too_many};
     ghost use Rattle.age_stream.specs.inner.{Steps, SealerSealsLast};
 
-    /// Empties the buffer of a block that was lent, and puts the byte beside it first.
+    /// Empties the buffer if its block was lent, and begins it with the byte in `beside`.
     fn reclaim(&mut self)
         ensures held { held_text self.new ≡ held_text self.old }
         ensures buffer { self.new.buffer.items ≡ held_text self.old }
@@ -45,7 +45,7 @@ impl<'k, B: ChunkBox, const SEALED: usize> SealerState<'k, B, SEALED> {
         }
     }
 
-    /// Why no further byte is taken.
+    /// Returns the fault of a plaintext that has too many chunks.
     fn refusal(&self) -> StreamFault
         ensures { result ≡ too_many self.now.index }
     {
@@ -55,8 +55,8 @@ impl<'k, B: ChunkBox, const SEALED: usize> SealerState<'k, B, SEALED> {
         }
     }
 
-    /// Takes the beginning of a piece; returns how many bytes, and whether the buffer now holds a
-    /// sealed block.
+    /// Takes the beginning of a piece. Returns the number of bytes taken, and whether the buffer
+    /// now has a sealed block.
     fn advance(&mut self, piece: &[u8]) -> Result<(usize, bool), StreamFault>
         requires { self.old.finished ≡ false }
         ensures { Steps B.sealing self.old piece.now result self.new }
@@ -84,7 +84,7 @@ impl<'k, B: ChunkBox, const SEALED: usize> SealerState<'k, B, SEALED> {
         Ok((1, true))
     }
 
-    /// Seals what is held as the last chunk, in place.
+    /// Seals the plaintext in the buffer as the last chunk, in place.
     fn close(&mut self) -> Result<(), StreamFault>
         requires { self.old.finished ≡ false }
         ensures last { SealerSealsLast self.old result self.new }
@@ -101,13 +101,14 @@ impl<'k, B: ChunkBox, const SEALED: usize> SealerState<'k, B, SEALED> {
     }
 }
 
-/// Seals a plaintext that comes in pieces, however they are split (<https://c2sp.org/age#payload>).
-/// A full chunk is sealed once a byte after it came, since only then it isn't the last.
+/// A sealer of a plaintext that comes in pieces, however they are split
+/// (<https://c2sp.org/age#payload>). It lends the blocks of the payload. A full chunk is sealed
+/// once a byte after it came, since only then it isn't the last.
 ///
-/// A contract sees the key, the plaintext of the chunk that is open, its number, and whether the
-/// sealer was refused or finished. `SEALED` is the length of a full block in bytes, from 17 to
-/// 65,552 ([`BLOCK_LEN`](crate::BLOCK_LEN), which age files have). docs/LIBRARY.md has an example,
-/// `seal_to`.
+/// `SEALED` is the length of a full block in bytes, from 17 to 65,552
+/// ([`BLOCK_LEN`](crate::BLOCK_LEN), which age files have). docs/LIBRARY.md has an example,
+/// `seal_to`. Contracts see the key, the plaintext of the chunk that is open, its number, and
+/// whether the sealer was refused or finished.
 #[derive(Drop)]
 pub struct Sealer<'k, B: ChunkBox, const SEALED: usize> {
     state: SealerState<'k, B, SEALED>,
@@ -125,7 +126,8 @@ impl<'k, B: ChunkBox, const SEALED: usize> Sealer<'k, B, SEALED> {
     ghost use Rattle.age_stream.specs.Sealer.{Takes, IsTaken, Finishes, IsFinished};
     ghost use Rattle.age_stream.specs.Rows.{sealer_row};
 
-    /// A sealer that was given nothing yet. Requires `SEALED` from 17 to 65,552. Allocates nothing.
+    /// Makes a sealer that was given nothing yet. Requires `SEALED` from 17 to 65,552. Allocates
+    /// nothing.
     pub fn new(key: &'k B) -> Self
         requires least { tag_length < SEALED }
         requires most { SEALED ≤ block_length }
@@ -144,21 +146,21 @@ impl<'k, B: ChunkBox, const SEALED: usize> Sealer<'k, B, SEALED> {
         }
     }
 
-    /// Whether the last chunk was sealed. Then nothing more may be fed.
+    /// Returns whether the last chunk was sealed. Then nothing more may be fed.
     pub fn is_finished(&self) -> bool
         ensures { result ≡ self.now.finished }
     {
         self.state.finished
     }
 
-    /// Whether a byte was refused. Then each call is refused with the same fault.
+    /// Returns whether a byte was refused. Then each call is refused with the same fault.
     pub fn has_failed(&self) -> bool
         ensures { result ≡ self.now.failed }
     {
         self.state.failed
     }
 
-    /// The number of the chunk that is open: how many blocks were lent before it.
+    /// Returns the number of the chunk that is open, which is the number of blocks lent before it.
     pub fn index(&self) -> u64
         ensures index { result ≡ self.now.index }
         ensures limit { result < chunk_limit }
@@ -166,8 +168,8 @@ impl<'k, B: ChunkBox, const SEALED: usize> Sealer<'k, B, SEALED> {
         self.state.index
     }
 
-    /// How many bytes of the plaintext of the open chunk are held. After the last chunk was sealed,
-    /// the length of its block.
+    /// Returns the number of bytes in the buffer: the plaintext of the open chunk, or the last
+    /// chunk's block once it was sealed.
     pub fn held_len(&self) -> usize
         ensures len { result ≡ length self.now.held }
         ensures fits { result ≤ SEALED }
@@ -179,12 +181,13 @@ impl<'k, B: ChunkBox, const SEALED: usize> Sealer<'k, B, SEALED> {
         }
     }
 
-    /// Takes bytes of the plaintext: what the open chunk has room for, or one byte after a chunk
-    /// that is full. That byte begins the next chunk, and the full one is sealed as not the last
-    /// and lent. Takes nothing from an empty piece. Requires that the sealer [isn't
-    /// finished](Sealer::is_finished). It is refused as
-    /// [`TooManyChunks`](StreamKind::TooManyChunks) if a byte would need chunk number
-    /// [`CHUNK_LIMIT`]; then each call is refused so.
+    /// Takes bytes of the plaintext: as many as the open chunk has room for, or one byte after a
+    /// chunk that is full. That byte begins the next chunk, and the full one is sealed as not the
+    /// last and lent. Takes nothing from an empty piece.
+    ///
+    /// Fails with [`TooManyChunks`](StreamKind::TooManyChunks) if a byte would need chunk number
+    /// [`CHUNK_LIMIT`], and so does each call after that. Requires that the sealer [isn't
+    /// finished](Sealer::is_finished).
     pub fn feed(&mut self, piece: &[u8]) -> Result<Step<'_>, StreamFault>
         requires { self.old.finished ≡ false }
         // The sealer, once the loan has ended.
@@ -208,8 +211,9 @@ impl<'k, B: ChunkBox, const SEALED: usize> Sealer<'k, B, SEALED> {
         })
     }
 
-    /// Seals what is held as the last chunk, and lends its block. Requires that the sealer [isn't
-    /// finished](Sealer::is_finished). Refused only if a feed was, with the same fault.
+    /// Seals the plaintext in the buffer as the last chunk, and lends its block. Fails only if a
+    /// [`feed`](Sealer::feed) failed, with the same fault. Requires that the sealer [isn't
+    /// finished](Sealer::is_finished).
     pub fn finish(&mut self) -> Result<&[u8], StreamFault>
         requires { self.old.finished ≡ false }
         // The sealer, once the loan has ended.
@@ -222,7 +226,7 @@ impl<'k, B: ChunkBox, const SEALED: usize> Sealer<'k, B, SEALED> {
     }
 }
 
-/// Puts the tag after the plaintext in the buffer, and seals both in place.
+/// Appends room for the tag to the plaintext in the buffer, and seals it in place.
 fn seal_in<B: ChunkBox, const SEALED: usize>(
     key: &B,
     index: u64,

@@ -1,8 +1,8 @@
-//! What a call on a stream returns.
+//! The result of a call on a stream, and the state of an opener.
 
 use age_chunk::StreamFault;
 
-/// Where an opener stands.
+/// The state of an opener.
 #[derive(Clone, Copy, PartialEq, Eq)]
 pub enum Status {
     /// Blocks are still to come.
@@ -11,19 +11,19 @@ pub enum Status {
     LastSeen,
     /// The input ended after the last chunk.
     Done,
-    /// It was refused, and each further call is refused with the same fault.
+    /// A call was refused, and each further call is refused with the same fault.
     Failed(StreamFault),
 }
 
-/// How many bytes of a piece a call took, where that led, and what it lends until the next call: a
-/// sealer's block or an opener's plaintext, if one came.
+/// The result of feeding a piece to a sealer or an opener. It lends a block or a plaintext, if one
+/// came, until the next call.
 #[derive(Drop)]
 pub struct Step<'a> {
-    /// How many bytes of the piece were taken, from its beginning.
+    /// The number of bytes taken from the beginning of the piece.
     pub taken: usize,
-    /// The number of the chunk at which it then stands.
+    /// The number of the current chunk after the call.
     pub index: u64,
-    /// The block of a sealer, tag included, or the plaintext of an opener; `None` if no chunk was
-    /// finished.
+    /// The block of a sealer, tag included, or the plaintext of an opener, or `None` if no chunk
+    /// was finished.
     pub chunk: Option<&'a [u8]>,
 }

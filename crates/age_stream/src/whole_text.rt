@@ -1,4 +1,4 @@
-//! A caller of the sealer: it feeds a plaintext, and copies out the blocks that are lent.
+//! Functions that seal a whole plaintext.
 ghost use Rattle.std.specs.Prelude.{◌≡◌, ◌-◌, ◌≤◌, ◌<◌, ◌+◌, ◌*◌, ◌/◌, ◌^◌, length, IfSome, IfNone};
 ghost use Rattle.std.specs.Prelude.{vec_capacity};
 ghost use Rattle.age_chunk.specs.{chunk_count, block_length};
@@ -13,19 +13,20 @@ use age_chunk::{ChunkBox, StreamFault, TAG_LEN};
 use std::alloc::{AllocError, Global};
 use thiserror::Error;
 
-/// Why a plaintext wasn't sealed.
+/// The error of sealing a plaintext.
 #[derive(Clone, Copy, Debug, PartialEq, Eq, Error)]
 pub enum SealFault {
-    /// The sealer refused: the plaintext has more chunks than a payload can have.
+    /// The plaintext has more chunks than a payload can have.
     #[error("{0}")]
     Stream(StreamFault),
-    /// Out of memory.
+    /// Memory ran out.
     #[error("out of memory")]
     Memory,
 }
 
 impl SealFault {
-    /// The fault's number in the list of all faults: 22 if the sealer refused, or 28 for memory.
+    /// Returns the fault's number in the list of all faults (docs/FAULTS.md): 22 if the plaintext
+    /// has too many chunks, 28 if memory ran out.
     pub fn number(&self) -> u8
         ensures { result ≡ seal_fault_number self.now }
     {
@@ -35,7 +36,8 @@ impl SealFault {
         }
     }
 
-    /// The chunk of the sealer's refusal, from 0. `None` if memory ran out.
+    /// Returns the number of the chunk, from 0, at which the sealer refused, or `None` if memory
+    /// ran out.
     pub fn place(&self) -> Option<u64>
         ensures { result ≡ seal_fault_place self.now }
     {
@@ -62,9 +64,9 @@ impl From<StreamFault> for SealFault {
     }
 }
 
-/// The payload of a plaintext: its chunks, each sealed at its nonce, one after the other
-/// (<https://c2sp.org/age#payload>), in chunks of `SEALED - TAG_LEN` bytes. Requires `SEALED` from
-/// 17 to 65,552. It refuses as [`seal_into`] does.
+/// Returns the payload of a plaintext: its chunks of `SEALED - TAG_LEN` bytes, each sealed at its
+/// nonce, one after the other (<https://c2sp.org/age#payload>). Fails as [`seal_into`] does.
+/// Requires `SEALED` from 17 to 65,552.
 pub fn seal_all<B: ChunkBox, const SEALED: usize>(
     alloc: Global,
     key: &B,
@@ -80,10 +82,10 @@ pub fn seal_all<B: ChunkBox, const SEALED: usize>(
     Ok(out)
 }
 
-/// Appends the payload of a plaintext, in chunks of `SEALED - TAG_LEN` bytes. Requires `SEALED`
-/// from 17 to 65,552. Memory is allocated once, before anything is sealed, and only if there is no
-/// room for the payload. Otherwise only a plaintext of more than 2^48 chunks is refused. A refusal
-/// adds nothing.
+/// Appends the payload of a plaintext, in chunks of `SEALED - TAG_LEN` bytes, to `out`. Fails, and
+/// then appends nothing, if memory runs out or the plaintext has more than 2^48 chunks. Memory is
+/// allocated once, before anything is sealed, and only if there is no room for the payload.
+/// Requires `SEALED` from 17 to 65,552.
 pub fn seal_into<B: ChunkBox, const SEALED: usize>(
     key: &B,
     text: &[u8],
@@ -106,7 +108,8 @@ pub fn seal_into<B: ChunkBox, const SEALED: usize>(
     Ok(())
 }
 
-/// Appends the payload of a plaintext if there is room for it, so that no memory is requested.
+/// Appends the payload of a plaintext to `out`, which has room for it, so that no memory is
+/// requested.
 fn seal_within<B: ChunkBox, const SEALED: usize>(
     key: &B,
     text: &[u8],
@@ -131,8 +134,8 @@ fn seal_within<B: ChunkBox, const SEALED: usize>(
     Ok(())
 }
 
-/// How many bytes the payload of a plaintext has, in chunks of this many bytes, unless it is too
-/// long for any memory.
+/// Returns the length of the payload of a plaintext of `text_len` bytes, in chunks of `chunk_len`
+/// bytes, or `None` if it exceeds any memory.
 fn payload_len(text_len: usize, chunk_len: usize) -> Option<usize>
     requires { 0 < chunk_len }
     ensures len { IfSome result

@@ -1,3 +1,4 @@
+//! The tests, by subject.
 mod examples;
 mod primitives;
 mod refusals;

@@ -1,5 +1,5 @@
-// ChaCha20, Poly1305 and their AEAD. A constant named for a section is what RFC 8439 gives there; A
-// is its appendix.
+//! ChaCha20, Poly1305 and their AEAD. A constant named for a section is what RFC 8439 gives there;
+//! A is its appendix.
 ghost use Rattle.std.specs.Prelude.{◌≡◌, ◌+◌, ◌*◌, ◌^◌, ◌≤◌, IsTrue, length, replicate};
 ghost use Rattle.age_cipher.specs.{ciphertext, poly1305, block_limit, sealing};
 
@@ -227,6 +227,7 @@ const SEALED_A_5: [u8; 281] =
         \xda\x04\xdf\x99\x7b\x71\x4d\x6c\x6f\x2c\x29\xa6\xad\x5c\xb4\x02\x2b\x02\x70\x9b\xee\xad\
         \x9d\x67\x89\x0c\xbb\x22\x39\x23\x36\xfe\xa1\x85\x1f\x38";
 
+/// Returns whether a text is encrypted to the wanted ciphertext.
 fn enciphers_to(
     key: &[u8; 32],
     nonce: &[u8; 12],
@@ -241,7 +242,7 @@ fn enciphers_to(
     &*text == wanted
 }
 
-/// Seals a text in a block, and opens the block again.
+/// Returns whether a text is sealed to the wanted block, and the block opens to the text again.
 fn seals_to(
     key: &[u8; 32],
     nonce: &[u8; 12],
@@ -261,7 +262,8 @@ fn seals_to(
     sealed && open_in_place(key, nonce, aad, block) && block.starts_with(text)
 }
 
-/// The keystreams of RFC 8439, 2.3.2, 2.6.2 and A.1, and the ciphertexts of 2.4.2 and A.2.
+/// Returns whether the keystreams of RFC 8439, 2.3.2, 2.6.2 and A.1, and the ciphertexts of 2.4.2
+/// and A.2, are as given there.
 pub fn rfc_chacha() -> bool
     ensures section_2_3_2 { IsTrue result
         → ciphertext COUNTING_KEY NONCE_2_3_2 1 (replicate 64 0) ≡ STREAM_2_3_2 }
@@ -320,8 +322,8 @@ pub fn rfc_chacha() -> bool
         )
 }
 
-/// The tags of RFC 8439, 2.5.2 and A.3. The tags of A.3 from the fifth on need the last reduction
-/// or a long carry.
+/// Returns whether the tags of RFC 8439, 2.5.2 and A.3, are as given there. The tags of A.3 from
+/// the fifth on need the last reduction or a long carry.
 pub fn rfc_poly1305() -> bool
     ensures section_2_5_2 { IsTrue result → poly1305 FORUM_KEY FORUM ≡ TAG_2_5_2 }
     ensures appendix_3_1 { IsTrue result → poly1305 ZERO_KEY (replicate 64 0) ≡ TAG_A_3_1 }
@@ -350,7 +352,7 @@ pub fn rfc_poly1305() -> bool
         && poly1305(&TAG_KEY_10, &[&MESSAGE_11]) == TAG_A_3_11
 }
 
-/// The sealings of RFC 8439, 2.8.2 and A.5, which also open.
+/// Returns whether the sealings of RFC 8439, 2.8.2 and A.5, are as given there, and open.
 pub fn rfc_aead() -> bool
     ensures section_2_8_2 { IsTrue result
         → sealing HIGH_KEY NONCE_2_8_2 DATA_2_8_2 SUNSCREEN ≡ SEALED_2_8_2 }

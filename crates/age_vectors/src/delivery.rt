@@ -1,6 +1,6 @@
-// Worked rows of a payload, in chunks of four bytes and blocks of twenty, sealed by a box that hides
-// nothing, and under a real key: what is held under cuts, swaps, repeats, restarts, bytes after the
-// end and inverted bits.
+//! Worked rows of a payload, in chunks of four bytes and blocks of twenty, sealed by a box that
+//! doesn't encrypt, and under a real key: the text that is released under cuts, swaps, repeats,
+//! restarts, bytes after the end and inverted bits.
 ghost use Rattle.std.specs.Prelude.{◌<◌, ◌≤◌};
 ghost use Rattle.age_chunk.specs.{tag_length, block_length};
 
@@ -12,6 +12,7 @@ use age_stream::{
 };
 use std::alloc::{AllocError, Global};
 
+/// The payload of eight bytes of text, in two full chunks, sealed by a [`ClearBox`].
 pub const EIGHT: &[u8] =
     b"abcd\0\0\0\0\0\0\0\0\0\0\0\0\0\0\0\0efgh\0\0\0\0\0\0\0\0\0\0\x01\x01\0\0\0\0";
 
@@ -22,7 +23,7 @@ const FIVE: &[u8] = b"abcd\0\0\0\0\0\0\0\0\0\0\0\0\0\0\0\0e\0\0\0\0\0\0\0\0\0\0\
 
 const NO_TEXT: &[u8] = b"\0\0\0\0\0\0\0\0\0\0\0\x01\0\0\0\0";
 
-/// Two letters, at one byte a chunk.
+/// The payload of two letters, at one byte a chunk.
 const LETTERS: &[u8] = b"a\0\0\0\0\0\0\0\0\0\0\0\0\0\0\0\0b\0\0\0\0\0\0\0\0\0\0\x01\x01\0\0\0\0";
 
 const EMPTY_SECOND: &[u8] = b"\0\0\0\0\0\0\0\0\0\0\x01\x01\0\0\0\0";
@@ -37,7 +38,7 @@ const TEXT: &[u8] = b"abcdefgh";
 
 const TEN_TEXT: &[u8] = b"abcdefghij";
 
-/// How deliveries end: done, or with this fault.
+/// The result of deliveries: `None` if they end well, or the kind of the fault.
 type Ending = Option<StreamKind>;
 
 const DONE: Ending = None;
@@ -50,23 +51,24 @@ const TRAILING: Ending = Some(StreamKind::Trailing);
 
 const EMPTY: Ending = Some(StreamKind::EmptyLast);
 
-/// The worked rows of a payload: complete texts, and what is held under swaps, repeats, restarts
-/// and bytes after the end. False also if memory runs out.
+/// Returns whether the worked rows of a payload are right: complete texts, and what is released
+/// under swaps, repeats, restarts and bytes after the end. Returns `false` also if memory runs out.
 pub fn delivery_rows(alloc: Global) -> bool {
     sealing_rows(alloc) && damage_rows(alloc) && is_refused(alloc) && at_the_greatest_number()
 }
 
-/// What a drill leaves of hostile bytes: a payload cut at every byte, with its blocks in other
-/// orders, started again at every chunk, and with each of its bits inverted. False also if memory
-/// runs out.
+/// Returns whether a drill of hostile bytes is right: of a payload truncated at every byte, with
+/// its blocks in other orders, started again at every chunk, and with each of its bits inverted.
+/// Returns `false` also if memory runs out.
 pub fn hostile_rows(alloc: Global) -> bool {
     are_cuts_right(alloc) && are_rows_right(alloc) && are_bits_right(alloc)
 }
 
-/// What is held of a text, the status, the number of the chunk, and how many restarts were refused.
+/// The result of a drill: the text, the status, the number of the chunk, and the number of refused
+/// restarts.
 type Held<'a> = (&'a [u8], Status, u64, u64);
 
-/// Whether these deliveries leave this, with their pieces unsplit and byte by byte.
+/// Returns whether deliveries give the expected result, with their pieces whole and byte by byte.
 fn leaves<B: ChunkBox>(
     alloc: Global,
     key: &B,
@@ -82,6 +84,7 @@ fn leaves<B: ChunkBox>(
     }
 }
 
+/// Returns whether deliveries give the expected result, with their pieces as they are.
 fn leaves_at_once<B: ChunkBox>(
     alloc: Global,
     key: &B,
@@ -94,7 +97,7 @@ fn leaves_at_once<B: ChunkBox>(
     }
 }
 
-/// These deliveries with each piece cut into single bytes.
+/// Splits each piece of deliveries into single bytes.
 fn by_bytes<'a>(alloc: Global, events: &[Delivery<'a>]) -> Result<Vec<Delivery<'a>>, AllocError> {
     let mut cut = Vec::new(alloc);
     for event in events {
@@ -110,7 +113,7 @@ fn by_bytes<'a>(alloc: Global, events: &[Delivery<'a>]) -> Result<Vec<Delivery<'
     Ok(cut)
 }
 
-/// Whole texts and their payloads.
+/// Tests whole texts and their payloads.
 fn sealing_rows(alloc: Global) -> bool {
     is_sealed::<20>(alloc, TEXT, EIGHT)
         && is_sealed::<20>(alloc, TEN_TEXT, TEN)
@@ -120,6 +123,7 @@ fn sealing_rows(alloc: Global) -> bool {
         && are_lent::<20>(b"abcd", b"e", FIVE)
 }
 
+/// Returns whether a text is sealed to this payload.
 fn is_sealed<const SEALED: usize>(alloc: Global, text: &[u8], payload: &[u8]) -> bool
     requires least { tag_length < SEALED }
     requires most { SEALED ≤ block_length }
@@ -130,7 +134,8 @@ fn is_sealed<const SEALED: usize>(alloc: Global, text: &[u8], payload: &[u8]) ->
     }
 }
 
-/// Whether the block of a chunk is lent with the byte after it, and the last by `finish`.
+/// Returns whether the block of a chunk is lent with the byte after it, and the last block by
+/// `finish`.
 fn are_lent<const SEALED: usize>(chunk: &[u8], byte: &[u8], payload: &[u8]) -> bool
     requires least { tag_length < SEALED }
     requires most { SEALED ≤ block_length }
@@ -148,11 +153,11 @@ fn are_lent<const SEALED: usize>(chunk: &[u8], byte: &[u8], payload: &[u8]) -> b
     matches!(sealer.finish(), Ok(block) if payload.get(SEALED..) == Some(block))
 }
 
-/// A piece, a delivery, a piece and the end; the text that is then held, how that ends, and at which
-/// chunk.
+/// A row of a test: a piece, a delivery and a piece, which an end follows; and the text, the ending
+/// and the chunk that they should give.
 type Row<'a> = (&'a [u8], Delivery<'a>, &'a [u8], &'a [u8], Ending, u64);
 
-/// Whether these deliveries leave this in the clear.
+/// Returns whether a row is right with a [`ClearBox`].
 fn is_right(alloc: Global, row: Row<'_>) -> bool {
     let (before, then, after, text, ending, chunk) = row;
     let status = status_of(ending, chunk);
@@ -160,6 +165,7 @@ fn is_right(alloc: Global, row: Row<'_>) -> bool {
     leaves(alloc, &ClearBox, &events, (text, status, chunk, 0))
 }
 
+/// Returns the status of an ending.
 fn status_of(ending: Ending, chunk: u64) -> Status {
     match ending {
         Some(kind) => Status::Failed(StreamFault { kind, chunk }),
@@ -167,8 +173,8 @@ fn status_of(ending: Ending, chunk: u64) -> Status {
     }
 }
 
-/// Blocks in another order, twice, with a byte more, and an empty last chunk; a block that the
-/// writer didn't seal, which is released if it opens; and a transfer that starts again.
+/// Tests blocks in another order, twice, with a byte more, and an empty last chunk; a block that
+/// the writer didn't seal, which is released if it opens; and a transfer that starts again.
 fn damage_rows(alloc: Global) -> bool {
     let (first, second) = EIGHT.split_at(20);
     let rows: [Row<'_>; 10] = [
@@ -186,7 +192,7 @@ fn damage_rows(alloc: Global) -> bool {
     rows.iter().all(|row| is_right(alloc, *row))
 }
 
-/// A restart beyond what is held changes nothing.
+/// Tests that a restart beyond the released text changes nothing.
 fn is_refused(alloc: Global) -> bool {
     let (last, done) = (Status::LastSeen, Status::Done);
     leaves(
@@ -202,7 +208,7 @@ fn is_refused(alloc: Global) -> bool {
     )
 }
 
-/// A block at the greatest number is the last one, or one too many.
+/// Tests that a block at the greatest number is the last one, or one too many.
 fn at_the_greatest_number() -> bool {
     let key = ClearBox;
     let limit = CHUNK_LIMIT - 1;
@@ -222,11 +228,12 @@ fn at_the_greatest_number() -> bool {
             })
 }
 
-/// The payload of ten bytes cut after each number of its own.
+/// Tests the payload of ten bytes, truncated after each number of its bytes.
 fn are_cuts_right(alloc: Global) -> bool {
     (0..58).all(|cut| is_cut_right(alloc, cut))
 }
 
+/// Returns whether the payload of ten bytes, truncated after `cut` bytes, gives the right result.
 fn is_cut_right(alloc: Global, cut: usize) -> bool {
     let kind = match cut {
         36 | 56 => EMPTY,
@@ -244,7 +251,7 @@ fn is_cut_right(alloc: Global, cut: usize) -> bool {
     }
 }
 
-/// The three blocks in each order; and the complete payload, then again from each chunk on.
+/// Tests the three blocks in each order, and the complete payload, then again from each chunk on.
 fn are_rows_right(alloc: Global) -> bool {
     let (first, rest) = TEN.split_at(20);
     let (second, third) = rest.split_at(20);
@@ -262,7 +269,7 @@ fn are_rows_right(alloc: Global) -> bool {
     rows.iter().all(|row| is_right(alloc, *row))
 }
 
-/// A text under a real key, with each bit of its payload inverted alone.
+/// Tests a text under a real key, with each bit of its payload inverted alone.
 fn are_bits_right(alloc: Global) -> bool {
     let key = payload_key(&FileKey::new([7; 16]), &[9; 16]);
     match seal_all::<PayloadKey, 20>(alloc, &key, TEN_TEXT) {
@@ -271,6 +278,7 @@ fn are_bits_right(alloc: Global) -> bool {
     }
 }
 
+/// Returns whether a payload with one inverted bit gives the right result.
 fn is_bit_right(alloc: Global, key: &PayloadKey, sealed: &[u8], bit: usize) -> bool {
     let Ok(mut bytes) = sealed.to_vec(alloc) else {
         return false;

@@ -1,4 +1,4 @@
-// Headers of the C2SP page's grammar, in one piece and in single bytes.
+//! Headers of the C2SP page's grammar, in one piece and in single bytes.
 ghost use Rattle.std.specs.Prelude.{◌<◌, IsTrue, IfOk, IfErr, take};
 ghost use Rattle.age_stanza.specs.{HeadText};
 ghost use Rattle.age_vectors.specs.Rows.{IsReported, Accepts, RefusesHeader, AcceptedRows, FirstLineRows};
@@ -7,7 +7,7 @@ ghost use Rattle.age_vectors.specs.Rows.{ArgumentRows, LineRows};
 use age_stanza::{HEAD_MAX, HeadFault, HeadParser, HeadStep, Header, encode_head, is_header};
 use std::alloc::{AllocError, Global};
 
-/// A body that is empty, and a MAC of zeros.
+/// The smallest header, whose stanza has an empty body, with a MAC of zeros.
 pub const SMALLEST: &[u8; 76] =
     b"age-encryption.org/v1\n-> x\n\n--- AAAAAAAAAAAAAAAAAAAAAAAAAAAAAAAAAAAAAAAAAAA\n";
 
@@ -15,21 +15,21 @@ pub const SMALLEST: &[u8; 76] =
 const SMALLEST_AND_ONE: &[u8; 77] =
     b"age-encryption.org/v1\n-> x\n\n--- AAAAAAAAAAAAAAAAAAAAAAAAAAAAAAAAAAAAAAAAAAA\nZ";
 
-/// A body of 48 zero bytes, which an empty line ends.
+/// A header with a body of 48 zero bytes, which an empty line ends.
 const FULL_LINE: &[u8; 141] = b"age-encryption.org/v1\n-> x\n\
         AAAAAAAAAAAAAAAAAAAAAAAAAAAAAAAAAAAAAAAAAAAAAAAAAAAAAAAAAAAAAAAA\n\n\
         --- AAAAAAAAAAAAAAAAAAAAAAAAAAAAAAAAAAAAAAAAAAA\n";
 
-/// A body of 48 zero bytes, without the empty line.
+/// A header with a body of 48 zero bytes, without the empty line.
 const NO_EMPTY_LINE: &[u8; 140] = b"age-encryption.org/v1\n-> x\n\
         AAAAAAAAAAAAAAAAAAAAAAAAAAAAAAAAAAAAAAAAAAAAAAAAAAAAAAAAAAAAAAAA\n\
         --- AAAAAAAAAAAAAAAAAAAAAAAAAAAAAAAAAAAAAAAAAAA\n";
 
-/// The MAC's last character has a bit that stands for nothing.
+/// A header whose MAC's last character has a bit that stands for nothing.
 const TRAILING_BIT: &[u8; 76] =
     b"age-encryption.org/v1\n-> x\n\n--- AAAAAAAAAAAAAAAAAAAAAAAAAAAAAAAAAAAAAAAAAAB\n";
 
-/// The MAC's last byte is 1.
+/// A header whose MAC's last byte is 1.
 const LAST_BYTE_ONE: &[u8; 76] =
     b"age-encryption.org/v1\n-> x\n\n--- AAAAAAAAAAAAAAAAAAAAAAAAAAAAAAAAAAAAAAAAAAE\n";
 
@@ -46,14 +46,14 @@ const CR_LF: &[u8; 23] = b"age-encryption.org/v1\r\n";
 const NO_STANZA: &[u8; 70] =
     b"age-encryption.org/v1\n--- AAAAAAAAAAAAAAAAAAAAAAAAAAAAAAAAAAAAAAAAAAA\n";
 
-/// An argument line up to its first argument.
+/// The beginning of a header, up to its first argument.
 pub(crate) const ARGUMENT_START: &[u8; 25] = b"age-encryption.org/v1\n-> ";
 
 const VERSION: &[u8; 22] = b"age-encryption.org/v1\n";
 
 const END_LINE: &[u8; 48] = b"--- AAAAAAAAAAAAAAAAAAAAAAAAAAAAAAAAAAAAAAAAAAA\n";
 
-/// What follows the argument, 50 bytes.
+/// The end of a header after its only argument, 50 bytes.
 const ARGUMENT_END: &[u8; 50] = b"\n\n--- AAAAAAAAAAAAAAAAAAAAAAAAAAAAAAAAAAAAAAAAAAA\n";
 
 const BODY_START: &[u8; 27] = b"age-encryption.org/v1\n-> x\n";
@@ -61,17 +61,20 @@ const BODY_START: &[u8; 27] = b"age-encryption.org/v1\n-> x\n";
 /// A line of a body, of 48 zero bytes.
 const BODY_LINE: &[u8; 65] = b"AAAAAAAAAAAAAAAAAAAAAAAAAAAAAAAAAAAAAAAAAAAAAAAAAAAAAAAAAAAAAAAA\n";
 
-/// Lines with which a header of full lines of a body has the greatest length, or a byte less.
+/// A part of a line, with which a header of full lines of a body has the greatest length, and isn't
+/// complete.
 const HALF_LINE: &[u8; 34] = b"AAAAAAAAAAAAAAAAAAAAAAAAAAAAAAAAAA";
 
+/// A part of a line, with which a header of full lines of a body is a byte shorter than the
+/// greatest length.
 const SHORTER: &[u8; 33] = b"AAAAAAAAAAAAAAAAAAAAAAAAAAAAAAAAA";
 
 const ARMOR: &[u8; 35] = b"-----BEGIN AGE ENCRYPTED FILE-----\n";
 
 const ARMOR_CR: &[u8; 36] = b"-----BEGIN AGE ENCRYPTED FILE-----\r\n";
 
-/// The header that some bytes begin with and its length, or the fault, if the bytes come at once and
-/// then end.
+/// Parses the header that some bytes begin with, if they come at once and then end. Returns its
+/// length and the header, or the fault.
 pub(crate) fn parsed(alloc: Global, bytes: &[u8]) -> Result<(usize, Header), HeadFault>
     ensures ok { IfOk result (λ found. HeadText found.1 (take found.0 bytes.now)) }
     ensures err { IfErr result (λ fault. IsReported bytes.now fault) }
@@ -83,7 +86,8 @@ pub(crate) fn parsed(alloc: Global, bytes: &[u8]) -> Result<(usize, Header), Hea
     }
 }
 
-/// Whether bytes that come in pieces of `step` bytes, and then end, are parsed so.
+/// Returns whether bytes are parsed to this result if they come in pieces of `step` bytes, and then
+/// end.
 fn comes_to(
     alloc: Global,
     bytes: &[u8],
@@ -109,8 +113,8 @@ fn comes_to(
     parser.is_open() && *parsed == Err(parser.end())
 }
 
-/// Whether a header has one stanza, of the argument `x` and this many zero bytes, up to 48, and a
-/// MAC of zeros except for its last byte.
+/// Returns whether a header has one stanza, of the argument `x` and `zeros` zero bytes, up to 48,
+/// and a MAC of zeros except for its last byte.
 fn is_of_zeros(header: &Header, zeros: usize, last: u8) -> bool {
     let [stanza] = header.stanzas.as_slice() else {
         return false;
@@ -122,14 +126,14 @@ fn is_of_zeros(header: &Header, zeros: usize, last: u8) -> bool {
         && header.mac == mac
 }
 
-/// Whether a header is written as the first `size` of these bytes.
+/// Returns whether a header is written as the first `size` of these bytes.
 fn is_written(alloc: Global, header: &Header, bytes: &[u8], size: usize) -> bool {
     is_header(header)
         && encode_head(alloc, header).is_ok_and(|text| bytes.get(..size) == Some(text.as_slice()))
 }
 
-/// Whether a header of `size` bytes stands in front, with one stanza of the argument `x` and this
-/// many zero bytes, and a MAC of zeros except for its last byte.
+/// Returns whether bytes begin with a header of `size` bytes, with one stanza of the argument `x`
+/// and `zeros` zero bytes, and a MAC of zeros except for its last byte.
 fn accepts(alloc: Global, bytes: &[u8], size: usize, zeros: usize, last: u8) -> bool
     ensures { IsTrue result → Accepts bytes.now size }
 {
@@ -146,7 +150,7 @@ fn accepts(alloc: Global, bytes: &[u8], size: usize, zeros: usize, last: u8) -> 
     taken == size
 }
 
-/// Whether this is the fault of the bytes and their end.
+/// Returns whether bytes, and their end, have the fault of this number at this line.
 fn refuses(alloc: Global, bytes: &[u8], number: u8, line: u64) -> bool
     ensures { IsTrue result → RefusesHeader bytes.now number line }
 {
@@ -163,7 +167,7 @@ fn refuses(alloc: Global, bytes: &[u8], number: u8, line: u64) -> bool
     fault.number() == number && at == line
 }
 
-/// Headers that are accepted.
+/// Returns whether the valid headers are accepted.
 fn accepted_rows(alloc: Global) -> bool
     ensures { IsTrue result → AcceptedRows }
 {
@@ -173,7 +177,7 @@ fn accepted_rows(alloc: Global) -> bool
         && accepts(alloc, LAST_BYTE_ONE, 76, 0, 1)
 }
 
-/// Faulty first lines.
+/// Returns whether headers with faulty first lines are refused.
 fn first_line_rows(alloc: Global) -> bool
     ensures { IsTrue result → FirstLineRows }
 {
@@ -183,7 +187,7 @@ fn first_line_rows(alloc: Global) -> bool
     refuses(alloc, ARMOR, 2, 1) && refuses(alloc, ARMOR_CR, 2, 1)
 }
 
-/// Faulty argument lines.
+/// Returns whether headers with faulty argument lines are refused.
 fn argument_rows(alloc: Global) -> bool
     ensures { IsTrue result → ArgumentRows }
 {
@@ -196,7 +200,7 @@ fn argument_rows(alloc: Global) -> bool
     refuses(alloc, HIGH_BYTE, 3, 2) && refuses(alloc, NUL, 3, 2)
 }
 
-/// Other faulty lines.
+/// Returns whether headers with other faulty lines are refused.
 fn line_rows(alloc: Global) -> bool
     ensures { IsTrue result → LineRows }
 {
@@ -205,7 +209,7 @@ fn line_rows(alloc: Global) -> bool
         && refuses(alloc, NO_STANZA, 6, 2)
 }
 
-/// The smallest header, cut after each number of its bytes.
+/// Returns whether the smallest header, truncated after each number of its bytes, is refused.
 fn cut_rows(alloc: Global) -> bool {
     (0..76).all(|len| {
         let line = match len {
@@ -218,13 +222,14 @@ fn cut_rows(alloc: Global) -> bool {
     })
 }
 
-/// The smallest header and a byte, in pieces of each length: nothing after it is taken.
+/// Returns whether the smallest header and a byte, in pieces of each length, is parsed without that
+/// byte.
 fn piece_rows(alloc: Global) -> bool {
     let parsed = parsed(alloc, SMALLEST_AND_ONE);
     (1..78).all(|step| comes_to(alloc, SMALLEST_AND_ONE, step, &parsed))
 }
 
-/// A front, a piece again and again, and an end.
+/// Joins a front, a piece `count` times, and an end.
 pub(crate) fn repeated(
     alloc: Global,
     front: &[u8],
@@ -240,12 +245,13 @@ pub(crate) fn repeated(
     Ok(text)
 }
 
-/// The text of some stanzas in a header with a MAC of zeros.
+/// Returns the text of a header with the text of some stanzas and a MAC of zeros.
 pub(crate) fn around(alloc: Global, stanzas: &[u8]) -> Result<Vec<u8>, AllocError> {
     repeated(alloc, VERSION, stanzas, 1, END_LINE)
 }
 
-/// A front, a piece so many times, and an end, which are refused so.
+/// The rows of headers at the limit: a front, a piece and how many times, an end, and the fault's
+/// number and line.
 const LIMITS: [(&[u8], &[u8], usize, &[u8], u8, u64); 5] = [
     (ARGUMENT_START, b"x", 1_048_502, ARGUMENT_END, 7, 4),
     (b"", b"x", HEAD_MAX, b"", 7, 1),
@@ -254,7 +260,7 @@ const LIMITS: [(&[u8], &[u8], usize, &[u8], u8, u64); 5] = [
     (VERSION, b"-> x\n\n", 170_000, b"", 8, 340_002),
 ];
 
-/// Headers at the limit of their length.
+/// Returns whether headers at the limit of their length are accepted or refused.
 fn limit_rows(alloc: Global) -> Result<bool, AllocError> {
     for (front, piece, count, end, number, line) in LIMITS {
         let text = repeated(alloc, front, piece, count, end)?;
@@ -267,8 +273,8 @@ fn limit_rows(alloc: Global) -> Result<bool, AllocError> {
     Ok(matches!(&parsed, Ok((HEAD_MAX, _))) && comes_to(alloc, longest.as_slice(), 1, &parsed))
 }
 
-/// The rows of the grammar and of its faults, of cut headers, and of headers at the limit of their
-/// length. False also if memory runs out.
+/// Returns whether all rows of headers are right: of the grammar and its faults, of truncated
+/// headers, and of headers at the limit of their length. Returns `false` also if memory runs out.
 pub fn header_rows(alloc: Global) -> bool
     ensures accepted { IsTrue result → AcceptedRows }
     ensures first_lines { IsTrue result → FirstLineRows }

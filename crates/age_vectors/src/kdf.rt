@@ -1,4 +1,5 @@
-// HMAC, HKDF and PBKDF2 with SHA-256, and scrypt. A constant named for a case is what its RFC gives.
+//! HMAC, HKDF and PBKDF2 with SHA-256, and scrypt. A constant named for a case is what its RFC
+//! gives.
 ghost use Rattle.std.specs.Prelude.{◌≡◌, [], IsTrue, take, replicate, codes};
 ghost use Rattle.age_kdf.specs.{hmac, hkdf32, pbkdf2_once};
 ghost use Rattle.age_scrypt.specs.{scrypt};
@@ -84,7 +85,8 @@ const SCRYPT_CASE_3: [u8; 32] =
     *b"\x70\x23\xbd\xcb\x3a\xfd\x73\x48\x46\x1c\x06\xcd\x81\xfd\x38\xeb\xfd\xa8\xfb\xba\x90\x4f\
         \x8e\x3e\xa9\xb5\x43\xf6\x54\x5d\xa1\xf2";
 
-/// The seven cases of RFC 4231, section 4. Of the fifth it gives 16 bytes.
+/// Returns whether the seven cases of RFC 4231, section 4, are as given there. The fifth gives 16
+/// bytes of the HMAC.
 pub fn rfc_hmac() -> bool
     ensures case_1 { IsTrue result → hmac (replicate 20 0x0b) (codes "Hi There") ≡ HMAC_CASE_1 }
     ensures case_2 { IsTrue result
@@ -110,7 +112,8 @@ pub fn rfc_hmac() -> bool
         && hmac(&[0xaa; 131], &[&HMAC_MESSAGE_7]) == HMAC_CASE_7
 }
 
-/// The cases of RFC 5869, appendices A.1 to A.3, by the first 32 bytes of their output.
+/// Returns whether the cases of RFC 5869, appendices A.1 to A.3, are as given there, by the first
+/// 32 bytes of their output.
 pub fn rfc_hkdf() -> bool
     ensures case_1 { IsTrue result
         → hkdf32 (replicate 22 0x0b) HKDF_SALT_1 HKDF_INFO_1 ≡ HKDF_CASE_1 }
@@ -122,7 +125,7 @@ pub fn rfc_hkdf() -> bool
         && hkdf32(&[0x0b; 22], &[], &[]) == HKDF_CASE_3
 }
 
-/// The case of RFC 7914, section 11, with one iteration.
+/// Returns whether the case of RFC 7914, section 11, with one iteration, is as given there.
 pub fn rfc_pbkdf2() -> bool
     ensures { IsTrue result
         → pbkdf2_once (codes "passwd") (codes "salt") 64 ≡ PBKDF2_KEY }
@@ -132,8 +135,8 @@ pub fn rfc_pbkdf2() -> bool
     key == PBKDF2_KEY
 }
 
-/// The third case of RFC 7914, section 12, by the first 32 bytes of its output. False also if
-/// memory ran out.
+/// Returns whether the third case of RFC 7914, section 12, is as given there, by the first 32 bytes
+/// of its output. Returns `false` also if memory runs out.
 pub fn rfc_scrypt(alloc: Global) -> bool
     ensures { IsTrue result
         → scrypt (codes "pleaseletmein") (codes "SodiumChloride") 14 ≡ SCRYPT_CASE_3 }

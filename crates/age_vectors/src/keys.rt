@@ -1,5 +1,5 @@
-// What passphrases and known keys find in headers. The header was made by Python: hashlib's scrypt,
-// HMAC over its SHA-256, and RFC 8439 in plain whole numbers.
+//! Passphrases and known keys that open headers, or don't. The header was made by Python: hashlib's
+//! scrypt, HMAC over its SHA-256, and RFC 8439 in plain whole numbers.
 ghost use Rattle.std.specs.Prelude.{IsTrue, IfOk, codes};
 ghost use Rattle.age_stanza.specs.{HeadText};
 ghost use Rattle.age_keys.specs.{Opens, scrypt_head};
@@ -12,7 +12,7 @@ use std::alloc::{AllocError, Global};
 
 const SALT: [u8; 16] = *b"\x10\x11\x12\x13\x14\x15\x16\x17\x18\x19\x1a\x1b\x1c\x1d\x1e\x1f";
 
-/// The file key of each header here that opens.
+/// The file key of each header of these vectors that opens.
 pub const FILE_KEY: [u8; 16] = [0, 1, 2, 3, 4, 5, 6, 7, 8, 9, 10, 11, 12, 13, 14, 15];
 
 /// The header of the passphrase `kudebafon`, at work factor 1.
@@ -20,17 +20,18 @@ const WRITTEN: [u8; 149] = *b"age-encryption.org/v1\n-> scrypt EBESExQVFhcYGRobH
         1z3f/yTFiUXDwVbiU/TZ2AupEaKH6mWRdiP4zJo1RGw\n\
         --- j2RWCWPgvXImsyfN390ggNwin5ht9nxij7u+aGwWgss\n";
 
-/// The header of that passphrase at work factor 10.
+/// The header of the passphrase `kudebafon`, at work factor 10.
 const AT_TEN: &[u8; 150] = b"age-encryption.org/v1\n-> scrypt EBESExQVFhcYGRobHB0eHw 10\n\
         Qh59WLlLxJRIkowFnzt99qkc7x6EgdHELDUQmvHY874\n\
         --- 2qY5AgJS48JZMvxeEOs4EKHsGHn1+dq7Rvg3gLXzgBM\n";
 
-/// A header with a work factor of one more than the greatest limit.
+/// A header with a work factor of 23, which is one more than the greatest limit.
 const AT_23: &[u8; 150] = b"age-encryption.org/v1\n-> scrypt AAAAAAAAAAAAAAAAAAAAAA 23\n\
         AAAAAAAAAAAAAAAAAAAAAAAAAAAAAAAAAAAAAAAAAAA\n\
         --- AAAAAAAAAAAAAAAAAAAAAAAAAAAAAAAAAAAAAAAAAAA\n";
 
-/// The number of the fault with which a header is refused, or the file key.
+/// Opens a header, and returns the file key, or the number of the fault; 0 if the header has no
+/// text.
 fn answer<U: Unlock>(alloc: Global, header: &Header, unlock: &U) -> Result<[u8; 16], u8>
     ensures { IfOk result (Opens (U.allows unlock.now) header.now) }
 {
@@ -43,8 +44,8 @@ fn answer<U: Unlock>(alloc: Global, header: &Header, unlock: &U) -> Result<[u8; 
     }
 }
 
-/// The file key that the header in a text opens to, or its fault's number; 0 if the text has no
-/// header.
+/// Opens the header in a text, and returns the file key, or the number of the fault; 0 if the text
+/// has no header.
 pub(crate) fn opened<U: Unlock>(alloc: Global, text: &[u8], unlock: &U) -> Result<[u8; 16], u8>
     ensures { IfOk result (OpensIn (U.allows unlock.now) text.now) }
 {
@@ -54,7 +55,7 @@ pub(crate) fn opened<U: Unlock>(alloc: Global, text: &[u8], unlock: &U) -> Resul
     }
 }
 
-/// Whether a text's header opens to the file key of all headers here. If it does, it does so by the
+/// Returns whether the header in a text opens to [`FILE_KEY`]. If it does, it does so by the
 /// definitions.
 pub(crate) fn is_opened<U: Unlock>(alloc: Global, text: &[u8], unlock: &U) -> bool
     ensures { IsTrue result → OpensIn (U.allows unlock.now) text.now FILE_KEY }
@@ -65,7 +66,8 @@ pub(crate) fn is_opened<U: Unlock>(alloc: Global, text: &[u8], unlock: &U) -> bo
     }
 }
 
-/// What a passphrase opens a header to.
+/// Opens the header in a text by a passphrase, and returns the file key, or the number of the
+/// fault.
 fn by_passphrase(alloc: Global, text: &[u8], pass: &[u8], max_log: u32) -> Result<[u8; 16], u8> {
     match Passphrase::new(pass, max_log) {
         Some(passphrase) => opened(alloc, text, &passphrase),
@@ -73,7 +75,8 @@ fn by_passphrase(alloc: Global, text: &[u8], pass: &[u8], max_log: u32) -> Resul
     }
 }
 
-/// Whether `scrypt_header` makes Python's header. If it does, the definition gives it.
+/// Returns whether `scrypt_header` makes the header that Python made. If it does, the definition
+/// gives it.
 fn writes_python_s_header(alloc: Global) -> bool
     ensures { IsTrue result → HeadText (scrypt_head (codes "kudebafon") 1 SALT FILE_KEY) WRITTEN }
 {
@@ -86,7 +89,7 @@ fn writes_python_s_header(alloc: Global) -> bool
     }
 }
 
-/// The right passphrase and others, limits, and a MAC and a body whose last byte is inverted.
+/// Tests the right passphrase and others, limits, and a MAC and a body whose last byte is inverted.
 fn passphrase_rows(alloc: Global) -> bool {
     let (mut other_mac, mut other_body) = (WRITTEN, WRITTEN);
     other_mac[146..148].copy_from_slice(b"jQ");
@@ -104,7 +107,7 @@ fn passphrase_rows(alloc: Global) -> bool {
         && Passphrase::new(b"x", 23).is_none()
 }
 
-/// A known key, right and wrong.
+/// Tests a known key, right and wrong.
 fn known_key_rows(alloc: Global) -> bool {
     let mut other = FILE_KEY;
     other[15] ^= 1;
@@ -114,8 +117,8 @@ fn known_key_rows(alloc: Global) -> bool {
         && KnownKey::read("000102030405060708090A0b0c0d0e0").is_none()
 }
 
-/// The arguments of a stanza with a body of 32 zero bytes, and the number with which the passphrase
-/// `x` with the limit 11 refuses it.
+/// The arguments of a stanza with a body of 32 zero bytes, and the number of the fault with which
+/// the passphrase `x` with the limit 11 refuses it.
 const STANZAS: [(&[u8], u8); 15] = [
     (b"x", 12),
     (b"scrypt AAAAAAAAAAAAAAAAAAAAAA", 10),
@@ -134,11 +137,11 @@ const STANZAS: [(&[u8], u8); 15] = [
     (b"scrypt AAAAAAAAAAAAAAAAAAAAAA 1", 13),
 ];
 
-/// What follows these arguments: the body, and a MAC of zeros.
+/// The end of a header after its arguments: a body of 32 zero bytes, and a MAC of zeros.
 const BODY_AND_MAC: &[u8] = b"\nAAAAAAAAAAAAAAAAAAAAAAAAAAAAAAAAAAAAAAAAAAA\n\
         --- AAAAAAAAAAAAAAAAAAAAAAAAAAAAAAAAAAAAAAAAAAA\n";
 
-/// Other stanzas, the first with a body of 31 bytes, and their numbers.
+/// Other stanzas, the first with a body of 31 bytes, and the numbers of their faults.
 const OTHERS: [(&[u8], u8); 4] = [
     (
         b"-> scrypt AAAAAAAAAAAAAAAAAAAAAA 1\nAAAAAAAAAAAAAAAAAAAAAAAAAAAAAAAAAAAAAAAAAA\n",
@@ -152,7 +155,7 @@ const OTHERS: [(&[u8], u8); 4] = [
     (b"-> X25519\n\n-> x scrypt\n\n", 12),
 ];
 
-/// These stanzas, and a work factor of 400 digits.
+/// Tests the stanzas of [`STANZAS`] and [`OTHERS`], and a work factor of 400 digits.
 fn stanza_rows(alloc: Global) -> Result<bool, AllocError> {
     for (arguments, number) in STANZAS {
         let text = repeated(alloc, ARGUMENT_START, arguments, 1, BODY_AND_MAC)?;
@@ -171,9 +174,10 @@ fn stanza_rows(alloc: Global) -> Result<bool, AllocError> {
     Ok(by_passphrase(alloc, text.as_slice(), b"x", 11) == Err(11))
 }
 
-/// The rows of passphrases and known keys: a header that Python made, opened and written, and with
-/// another MAC and body; each shape that is refused, with its number. False also if memory runs
-/// out. True says that the definition gives Python's header.
+/// Returns whether all rows of passphrases and known keys are right: a header that Python made,
+/// opened and written, and with another MAC and body; each shape that is refused, with its number.
+/// Returns `false` also if memory runs out. If the result is `true`, the definition gives the
+/// header that Python made.
 pub fn key_rows(alloc: Global) -> bool
     ensures { IsTrue result → HeadText (scrypt_head (codes "kudebafon") 1 SALT FILE_KEY) WRITTEN }
 {

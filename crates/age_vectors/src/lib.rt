@@ -2,7 +2,7 @@
 //! of runs that stop.
 //!
 //! Each public function runs the vectors of one standard, or the worked examples of one layer, and
-//! returns whether every one came out right. If it has a contract, true says more: that the
+//! returns whether every one came out right. If it has a contract, `true` says more: that the
 //! definition itself, not only this program, gives the values of the standard. The tests of
 //! `age_tests` call each one.
 #![tactic(auto)]

@@ -1,4 +1,4 @@
-// What a shared secret finds in the X25519 stanzas of headers, which Python made.
+//! Shared secrets that open the X25519 stanzas of headers, which Python made, or don't.
 ghost use Rattle.std.specs.Prelude.{IsTrue};
 ghost use Rattle.age_keys.specs.{IsSharedKey};
 ghost use Rattle.age_vectors.specs.{OpensIn};
@@ -8,10 +8,10 @@ use crate::keys::{FILE_KEY, is_opened, opened};
 use age_keys::SharedSecret;
 use std::alloc::{AllocError, Global};
 
-/// What X25519 gave for both sides, the bytes 64 to 95.
+/// The shared secret of X25519, which is the same for both sides: the bytes 64 to 95.
 pub const X25519_SECRET: [u8; 32] = *b"@ABCDEFGHIJKLMNOPQRSTUVWXYZ[\\]^_";
 
-/// The recipient's public key, the bytes 96 to 127.
+/// The recipient's public key: the bytes 96 to 127.
 pub const X25519_RECIPIENT: [u8; 32] = *b"`abcdefghijklmnopqrstuvwxyz{|}~\x7f";
 
 /// A header of one X25519 stanza.
@@ -20,7 +20,7 @@ pub const X25519_HEADER: [u8; 168] =
         jZAdkj7SfLxba9aaDaLOH15VqHxjezbflkA4yhWbOAQ\n\
         --- bFHWTtINPd+NDhBKPJJS9Mjszxl4rvMbhTUfrtdiPco\n";
 
-/// A header of two X25519 stanzas; the second opens.
+/// A header of two X25519 stanzas, of which the second opens.
 const SECOND: &[u8] =
     b"age-encryption.org/v1\n-> X25519 AQIDBAUGBwgJCgsMDQ4PEBESExQVFhcYGRobHB0eHyA\n\
         j3qlNpeG/TXms2TPf47danvdz6ztdPR3yBvwF3MZghI\n\
@@ -28,7 +28,7 @@ const SECOND: &[u8] =
         saYyWtf1wzZgzf9vl9J/7nBFmW0FB4AEmpbiUeNVh+o\n\
         --- bXk/jjBCNQusHcRRx8swxJZE7qK3Mqd7ifEGAgCYmUo\n";
 
-/// A header of those two, and another stanza between them.
+/// A header of two X25519 stanzas, of which the second opens, with another stanza between them.
 const OTHER_BETWEEN: &[u8] =
     b"age-encryption.org/v1\n-> X25519 AQIDBAUGBwgJCgsMDQ4PEBESExQVFhcYGRobHB0eHyA\n\
         j3qlNpeG/TXms2TPf47danvdz6ztdPR3yBvwF3MZghI\n-> x\n\n\
@@ -36,7 +36,7 @@ const OTHER_BETWEEN: &[u8] =
         saYyWtf1wzZgzf9vl9J/7nBFmW0FB4AEmpbiUeNVh+o\n\
         --- o3wDOasAjDCzmjR1DNxHmM8X2kr9aYljLojyka/fAHo\n";
 
-/// Two that open, to different keys; the MAC is the first one's.
+/// A header of two X25519 stanzas that open, to different keys; its MAC is that of the first key.
 const BOTH: [u8; 266] =
     *b"age-encryption.org/v1\n-> X25519 AQIDBAUGBwgJCgsMDQ4PEBESExQVFhcYGRobHB0eHyA\n\
         jZAdkj7SfLxba9aaDaLOH15VqHxjezbflkA4yhWbOAQ\n\
@@ -44,18 +44,19 @@ const BOTH: [u8; 266] =
         eW76kh89C/64FSe3TwqnNiwgPUXJGJlt1Y5MoUcY2p0\n\
         --- 7Y2k7eubz0pobTPGaIJsUajg7t05Ng7ko+tRc06PF3c\n";
 
-/// Stanzas, one of them with a share of 31 bytes.
+/// Stanzas of which the first has a share of 31 bytes.
 const SHORT_FIRST: &[u8] = b"-> X25519 AQIDBAUGBwgJCgsMDQ4PEBESExQVFhcYGRobHB0eHw\n\
         j3qlNpeG/TXms2TPf47danvdz6ztdPR3yBvwF3MZghI\n\
         -> X25519 ISIjJCUmJygpKissLS4vMDEyMzQ1Njc4OTo7PD0+P0A\n\
         saYyWtf1wzZgzf9vl9J/7nBFmW0FB4AEmpbiUeNVh+o\n";
 
+/// Stanzas of which the second has a share of 31 bytes.
 const SHORT_SECOND: &[u8] = b"-> X25519 AQIDBAUGBwgJCgsMDQ4PEBESExQVFhcYGRobHB0eHyA\n\
         jZAdkj7SfLxba9aaDaLOH15VqHxjezbflkA4yhWbOAQ\n\
         -> X25519 ISIjJCUmJygpKissLS4vMDEyMzQ1Njc4OTo7PD0+Pw\n\
         saYyWtf1wzZgzf9vl9J/7nBFmW0FB4AEmpbiUeNVh+o\n";
 
-/// Stanzas that are refused, and with which number.
+/// Stanzas that are refused, and the numbers of their faults.
 const REFUSED: [(&[u8], u8); 4] = [
     (SHORT_FIRST, 15),
     (SHORT_SECOND, 15),
@@ -63,7 +64,7 @@ const REFUSED: [(&[u8], u8); 4] = [
     (b"-> X25519\n\n-> scrypt\n\n", 9),
 ];
 
-/// Another secret, a zero secret, and stanzas that are refused.
+/// Tests another secret, a zero secret, and stanzas that are refused.
 fn refused_rows(alloc: Global, shared: &SharedSecret) -> Result<bool, AllocError> {
     for (stanzas, number) in REFUSED {
         if opened(alloc, around(alloc, stanzas)?.as_slice(), shared) != Err(number) {
@@ -78,10 +79,10 @@ fn refused_rows(alloc: Global, shared: &SharedSecret) -> Result<bool, AllocError
     )
 }
 
-/// The rows of a shared secret: headers of one X25519 stanza and of two, another secret, a zero
-/// secret, and stanzas that are refused. False also if memory runs out. True says that the
-/// definition finds the file key in the headers that Python made of one stanza, and of two that
-/// open.
+/// Returns whether all rows of a shared secret are right: headers of one X25519 stanza and of two,
+/// another secret, a zero secret, and stanzas that are refused. Returns `false` also if memory runs
+/// out. If the result is `true`, the definition finds the file key in the headers that Python made
+/// of one stanza, and of two that open.
 pub fn shared_rows(alloc: Global) -> bool
     ensures one { IsTrue result
         → OpensIn (IsSharedKey (record { secret = X25519_SECRET; recipient = X25519_RECIPIENT }))

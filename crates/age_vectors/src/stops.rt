@@ -1,6 +1,6 @@
-// Every failure in turn: a text of 200,000 bytes is encrypted, its file decrypted, and the decryption
-// resumed after two chunks, while one pull, one put or the flush fails. What stopped is resumed. The
-// front of the file, the positions and the lengths are Python's.
+//! Every failure in turn: a text of 200,000 bytes is encrypted, its file decrypted, and the
+//! decryption resumed after two chunks, while one pull, one put or the flush fails. A run that
+//! stopped is resumed. The front of the file, the positions and the lengths are Python's.
 use Call::{OldPull, Pull, Put};
 use Engine::{Decryption, Encryption, Resumption};
 use age_file::{MemSink, MemSource, Position, Secret, decrypt, encrypt, resume};
@@ -35,45 +35,52 @@ const POSITIONS: [&[u8; 150]; 4] = [
         /uNq2PXiRZy0MdJ4EtCPsufk06hIfoQQu1aLK1GyspM y9CCLyM+edWGl1QxHt8BkCdiArbSWHTyJh7bSZ8F+rQ\n",
 ];
 
-/// How many bytes a pull gives and a put takes at most.
+/// The most bytes that a pull gives and a put takes.
 const STEP: usize = 10_000;
 
-/// A text and its file.
+/// A text and its age file.
 #[derive(Drop)]
 struct Example {
     text: Vec<u8>,
     file: Vec<u8>,
 }
 
+/// The engine of a run.
 #[derive(Clone, Copy, PartialEq, Eq)]
 enum Engine {
+    /// The encryption of the text.
     Encryption,
+    /// The decryption of the file.
     Decryption,
-    /// After two chunks, over an earlier output of 150,000 bytes.
+    /// A resumed decryption, after two chunks, over an earlier output of 150,000 bytes.
     Resumption,
 }
 
-/// What a run calls: its input, its earlier output or its output.
+/// The kind of a call of a run: on its input, its earlier output or its output.
 #[derive(Clone, Copy, PartialEq, Eq)]
 enum Call {
+    /// A pull from the input.
     Pull,
+    /// A pull from the earlier output.
     OldPull,
     /// A put, or the flush.
     Put,
 }
 
-/// One call of a run fails: the one of this number among those of its kind.
+/// The one call of a run that fails: its kind, and its number among the calls of that kind.
 type Failure = (Call, u64);
 
-/// No run makes this call.
+/// A failure that no run meets.
 const NEVER: Failure = (Put, u64::MAX);
 
-/// A kind of call of which one fails in a run: how many of them there are, from which on a stop has
-/// a position, and from which on this much of the output is written. Each put adds a step to that.
+/// The runs in which calls of one kind fail in turn: how many such calls there are, from which on a
+/// stop has a position, and from which on this much of the output is written. Each put adds a step
+/// to that.
 type Run = (Engine, Call, u64, u64, &'static [u64], &'static [usize]);
 
-/// A block is sealed once a byte after its chunk came, and opened once it is complete, the last one
-/// at the end. A resumed run copies the earlier output piece by piece of it, and chunk by chunk.
+/// The runs that are tried. A block is sealed once a byte after its chunk came, and opened once it
+/// is complete, the last one at the end. A resumed run copies the earlier output piece by piece of
+/// it, and chunk by chunk.
 const RUNS: [Run; 7] = [
     (Encryption, Pull, 21, 21, &[0, 7, 14, 20], &FILE_LENS),
     (Encryption, Put, 24, 24, &[1, 8, 15, 22, 23], &FILE_LENS),
@@ -90,21 +97,22 @@ const TEXT_LENS: [usize; 4] = [65_536, 131_072, 196_608, 200_000];
 
 const COPY_LENS: [usize; 5] = [65_536, 70_000, 131_072, 196_608, 200_000];
 
-/// How a run ended: the number of its fault, or 0; its position; and what it wrote, which is as much
-/// as it says.
+/// The result of a run: the number of its fault, or 0; its position; and its output, which is as
+/// long as the run says.
 type Ended = (u8, Option<Position>, Vec<u8>);
 
-/// Whether an encryption, a decryption and a resumed one of 200,000 bytes stop as they have to if
-/// one pull, one put or the flush fails, each in turn, until a run ends with no stop: with the
-/// fault of the source or of the sink, after as many bytes of the complete output as could be
-/// written by then, and with the position there, from which another run makes the complete text.
-/// False also if memory runs out.
+/// Returns whether an encryption, a decryption and a resumed one of 200,000 bytes stop as they have
+/// to if one pull, one put or the flush fails, each in turn, until a run ends without a stop: with
+/// the fault of the source or of the sink, after as many bytes of the complete output as could be
+/// written by then, and with the right position, from which another run makes the complete text.
+/// Returns `false` also if memory runs out.
 pub fn stop_rows(alloc: Global) -> bool {
     make_example(alloc).is_some_and(|example| RUNS
         .iter()
         .all(|run| stops_in_turn(alloc, &example, run)))
 }
 
+/// Makes the text, and encrypts it.
 fn make_example(alloc: Global) -> Option<Example> {
     let mut text = Vec::new(alloc);
     for i in 0..200_000u32 {
@@ -117,7 +125,7 @@ fn make_example(alloc: Global) -> Option<Example> {
     None
 }
 
-/// Whether a run stops as it has to at each call of a kind, and ends if none fails.
+/// Returns whether a run stops as it has to at each call of a kind, and ends if none fails.
 fn stops_in_turn(alloc: Global, example: &Example, run: &Run) -> bool {
     let (engine, call, calls, ..) = *run;
     for turn in 0..calls {
@@ -131,12 +139,12 @@ fn stops_in_turn(alloc: Global, example: &Example, run: &Run) -> bool {
     )
 }
 
-/// Whether a run ended without a fault, after all of this.
+/// Returns whether a run ended without a fault, after all of its output.
 fn ends(run: Option<Ended>, all: &[u8]) -> bool {
     matches!(&run, Some((0, _, bytes)) if bytes.as_slice() == all)
 }
 
-/// All that a run writes.
+/// Returns the complete output of a run.
 fn whole(example: &Example, engine: Engine) -> &[u8] {
     match engine {
         Encryption => example.file.as_slice(),
@@ -144,7 +152,7 @@ fn whole(example: &Example, engine: Engine) -> &[u8] {
     }
 }
 
-/// Whether a run stops as it has to if its call of this number fails.
+/// Returns whether a run stops as it has to if its call number `turn` fails.
 fn stops(alloc: Global, example: &Example, run: &Run, turn: u64) -> bool {
     let (engine, call, _, position_from, ..) = *run;
     let number = if call == Put { 27 } else { 26 };
@@ -160,7 +168,7 @@ fn stops(alloc: Global, example: &Example, run: &Run, turn: u64) -> bool {
     }
 }
 
-/// How much a run has written before this call.
+/// Returns the number of bytes that a run has written before its call number `turn`.
 fn len_before(run: &Run, turn: u64) -> usize {
     let (_, call, _, _, froms, lens) = *run;
     let (mut from, mut len) = (0, 0);
@@ -174,7 +182,7 @@ fn len_before(run: &Run, turn: u64) -> usize {
         .saturating_add(len)
 }
 
-/// Whether a run that wrote this much has no position, or the one of as many chunks, from which
+/// Returns whether a stopped run has no position, or the right one for its output, from which
 /// another run makes the complete text.
 fn goes_on(alloc: Global, example: &Example, position: Option<Position>, old: &[u8]) -> bool {
     let Some(position) = position else {
@@ -187,6 +195,7 @@ fn goes_on(alloc: Global, example: &Example, position: Option<Position>, old: &[
         )
 }
 
+/// Returns whether a position after `chunks` chunks has the right text.
 fn has_text(alloc: Global, position: &Position, chunks: usize) -> bool {
     match (position.text(alloc), POSITIONS.get(chunks)) {
         (Ok(text), Some(expected)) => text.as_slice() == expected.as_slice(),
@@ -194,6 +203,7 @@ fn has_text(alloc: Global, position: &Position, chunks: usize) -> bool {
     }
 }
 
+/// Runs an engine in which one call fails.
 fn outcome(alloc: Global, example: &Example, engine: Engine, failure: Failure) -> Option<Ended> {
     match engine {
         Encryption => encrypted(alloc, example.text.as_slice(), failure),
@@ -206,20 +216,22 @@ fn outcome(alloc: Global, example: &Example, engine: Engine, failure: Failure) -
     }
 }
 
-/// The number of the call of this kind that fails, if one does.
+/// Returns the number of the call of this kind that fails, or `None` if none does.
 fn turn_of(failure: Failure, call: Call) -> Option<u64> {
     (failure.0 == call).then_some(failure.1)
 }
 
-/// A source of some bytes, whose calls are of this kind.
+/// Makes a source of some bytes, whose calls are of this kind.
 fn source(alloc: Global, bytes: &[u8], failure: Failure, call: Call) -> Option<MemSource> {
     Some(MemSource::new(bytes.to_vec(alloc).ok()?, STEP, turn_of(failure, call)))
 }
 
+/// Makes a sink with room for the age file.
 fn sink(alloc: Global, failure: Failure) -> Option<MemSink> {
     MemSink::new(alloc, 200_229, STEP, turn_of(failure, Put)).ok()
 }
 
+/// Runs an encryption in which one call fails.
 fn encrypted(alloc: Global, text: &[u8], failure: Failure) -> Option<Ended> {
     let secret = Secret::new(PASS, LOG, &SALT, &FILE_KEY, &NONCE)?;
     let mut input = source(alloc, text, failure, Pull)?;
@@ -232,7 +244,8 @@ fn encrypted(alloc: Global, text: &[u8], failure: Failure) -> Option<Ended> {
     Some((number, None, output.into_bytes()))
 }
 
-/// A decryption, or one that is resumed at a position, over an earlier output.
+/// Runs a decryption, or one that is resumed at a position over an earlier output, in which one
+/// call fails.
 fn decrypted(
     alloc: Global,
     example: &Example,

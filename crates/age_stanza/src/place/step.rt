@@ -1,4 +1,4 @@
-//! Where a line leads, by its place.
+//! The parsing of one line, by its place in the header.
 
 ghost use Rattle.age_stanza.specs.inner.{Gives, step as step_of, end_line_result, argument_line_result};
 ghost use Rattle.age_stanza.specs.inner.{mac_of as spec_mac_of, AddsLine, arguments_of as spec_arguments_of};
@@ -13,7 +13,7 @@ use age_fault::HeadKind;
 use age_io::Bytes;
 use std::alloc::Global;
 
-/// The first line: the version, an armored file's first line, or no age file's.
+/// Parses the first line. Only the version line is valid; an armored file's has a fault of its own.
 #[tactic(auto, unfolding(crate::specs::inner::LineMachine::step))]
 fn first(alloc: Global, line: &[u8]) -> Result<Next, HeadKind>
     ensures { Gives result (step_of Place.Start line.now) }
@@ -27,7 +27,7 @@ fn first(alloc: Global, line: &[u8]) -> Result<Next, HeadKind>
     Err(HeadKind::NotAge)
 }
 
-/// A line that begins with `---`: the end line, after one or more stanzas.
+/// Parses a line that begins with `---`, which must be the end line, after one or more stanzas.
 fn end(stanzas: Stanzas, line: &[u8]) -> Result<Next, HeadKind>
     ensures { Gives result (end_line_result stanzas (spec_mac_of line.now)) }
 {
@@ -40,7 +40,8 @@ fn end(stanzas: Stanzas, line: &[u8]) -> Result<Next, HeadKind>
     Ok(Next::Done(Header { stanzas, mac }))
 }
 
-/// Any other line after a complete stanza: the next one's argument line.
+/// Parses a line after the version line or a complete stanza that doesn't begin with `---`. It must
+/// be an argument line.
 fn begin(alloc: Global, stanzas: Stanzas, line: &[u8]) -> Result<Next, HeadKind>
     ensures { Gives result (argument_line_result stanzas (spec_arguments_of line.now)) }
 {
@@ -55,7 +56,7 @@ fn begin(alloc: Global, stanzas: Stanzas, line: &[u8]) -> Result<Next, HeadKind>
     }))
 }
 
-/// Adds what a line of a body spells.
+/// Decodes a line of a body, and appends its bytes.
 fn add_line(body: &mut Bytes, line: &[u8]) -> Result<(), HeadKind>
     ensures { AddsLine body.old line.now result body.new }
 {
@@ -70,7 +71,7 @@ fn add_line(body: &mut Bytes, line: &[u8]) -> Result<(), HeadKind>
     Ok(())
 }
 
-/// A line of a body. One of fewer than [`COLUMNS`] characters is its last.
+/// Parses a line of a body. One of fewer than [`COLUMNS`] characters is its last.
 fn body_line(
     mut stanzas: Stanzas,
     args: Arguments,
@@ -91,7 +92,7 @@ fn body_line(
     Ok(Next::Go(Place::Between(stanzas)))
 }
 
-/// Where a line leads, from any place.
+/// Parses a line, wherever in the header it is.
 #[tactic(auto, unfolding(crate::specs::inner::LineMachine::step))]
 pub(crate) fn step(alloc: Global, place: Place, line: &[u8]) -> Result<Next, HeadKind>
     ensures { Gives result (step_of place line.now) }

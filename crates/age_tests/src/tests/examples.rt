@@ -1,4 +1,4 @@
-//! The examples as they run, over a file that Python made.
+//! Tests that run the examples, over a file that Python made.
 
 use age_examples::{Counted, Either, Measure, seal_to, text_of};
 use age_file::{MemSink, MemSource, Source};
@@ -6,8 +6,8 @@ use age_keys::{FileKey, KnownKey, Passphrase, payload_key};
 use age_vectors::FILE_KEY;
 use std::test::Fail;
 
-/// The file of `hello` under [`FILE_KEY`]: a header of one stanza `x` with an empty body, the payload
-/// nonce, and from 92 on the payload.
+/// The age file of `hello` under [`FILE_KEY`]: a header of one stanza `x` with an empty body, the
+/// payload nonce, and from byte 92 on the payload.
 pub(crate) const FILE: [u8; 113] =
     *b"age-encryption.org/v1\n-> x\n\n--- 1mO1p2iHr1hXsC4oPA3JQsoy5EVuHeaNqF7FyjrAkCE\n\
         defghijklmnopqrs\

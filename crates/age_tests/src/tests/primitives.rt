@@ -12,8 +12,8 @@ const KEY: [u8; 32] = [9; 32];
 
 const NONCE: [u8; 12] = [0xff; 12];
 
-/// The SHA-256 of texts of 320 bytes 0x5a, of which the first 0, 1, and so on up to `most` bytes are
-/// enciphered from this block on.
+/// Returns the SHA-256 of texts of 320 bytes 0x5a, of which the first 0, 1, and so on up to `most`
+/// bytes are encrypted from block `counter` on.
 fn digest_of_lengths(counter: u32, most: usize) -> [u8; 32]
     requires reaches { 64 * counter + most ≤ 2 ^ 38 }
     requires short { most ≤ 320 }
@@ -27,7 +27,7 @@ fn digest_of_lengths(counter: u32, most: usize) -> [u8; 32]
     digest.finalize()
 }
 
-/// The digests are of OpenSSL's keystream.
+/// Compares texts of every length with digests of OpenSSL's keystream.
 #[test]
 fn texts_of_every_length(rt: HostRuntime) {
     let from_0 = *b"\xb5\x14\xed\x4a\x63\x85\x5f\x42\x98\xdd\x7b\x05\xc8\xc2\xfe\xa2\
@@ -41,7 +41,7 @@ fn texts_of_every_length(rt: HostRuntime) {
     assert!(rt; digest_of_lengths(4_294_967_291, 320) == up_to_the_end);
 }
 
-/// Whether a block with this bit inverted doesn't open, and is unchanged.
+/// Returns whether a block with one inverted bit doesn't open, and is unchanged.
 fn is_noticed(block: &[u8; 16], bit: usize) -> bool {
     let mut other = *block;
     other[bit / 8 % 16] ^= 1 << (bit % 8);
@@ -49,7 +49,7 @@ fn is_noticed(block: &[u8; 16], bit: usize) -> bool {
     !open_in_place(&KEY, &NONCE, &[], &mut other) && other == before
 }
 
-/// The sealing is OpenSSL's.
+/// Compares the sealing of an empty text with OpenSSL's.
 #[test]
 fn an_empty_text(rt: HostRuntime) {
     let wanted = *b"\x29\xcd\x91\x83\x0d\x9e\xd5\xfb\x77\xd3\x6f\x41\xe8\x8c\xea\x44";
@@ -60,7 +60,7 @@ fn an_empty_text(rt: HostRuntime) {
     assert!(rt; open_in_place(&KEY, &NONCE, &[], &mut block) && block == wanted);
 }
 
-/// About as long as a block of the digest. The values are Python's, as
+/// Compares HMACs, under keys about as long as a block of the digest, with Python's
 /// `hmac.digest(key, b"message", "sha256")`.
 #[test]
 fn keys_about_a_block_long(rt: HostRuntime) {
@@ -75,7 +75,8 @@ fn keys_about_a_block_long(rt: HostRuntime) {
     assert!(rt; hmac(&Sha256::digest(key), &[b"message"]) == of_65);
 }
 
-/// The key of RFC 7914, section 11, cut a byte after its first block, which is one HMAC.
+/// Derives the key of RFC 7914, section 11, truncated a byte after its first block, which is one
+/// HMAC.
 #[test]
 fn a_key_of_33_bytes(rt: HostRuntime) {
     let mut key = [0; 33];
@@ -88,9 +89,9 @@ fn derived(alloc: Global) -> Result<[u8; 32], Memory> {
     derive(alloc, b"correct horse", &[], 1, &mut Steps::new())
 }
 
-/// The key is that of Python's `hashlib.scrypt`. Run it with each allocation refused in turn
-/// (`tests/test_allocations.py`): the call that met the refusal says so, and the next one makes the
-/// key.
+/// Compares a key with that of Python's `hashlib.scrypt`. `tests/test_allocations.py` runs it with
+/// each allocation refused in turn: the call that met the refusal says so, and the next one makes
+/// the key.
 #[test]
 fn a_refusal_is_reported(rt: HostRuntime) {
     let wanted = *b"\xb7\x0d\x59\x44\x09\x81\x12\x9a\xa4\xc8\x1d\xb4\xd6\xd8\x1e\x8e\

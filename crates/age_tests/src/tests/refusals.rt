@@ -1,5 +1,6 @@
-//! What a refusal of memory leaves. `tests/test_allocations.py` runs these tests with each allocation
-//! refused in turn: the call that meets the refusal says so, and the next one answers as ever.
+//! Tests of calls that are refused memory. `tests/test_allocations.py` runs them with each
+//! allocation refused in turn: the call that meets the refusal says so, and the next one returns as
+//! ever.
 
 use Delivery::{End, Piece, Restart};
 use age_keys::{FileKey, KeyFault, Passphrase, Steps, open_header, scrypt_header};
@@ -15,7 +16,7 @@ const REFUSED: HeadFault = HeadFault {
     line: 0,
 };
 
-/// Whether these are the bytes, or memory ran out.
+/// Returns whether a result is these bytes, or memory ran out.
 fn is(answer: &Result<Vec<u8>, HeadFault>, bytes: &[u8]) -> bool {
     match answer {
         Ok(text) => text.as_slice() == bytes,
@@ -23,14 +24,14 @@ fn is(answer: &Result<Vec<u8>, HeadFault>, bytes: &[u8]) -> bool {
     }
 }
 
-/// Whether a header is written as the smallest one, and its MAC covers what it should.
+/// Returns whether a header is written as the smallest one, and its MAC covers the right bytes.
 fn is_smallest(alloc: Global, header: &Header) -> bool {
     is_header(header)
         && is(&encode_head(alloc, header), SMALLEST)
         && is(&mac_text(alloc, header), &SMALLEST[..31])
 }
 
-/// Whether the smallest text gives its header, or memory runs out.
+/// Returns whether the smallest text gives its header, or memory runs out.
 fn is_read_or_refused(alloc: Global) -> bool {
     match HeadParser::new(alloc).feed(SMALLEST) {
         Ok(HeadStep::Ready { taken, header }) => taken == 76 && is_smallest(alloc, &header),
@@ -44,7 +45,7 @@ fn a_header(rt: HostRuntime) {
     assert!(rt; is_read_or_refused(rt.alloc()));
 }
 
-/// Whether a fault comes again at each later call, also that memory ran out.
+/// Returns whether a fault comes again at each later call, also that memory ran out.
 fn is_kept(alloc: Global) -> bool {
     let mut parser = HeadParser::new(alloc);
     let Err(fault) = parser.feed(b"-> x\n") else {
@@ -95,7 +96,7 @@ fn a_drill(rt: HostRuntime) {
     assert!(rt; first.is_ok() || drills_eight(rt.alloc()) == Ok(true));
 }
 
-/// The key that a passphrase opens a header of its own with.
+/// Makes a header for a passphrase, opens it, and returns the file key.
 fn opened(alloc: Global) -> Result<[u8; 16], KeyFault> {
     let pass = b"correct horse";
     let Some(passphrase) = Passphrase::new(pass, 1) else {

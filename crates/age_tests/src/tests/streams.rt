@@ -1,4 +1,4 @@
-//! Readers and writers of the machine's kind that fail in one call, alone and under a decryption.
+//! Tests of std's readers and writers that fail in one call, alone and under a decryption.
 
 use crate::tests::examples::FILE;
 use age_file::{Failed, Reading, Sink, Source, Writing, decrypt};
@@ -7,8 +7,8 @@ use age_vectors::FILE_KEY;
 use std::alloc::Global;
 use std::io::{self, ErrorKind, Read, Write};
 
-/// Hands on to a reader or a writer; the call numbered `fail_call`, from 0, fails, and moves
-/// nothing.
+/// A reader or writer that passes calls on to another. The call numbered `fail_call`, from 0,
+/// fails, and moves nothing.
 #[derive(Drop)]
 struct FailsAt<T> {
     inner: T,
@@ -64,7 +64,7 @@ fn a_reader(rt: HostRuntime) {
     assert!(rt; source.pull(&mut into) == Ok(0) && source.failures() == 1);
 }
 
-/// A writer that takes nothing has failed too.
+/// Tests that a writer that takes nothing counts as failed.
 #[test]
 fn a_writer(rt: HostRuntime) {
     let mut held = [0u8; 3];
@@ -77,7 +77,8 @@ fn a_writer(rt: HostRuntime) {
     assert!(rt; held == *b"abc");
 }
 
-/// The number of the fault with which a decryption stops if this read and this write fail.
+/// Returns the number of the fault with which a decryption stops if this read and this write fail,
+/// or 0 if it doesn't stop.
 fn fault_of(alloc: Global, fail_read: u32, fail_write: u32) -> u8 {
     let mut held = [0u8; 5];
     let mut source = Reading::new(FailsAt::new(FILE.as_slice(), fail_read));
@@ -88,7 +89,8 @@ fn fault_of(alloc: Global, fail_read: u32, fail_write: u32) -> u8 {
     }
 }
 
-/// One read gives the file and one more its end; one write takes the text, and a flush follows.
+/// Tests a decryption in which calls fail. One read gives the file and one more its end; one write
+/// takes the text, and a flush follows.
 #[test]
 fn a_decryption(rt: HostRuntime) {
     for (fail_read, fail_write, number) in [

@@ -1,4 +1,5 @@
-//! Each function of the vectors once, and how faults of the libraries are shown.
+//! Tests that call each function of the vectors once, and a test of how faults of the libraries are
+//! displayed.
 
 use age_stanza::{HeadFault, HeadKind};
 use age_stream::{CHUNK_LIMIT, SealFault, StreamFault, StreamKind};
