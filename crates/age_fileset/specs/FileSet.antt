@@ -1,4 +1,4 @@
--- What contracts see of a set of files, and what a set over memory does.
+-- A set of files as contracts see it, and a set of files in memory.
 use Rattle.std.specs.Prelude.{ℕ, List, ◌≡◌, ◌⊎◌, Bool, false, [], Option, Some, None, ◌≢◌, ◌-◌, ◌^◌, true}
 use Rattle.std.specs.Prelude.{is_some, ◌++◌, ◌∷◌, if◌then◌else◌, find, length, option_map, Result, Ok, Err}
 use Rattle.std.specs.Prelude.{OnOk, OnErr}
@@ -20,13 +20,14 @@ use Rattle.age_fileset.specs.declared.mem_entry.MemEntry.{MemEntry}
 
 -- ---- What came of what was done with a set of files.
 
--- what a file gave that was opened under this name, once its reading is over; and whether the last pull
--- that didn't fail found its end
+-- A file that was read: the name under which it was opened, what it gave, and whether the last read
+-- that didn't fail found its end.
 pub record Reading : Type 0 where
   pub name : List ℕ
   pub given : List ℕ
   pub is_at_end : Bool
 
+-- The name of a source, what it gave, and whether its end was found.
 abbrev pub reading_of : SourceView → Reading
 reading_of source = record {
   name = source.label;
@@ -34,6 +35,7 @@ reading_of source = record {
   is_at_end = source.supply.is_at_end;
 }
 
+-- An outcome of a call on a set of files.
 pub data Outcome : Type 0 where
   -- a file was opened under this name, which may stand for an empty one: it has this to give, if
   -- contracts see that, and is so long, if the set can say
@@ -50,71 +52,73 @@ pub data Outcome : Type 0 where
   -- a put failed not all of the bytes need be there, and what failed may have left some.
   Put : List ℕ → List ℕ → Outcome
 
--- what comes of a name that was looked at, by whether nothing has it
+-- The outcome of looking whether nothing has a name.
 abbrev pub looked_as : List ℕ → Bool → List Outcome
 looked_as name is_absent = (if is_absent then Absent name else Present name) ∷ []
 
--- of one that was to be opened, and whose source this is then
+-- The outcome of opening a file: it was found, unless the call failed.
 abbrev pub opened_as : {In : Type 0} → (In → SourceView) → (In → Option ℕ) → Missing → List ℕ
     → Result In OpenFault → List Outcome
 opened_as read size missing name (Ok source) =
     Found missing name (read source).supply.left (size source) ∷ []
 opened_as read size missing name (Err fault) = []
 
--- of one that was to be created: none had its name, unless an existing one may be overwritten
+-- The outcome of creating a file: none had its name, unless an existing one may be overwritten.
 abbrev pub created_as : ClobberOption → List ℕ → List Outcome
 created_as Allowed name = []
 created_as Refused name = Absent name ∷ []
 
+-- The outcome of a call that creates a file: as `created_as` says, unless the call failed.
 abbrev pub made_as : {A : Type 0} → ClobberOption → List ℕ → Result A OpenFault → List Outcome
 made_as clobber name (Ok out) = created_as clobber name
 made_as clobber name (Err fault) = []
 
--- of one in whose place these bytes were to be put
+-- The outcome of replacing what a name has by these bytes: they were put, unless the call failed.
 abbrev pub put_as : {E : Type 0} → List ℕ → List ℕ → Result (Unit {0}) E → List Outcome
 put_as name bytes (Ok done) = Put name bytes ∷ []
 put_as name bytes (Err fault) = []
 
 -- ---- What contracts see of a set of files, and what is done in a part of a run.
 
--- what contracts see of a set of files
+-- A set of files as contracts see it.
 pub record FilesView : Type 0 where
   -- what was found, read and put, in order
   pub outcomes : List Outcome
   -- the output that was ended last, if one was
   pub ended : Option EndedFile
 
--- it came of what was done, and nothing else changed
+-- The set of files after these outcomes, and with nothing else changed.
 abbrev pub with_outcomes : List Outcome → FilesView → FilesView
 with_outcomes more files = record files { outcomes = files.outcomes ++ more }
 
--- bytes and the name under which they were put
+-- A name, and the bytes that were put under it.
 pub record Entry : Type 0 where
   pub name : List ℕ
   pub bytes : List ℕ
 
+-- The entry of this name and these bytes.
 abbrev pub entry : (name bytes : List ℕ) → Entry
 entry name bytes = record { name = name; bytes = bytes }
 
--- what was put, in order
+-- The entries that were put, in order.
 unfoldable pub puts_in : List Outcome → List Entry
 puts_in [] = []
 puts_in (Put name bytes ∷ more) = entry name bytes ∷ puts_in more
 puts_in (other ∷ more) = puts_in more
 
--- outcomes came since, by which this was put
+-- Between two states of a set of files, exactly these entries were put.
 pub record PutsOnly (puts : List Entry) (old new : FilesView) : Type 0 where
   pub more : List Outcome
   pub is : new.outcomes ≡ old.outcomes ++ more
   pub puts_are : puts_in more ≡ puts
 
--- outcomes came since; nothing was put or ended
+-- Between two states of a set of files, nothing was put or ended.
 pub record Does (old new : FilesView) : Type 0 where
   pub more : List Outcome
   pub is : new ≡ with_outcomes more old
   pub none_put : puts_in more ≡ []
 
--- this came since
+-- Between two states of a set of files, this outcome came.
 pub record CameSince (old new : FilesView) (outcome : Outcome) : Type 0 where
   pub before : List Outcome
   pub later : List Outcome
@@ -122,8 +126,8 @@ pub record CameSince (old new : FilesView) (outcome : Outcome) : Type 0 where
 
 -- ---- What files gave, by what came.
 
--- One of the files of this name gave these bytes, and its reading is over. What it had to give, if
--- contracts see that, was these bytes and what is left.
+-- One of the files of this name gave these bytes, and its reading is over. Its contents, if
+-- contracts see them, are these bytes and what is left.
 pub record HasGiven (Came : Outcome → Type 0) (name bytes : List ℕ) : Type 0 where
   pub reading : Reading
   pub over : Came (Gave reading)
@@ -133,7 +137,7 @@ pub record HasGiven (Came : Outcome → Type 0) (name bytes : List ℕ) : Type 0
   pub size : Option ℕ
   pub found : Came (Found Fails name (prepend_known bytes left) size)
 
--- and found its end: they are all that the file had to give
+-- One of the files of this name gave these bytes to its end: they are all that it had to give.
 pub record HasGivenAll (Came : Outcome → Type 0) (name bytes : List ℕ) : Type 0 where
   pub gave : HasGiven Came name bytes
   pub whole : gave.reading.is_at_end ≡ true
@@ -141,30 +145,31 @@ pub record HasGivenAll (Came : Outcome → Type 0) (name bytes : List ℕ) : Typ
 
 -- ---- Which faults a set of files returns.
 
--- this fault, or memory ran out
+-- The fault is this one, or memory ran out.
 abbrev pub IsMemoryOr : FileFault → FileFault → Type 0
 IsMemoryOr other fault = (fault ≡ other) ⊎ (fault ≡ Memory)
 
--- this fault, or memory ran out; or what it leads to is in use, and can't be shared
+-- The error is this fault, or that memory ran out, or that the file is in use and can't be shared.
 abbrev pub OpenFails : FileFault → OpenFault → Type 0
 OpenFails other SameFile = Unit {0}
 OpenFails other (Fault fault) = IsMemoryOr other fault
 
--- the number of one, which two names of one file don't have, and its place
+-- The number of the fault, which the error that two names are one file doesn't have.
 abbrev pub open_fault_number : OpenFault → Option ℕ
 open_fault_number SameFile = None
 open_fault_number (Fault fault) = Some (fault_number fault)
 
+-- The line or chunk of the fault, if it has one.
 abbrev pub open_fault_place : OpenFault → Option ℕ
 open_fault_place SameFile = None
 open_fault_place (Fault fault) = fault_place fault
 
--- and in memory nothing is shared
+-- The error is this fault, or that memory ran out: no file in memory is shared.
 abbrev pub MemFails : FileFault → OpenFault → Type 0
 MemFails other SameFile = ⊥
 MemFails other (Fault fault) = IsMemoryOr other fault
 
--- what there is to read under a name that has this file, or none
+-- The bytes to read under a name that has this file, or none.
 abbrev pub held_by : Missing → Option (List ℕ) → Option (List ℕ)
 held_by Fails held = held
 held_by Empty None = Some []
@@ -172,24 +177,25 @@ held_by Empty (Some bytes) = Some bytes
 
 -- ---- What is stored under each name, by what came.
 
+-- The contents of files: of each name the bytes of its file, if it has one.
 abbrev pub Files : Type 0
 Files = List ℕ → Option (List ℕ)
 
--- nothing
+-- The contents of no files.
 abbrev pub no_files : Files
 no_files name = None
 
--- once this came
+-- The contents after one more outcome.
 abbrev pub once : Files → Outcome → Files
 once files (Put name bytes) q = if bytes_eq name q then Some bytes else files q
 once files other q = files q
 
--- once these came
+-- The contents after these outcomes.
 unfoldable pub stands : Files → List Outcome → Files
 stands files [] = files
 stands files (outcome ∷ more) = stands (once files outcome) more
 
--- this is true of such files, in a set that shows them
+-- The outcome is true of these contents, in a set that shows them.
 abbrev pub Fits : Files → Outcome → Type 0
 Fits files (Found missing name left size) =
     (is_some left ≡ true) × (left ≡ held_by missing (files name)) × (size ≡ option_map length left)
@@ -199,21 +205,22 @@ Fits files (Settled durability took size) = size ≡ length took
 Fits files (Gave reading) = Unit {0}
 Fits files (Put name bytes) = Unit {0}
 
--- each of these, when it came
+-- Each of these outcomes is true of the contents at its time.
 unfoldable pub AllFit : Files → List Outcome → Type 0
 AllFit files [] = Unit {0}
 AllFit files (outcome ∷ more) = Fits files outcome × AllFit (once files outcome) more
 
 -- ---- What files over memory hold.
 
+-- Whether an entry has this name.
 abbrev pub has_name : List ℕ → MemEntry → Bool
 has_name q e = bytes_eq e.name q
 
--- the bytes of the first entry of a name
+-- The bytes of the first entry of a name.
 abbrev pub entry_of : List MemEntry → List ℕ → Option (List ℕ)
 entry_of es q = option_map (λ e. e.bytes) (find (has_name q) es)
 
--- these bytes were to be put under a name, in place of its old contents
+-- Bytes were to be stored under a name, in place of its old contents.
 pub record PutsEntry {E : Type 0} (name bytes : List ℕ) (result : Result (Unit {0}) E)
     (old new : List MemEntry) : Type 0 where
   -- They are stored there, if it succeeded.
@@ -223,7 +230,7 @@ pub record PutsEntry {E : Type 0} (name bytes : List ℕ) (result : Result (Unit
   -- Nothing changes at all, if it failed.
   pub err : OnErr result (new ≡ old)
 
--- a set of files over memory
+-- A set of files in memory.
 pub record Shelf : Type 0 where
   -- the files
   pub entries : List MemEntry
@@ -236,19 +243,19 @@ pub record Shelf : Type 0 where
   -- the output that was ended last, if one was
   pub ended : Option EndedFile
 
--- what contracts see of it: it is on no disk
+-- A set of files in memory as contracts see any set. None of its files is on a disk.
 abbrev pub seen_in : Shelf → FilesView
 seen_in shelf = record {
   outcomes = shelf.outcomes;
   ended = shelf.ended;
 }
 
--- what is stored under each name is what came of what was done, which is all true
+-- The bytes under each name are those that the outcomes put there, and the outcomes are all true.
 pub record AreTrue (entries : List MemEntry) (outcomes : List Outcome) : Type 0 where
   pub stand : (q : List ℕ) → entry_of entries q ≡ stands no_files outcomes q
   pub fit : AllFit no_files outcomes
 
--- a file over memory that is read, by its name and its source
+-- A file in memory that is read, as a source.
 abbrev pub shown_in : List ℕ × Feeding → SourceView
 shown_in file = record {
   supply = memory_supply file.1.given file.1.left file.1.is_at_end;
@@ -257,11 +264,11 @@ shown_in file = record {
   label = file.0;
 }
 
--- how long it is
+-- The number of bytes that a file in memory still has to give.
 abbrev pub size_in : List ℕ × Feeding → Option ℕ
 size_in file = Some (length file.1.left)
 
--- and one that is written, by its name and its sink
+-- A file in memory that is written, as a sink.
 abbrev pub shown_out : List ℕ × Holding → SinkView
 shown_out file = record {
   taken = record (holds file.1.held) { label = file.0 };
@@ -270,7 +277,7 @@ shown_out file = record {
   flushed = file.1.flushed;
 }
 
--- what contracts see of one that was ended: it is on no disk
+-- A file in memory that was ended. It is on no disk.
 abbrev pub ended_with : List ℕ → Bool → EndedFile
 ended_with took is_closed = record {
   took = took;
@@ -281,7 +288,7 @@ ended_with took is_closed = record {
   failed = 0;
 }
 
--- the source of a file of these bytes: it gives them all, and no pull fails
+-- The source of a file of these bytes. It gives them all, and no read fails.
 abbrev pub full_with : List ℕ → Feeding
 full_with bytes = record {
   given = [];
@@ -294,7 +301,7 @@ full_with bytes = record {
   is_at_end = false;
 }
 
--- the sink of a new file that holds at most this many bytes
+-- The sink of a new file that holds at most `room` bytes.
 abbrev pub empty_with : ℕ → Holding
 empty_with room = record {
   held = [];
