@@ -64,15 +64,16 @@ def text_of_faults():
     return "".join(parts)
 
 
-ROWS_HEAD = """//! What `age_tool help N` prints of a fault. Made from docs/FAULTS.md by checks/documents --write.
+ROWS_HEAD = """//! The texts that `age_tool help N` prints about faults. Made from docs/FAULTS.md by
+//! checks/documents --write.
 
 /// The number of the last fault.
 pub(crate) const LAST_FAULT: u8 = %d;
 
-/// The name of a fault, and what it means, what it leaves and what to do.
+/// The name of a fault, and the text that says what it means, what it leaves and what to do.
 pub(crate) type Row = (&'static str, &'static str);
 
-/// Finds the row of the fault of this number, if there is one.
+/// Returns the row of the fault of this number, if there is one.
 #[rattlefmt::skip]
 pub(crate) fn row_of(number: u8) -> Option<Row> {
     let row = match number {

@@ -1,35 +1,36 @@
--- The system calls that write a file, or put one in another's place.
+-- The system calls that make, write, sync, lock, close or remove a file.
 use Rattle.std.specs.Prelude.{◌≡◌, ◌⊎◌, ◌<◌, ℕ, List, [], ◌∷◌, Result, Ok, Err}
 use Rattle.age_calls.specs.declared.opening.Kind.{Kind}
 
--- a call that succeeded, or that may have done something although it failed, or what a call showed;
--- a file is identified by its number, a name by its path
+-- A system call that was noted: it succeeded, or it failed and may have done something all the
+-- same, or it showed something. A file is identified by its number, a name by its path.
 pub data FileCall : Type 0 where
-  -- an empty file was made at a path
+  -- An empty file was made at a path (open with O_CREAT and O_EXCL).
   Made : List ℕ → ℕ → FileCall
-  -- what is at a path was opened, and is of this kind
+  -- The file at a path was opened, and is of this kind (open).
   Opened : List ℕ → ℕ → Kind → FileCall
-  -- bytes were written to a file, from this offset on
+  -- Bytes were written to a file, at an offset (pwrite).
   Wrote : ℕ → ℕ → List ℕ → FileCall
-  -- a file was truncated to this many bytes
+  -- A file was truncated or extended to this many bytes (ftruncate).
   Cut : ℕ → ℕ → FileCall
-  -- a write to a file, its truncation or a wait for the disk has failed, so the file may hold anything
+  -- A write to a file, its truncation or its sync has failed, so the file may hold anything.
   Broke : ℕ → FileCall
-  -- what a file holds has reached the disk; or the system can't wait for it
+  -- A file was synced (fsync); or its file system can't sync.
   Synced : ℕ → FileCall
   Unwaited : ℕ → FileCall
-  -- a descriptor of a file was closed, and the system reported no failure of what was written
+  -- A descriptor of a file was closed, and the system reported no failed write (close).
   Closed : ℕ → FileCall
-  -- this run alone has a file until the run ends; or the system has no lock, so every run may have it
+  -- A file was locked for this run until its end; or the system has no locks, so every run may have
+  -- it.
   Locked : ℕ → FileCall
   Unlockable : ℕ → FileCall
-  -- a path now leads to nothing
+  -- A name was removed: the path leads to nothing now (unlink).
   Removed : List ℕ → FileCall
-  -- the names in the folder of a path have reached the disk; or the system can't wait for it
+  -- The folder of a path was synced (fsync), and so its names; or its file system can't sync.
   SyncedNames : List ℕ → FileCall
   UnwaitedNames : List ℕ → FileCall
 
--- this call is about what this file holds, or who has it
+-- The call is about what this file holds, or about its lock.
 abbrev pub IsOf : ℕ → FileCall → Type 0
 IsOf n (Wrote m at part) = m ≡ n
 IsOf n (Cut m len) = m ≡ n
@@ -41,7 +42,7 @@ IsOf n (Locked m) = m ≡ n
 IsOf n (Unlockable m) = m ≡ n
 IsOf n call = ⊥
 
--- a file was closed, and no later call is one that may change a file
+-- The file was closed, and no later call is one that may change a file.
 abbrev pub ClosesLast : ℕ → List FileCall → Type 0
 ClosesLast n [] = ⊥
 ClosesLast n (Closed m ∷ calls) = m ≡ n
@@ -50,15 +51,15 @@ ClosesLast n (Cut m len ∷ calls) = ⊥
 ClosesLast n (Broke m ∷ calls) = ⊥
 ClosesLast n (call ∷ calls) = ClosesLast n calls
 
--- this call was made, or none was
+-- Either this call was noted, or none was.
 abbrev pub MayHave : FileCall → List FileCall → List FileCall → Type 0
 MayHave call old new = (new ≡ old) ⊎ (new ≡ call ∷ old)
 
--- the call that waits was noted, or the one that says that the system can't
+-- One of two calls was noted: the first if the system made it, and the second if it has no way to.
 abbrev pub Waited : FileCall → FileCall → List FileCall → List FileCall → Type 0
 Waited waits cant old new = (new ≡ waits ∷ old) ⊎ (new ≡ cant ∷ old)
 
--- a call is counted if it failed, and only then
+-- The number of failures rises if the result is an error, and only then.
 abbrev pub CountsFailure : {X E : Type 0} → Result X E → ℕ → ℕ → Type 0
 CountsFailure (Ok x) old new = new ≡ old
 CountsFailure (Err e) old new = old < new

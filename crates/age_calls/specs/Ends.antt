@@ -1,4 +1,4 @@
--- What was done to an output that was ended.
+-- The record of an output that was ended.
 use Rattle.std.specs.Prelude.{◌≡◌, ◌≢◌, ◌⊎◌, ◌<◌, ℕ, List, [], ◌∷◌, Bool, true, false, Option, IfSome}
 use Rattle.std.specs.Prelude.{MatchOption, Result, OnOk, OnErr}
 use Rattle.age_io.specs.{SinkView}
@@ -9,7 +9,7 @@ use Rattle.age_calls.specs.declared.opening.Kind.TheVariants.{Device}
 use Rattle.age_calls.specs.Outs.{OutFile, TouchesFile, has_changed}
 use Rattle.age_calls.specs.Saves.{IsSafe, IsThereAs, SavesWhole}
 
--- an output that was ended
+-- An output that was ended: what its sink took, its file, and the calls that were made for it.
 pub record EndedFile : Type 0 where
   -- the bytes that its sink had taken
   pub took : List ℕ
@@ -22,36 +22,37 @@ pub record EndedFile : Type 0 where
   pub calls : List FileCall
   pub failed : ℕ
 
--- one call was made, which opened this file, and it isn't a regular file
+-- One call was made, which opened this file, and it isn't a regular file.
 abbrev pub OpensDevice : ℕ → List FileCall → Type 0
 OpensDevice n calls = (path : List ℕ) × (calls ≡ Opened path n Device ∷ [])
 
--- Nothing except its file was touched. An output without one had no regular file opened or made for
--- it. It is a device, or a stream, for which no call is noted.
+-- The calls touched nothing except the output's file. For an output that isn't a regular file, no
+-- regular file was opened or made: it is a device, or a stream, for which no call is noted.
 abbrev pub TouchesItself : EndedFile → Type 0
 TouchesItself e =
     MatchOption e.file ((e.calls ≡ []) ⊎ ((n : ℕ) × OpensDevice n e.calls))
     (λ f. TouchesFile f e.calls)
 
--- its path is its name, unless that is a link
+-- The path of the output is its name, unless the name is a link.
 abbrev pub IsAtName : (name : List ℕ) → EndedFile → Type 0
 IsAtName name e = e.is_link ≡ false → IfSome e.file (λ f. f.path ≡ name)
 
--- it is at its path, with exactly what its sink took
+-- A regular file is at its path, with exactly what its sink took.
 abbrev pub IsThere : EndedFile → Type 0
 IsThere e = IfSome e.file (λ f. IsThereAs f.path f.number e.took e.calls)
 
--- a power cut leaves at its path exactly what its sink took
+-- A power cut leaves at the path of a regular file exactly what its sink took.
 abbrev pub IsOnDisk : EndedFile → Type 0
 IsOnDisk e = IfSome e.file (λ f. IsSafe f.path e.took e.calls)
 
--- No call has changed what it held, if it existed. If no put has failed, a power cut leaves at its
--- path what it might have left before, or the empty file that was made.
+-- No call has changed what a regular file held, if it existed. If no put has failed, a power cut
+-- leaves at its path what it might have left before, or the empty file that was made.
 abbrev pub IsUntouched : (failed : ℕ) → EndedFile → Type 0
 IsUntouched failed e = IfSome e.file (λ f. (f.is_made ≡ false → has_changed e.calls ≡ false)
     × (failed ≡ 0 → SavesWhole f.path [] [] e.calls))
 
--- an output with this file and this sink was closed
+-- An output with this file and this sink was closed. Unless something failed, its file is at its
+-- path, and on the disk if it was to be synced.
 pub record Closes {E : Type 0} (durability : Durability) (file : Option OutFile) (sink : SinkView)
     (result : Result (Unit {0}) E) (e : EndedFile) : Type 0 where
   pub took : e.took ≡ sink.taken.bytes
@@ -63,12 +64,12 @@ pub record Closes {E : Type 0} (durability : Durability) (file : Option OutFile)
   pub kept : sink.taken.bytes ≢ [] → OnOk result (IfSome file (λ f. ClosesLast f.number e.calls))
   -- It is at its path, if neither a put nor the end has failed.
   pub there : sink.failed ≡ 0 → OnOk result (IsThere e)
-  -- It is on the disk, if the disk was waited for, and neither a put nor the end has failed.
+  -- It is on the disk, if it was to be synced, and neither a put nor the end has failed.
   pub safe : durability ≡ Synced → sink.failed ≡ 0 → OnOk result (IsOnDisk e)
   -- If the end of a regular file has failed, so has a call.
   pub caused : OnErr result (IfSome file (λ f. 0 < e.failed))
 
--- an output was discarded, and is untouched if its sink took nothing
+-- An output was discarded. Its file is untouched if its sink took nothing.
 pub record Discards (file : Option OutFile) (sink : SinkView) (e : EndedFile) : Type 0 where
   pub took : e.took ≡ sink.taken.bytes
   pub closed : e.is_closed ≡ false

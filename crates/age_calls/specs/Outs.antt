@@ -1,4 +1,4 @@
--- A file that is written in place, by a machine that makes no other calls.
+-- An output, which is written in place, and the calls that are made for it.
 use Rattle.std.specs.Prelude.{◌≡◌, ◌⊎◌, ◌≤◌, ℕ, List, [], ◌∷◌, ◌++◌, length, Bool, true, false, Contains}
 use Rattle.age_calls.specs.Calls.{FileCall, Made, Opened, Wrote, Cut, Broke, Locked, Unlockable, Removed}
 use Rattle.age_calls.specs.Calls.{SyncedNames, UnwaitedNames, IsOf}
@@ -6,49 +6,51 @@ use Rattle.age_calls.specs.declared.opening.Opening.{Opening}
 use Rattle.age_calls.specs.declared.opening.Opening.TheVariants as way
 use Rattle.age_calls.specs.declared.opening.Kind.TheVariants.{Regular}
 
--- which file it is, and at which path; whether opening made it
+-- A regular file: its path, its number, and whether opening made it.
 pub record OutFile : Type 0 where
   pub path : List ℕ
   pub number : ℕ
   pub is_made : Bool
 
--- What contracts see: the file, the calls that were made, the newest first, how many have failed,
--- and whether one of those was a call after which what the file holds can't be relied on.
+-- An output as contracts see it: its file, the calls that were made, the newest first, how many
+-- have failed, and whether the file may hold anything after one of those.
 pub record OutView : Type 0 where
   pub file : OutFile
   pub calls : List FileCall
   pub failed : ℕ
   pub is_lost : Bool
 
--- the call that opened it, and whether that made it
+-- The call that opened the file, or made it.
 abbrev pub opening_of : List ℕ → ℕ → Opening → FileCall
 opening_of path n way.New = Made path n
 opening_of path n (way.Found named waited) = Opened path n (Regular waited)
 
+-- Whether opening made the file.
 abbrev pub is_making : Opening → Bool
 is_making way.New = true
 is_making (way.Found named waited) = false
 
--- whether the path is known to lead to a file that was opened like this, and its name is waited for
+-- Whether the path is known to lead to a file that was opened like this, so that the sync of the
+-- output includes its folder.
 abbrev pub is_waited : Opening → Bool
 is_waited way.New = true
 is_waited (way.Found named waited) = waited
 
--- what was written, in order
+-- The bytes that were written, in order.
 abbrev pub text_of : List FileCall → List ℕ
 text_of [] = []
 text_of (Wrote n at part ∷ calls) = text_of calls ++ part
 text_of (call ∷ calls) = text_of calls
 
--- whether a call that succeeded was to change what a file holds
+-- Whether a call that succeeded was a write or a truncation.
 abbrev pub has_changed : List FileCall → Bool
 has_changed [] = false
 has_changed (Wrote n at part ∷ calls) = true
 has_changed (Cut n len ∷ calls) = true
 has_changed (call ∷ calls) = has_changed calls
 
--- After these calls, this one is about this path or this file, which only the first call opens or
--- makes. What was written stays, since a write goes after it, and a truncation leaves it.
+-- After the calls before it, this call is about this path or this file, which only the first call
+-- opens or makes. What was written stays, since a write goes after it, and a truncation leaves it.
 abbrev pub IsOn : List ℕ → ℕ → (before : List FileCall) → FileCall → Type 0
 IsOn path n before (Made p m) = (p ≡ path) × (m ≡ n) × (before ≡ [])
 IsOn path n before (Opened p m kind) = (p ≡ path) × (m ≡ n) × (before ≡ [])
@@ -59,25 +61,27 @@ IsOn path n before (SyncedNames p) = p ≡ path
 IsOn path n before (UnwaitedNames p) = p ≡ path
 IsOn path n before call = IsOf n call
 
+-- Each of these calls is about this path or this file, as `IsOn` says.
 abbrev pub AllOn : List ℕ → ℕ → List FileCall → Type 0
 AllOn path n [] = Unit {0}
 AllOn path n (call ∷ calls) = IsOn path n calls call × AllOn path n calls
 
 -- ---- Only one of two runs writes to a file.
 
--- this call may have changed what a file holds
+-- The call may have changed what the file holds.
 abbrev pub MayChange : ℕ → FileCall → Type 0
 MayChange n (Wrote m at part) = m ≡ n
 MayChange n (Cut m len) = m ≡ n
 MayChange n (Broke m) = m ≡ n
 MayChange n call = ⊥
 
--- this run has locked a file, or the system has no lock for it
+-- The run has locked the file, or the system has no lock for it.
 -- (in any order: no call gives a lock back)
 abbrev pub IsClaimed : ℕ → List FileCall → Type 0
 IsClaimed n calls = Contains calls (Locked n) ⊎ Contains calls (Unlockable n)
 
--- each call that may have changed a file came after the run had claimed it
+-- Each call that may have changed the file came after the run had locked it, if the system has a
+-- lock for it.
 abbrev pub LocksFirst : ℕ → List FileCall → Type 0
 LocksFirst n [] = Unit {0}
 LocksFirst n (call ∷ calls) = (MayChange n call → IsClaimed n calls) × LocksFirst n calls

@@ -1,9 +1,9 @@
-//! The system calls that write a file or put one in another's place, and what they leave on a disk,
+//! The system calls that make, write, sync, close or remove a file, and what they leave on a disk,
 //! even if the power is cut between two of them.
 //!
-//! Contracts say by these definitions what was done for an output, for any list of calls. A crate
-//! that only cites them needs no proof of the machine (`age_machine`). What is proved of a list of
-//! calls holds on every disk that does what the definitions say of a call.
+//! By these definitions contracts say what was done for an output, for any list of calls. A crate
+//! that only cites them needs no proof about `age_machine`, which makes the calls. What is proved
+//! of a list of calls holds on every disk that does what the definitions say of a call.
 #![tactic(auto)]
 
 mod laws;

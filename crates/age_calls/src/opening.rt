@@ -1,40 +1,41 @@
-//! How a file was opened, and what was opened.
+//! The result of opening an output, and the kind of its file.
 
 ghost use Rattle.std.specs.Prelude.{◌≡◌};
 ghost use Rattle.age_calls.specs.Outs.{is_making};
 
-/// What was opened.
+/// The kind of an opened file.
 #[derive(Clone, Copy)]
 pub enum Kind {
-    /// A regular file, and whether the path is known to lead to it.
+    /// A regular file. The flag says whether the path is known to lead to it.
     Regular(bool),
     /// A device, a pipe or anything else that isn't a regular file.
     Device,
 }
 
-/// How a file was opened.
+/// The result of opening an output: a new file, or an existing one.
 #[derive(Clone, Copy)]
 pub enum Opening {
-    /// Opening made it.
+    /// Opening made the file.
     New,
-    /// It existed.
+    /// The file existed.
     Found {
-        /// Whether it had a name then.
+        /// True if the file had a name when it was opened.
         is_named: bool,
-        /// Whether the path is known to lead to it, so that the end waits for that name.
+        /// True if the path is known to lead to the file, so that the sync of the output includes
+        /// its folder.
         is_waited: bool,
     },
 }
 
 impl Opening {
-    /// Whether opening made it.
+    /// Returns whether opening made the file.
     pub fn is_made(self) -> bool
         ensures { result ≡ is_making self }
     {
         matches!(self, Opening::New)
     }
 
-    /// Whether the file had a name when it was opened or made.
+    /// Returns whether the file had a name when it was opened or made.
     pub fn is_named(self) -> bool {
         match self {
             Opening::New => true,

@@ -1,4 +1,4 @@
--- How `inspect` prints a report, and what it did of the file that it read.
+-- The report of `inspect`, and the file that it is on.
 use Rattle.std.specs.Prelude.{◌≡◌, ℕ, suc, true, List, ◌++◌, Option, Some, IfSome, codes, None}
 use Rattle.std.specs.List.{flat_map}
 use Rattle.std.specs.Fmt.{decimal}
@@ -16,17 +16,18 @@ use Rattle.clap.specs.Words.{Text}
 
 -- ---- How a report is printed: lines that end with LF, numbers in decimal.
 
--- stanza TYPE ARGS BODY
+-- The line of a stanza: stanza TYPE ARGS BODY.
 abbrev pub stanza_line : StanzaReport → List ℕ
 stanza_line s = codes "stanza " ++ s.kind ++ codes " " ++ decimal s.args ++ codes " "
     ++ decimal s.body ++ codes "\n"
 
--- plain P, or plain none
+-- The line of the plaintext's length: plain P, or plain none.
 abbrev pub plain_line : Option ℕ → List ℕ
 plain_line None = codes "plain none\n"
 plain_line (Some p) = codes "plain " ++ decimal p ++ codes "\n"
 
--- the version, the header's length, its stanzas, the rest and the plaintext's length
+-- The lines of a report: the version, the header's length, its stanzas, the rest and the
+-- plaintext's length.
 abbrev pub report_text : Report → List ℕ
 report_text r = codes "version age-encryption.org/v1\nheader " ++ decimal r.header ++ codes "\n"
     ++ flat_map stanza_line r.stanzas ++ (codes "rest " ++ decimal r.rest ++ codes "\n")
@@ -34,14 +35,14 @@ report_text r = codes "version age-encryption.org/v1\nheader " ++ decimal r.head
 
 -- ---- What `inspect` did.
 
--- the report of an input by its header and how long it is; or of one that was read to its end, if that
--- isn't known or can't be believed: a file of no length may give bytes, as in /proc
+-- The report on an input of this length, by its header alone; or on one that was read to its end,
+-- if its length isn't known or is 0, since a file of length 0 may give bytes, as in /proc.
 abbrev pub ReportsAs : Option ℕ → Supply → Supply → Report → Type 0
 ReportsAs (Some (suc n)) old new r = file.InspectsFront (suc n) old new r
 ReportsAs size old new r = file.Inspects old new r
 
--- The report of what the file of this name gave, or of its header and of how long it is by the set of
--- files; and of all that it had to give, if contracts see that.
+-- The report on what the file of this name gave, or on its header and its length by the set of
+-- files. It is a report on all that the file had to give, if contracts see that.
 pub record ReportsFile (Came : Outcome → Type 0) (name : Text) (r : Report) : Type 0 where
   pub first : SourceView
   pub last : SourceView
@@ -49,7 +50,7 @@ pub record ReportsFile (Came : Outcome → Type 0) (name : Text) (r : Report) : 
   pub whole : IfSome first.supply.left (λ bytes. IsReport bytes r)
   pub reports : ReportsAs reading.size first.supply last.supply r
 
--- such a report was written, and sent on
+-- A report was written, and flushed.
 abbrev pub PrintsReport : (Reports : Report → Type 0) → (old new : SinkView) → Type 0
 PrintsReport Reports old new = (r : Report) × Reports r × Appends old.taken new.taken (report_text r)
     × (new.flushed ≡ true)

@@ -22,13 +22,13 @@ use Rattle.age_cli.specs.Printing.{PrintsReport, ReportsFile}
 use Rattle.age_cli.specs.declared.error.RunError.{RunError}
 use Rattle.age_cli.specs.declared.error.RunError.TheVariants.{Words, Unread, Ended}
 
--- what a run works with: the set of files, the input and the output
+-- The world of a run: the set of files, the input and the output.
 pub record World : Type 0 where
   pub files : FilesView
   pub input : SourceView
   pub output : SinkView
 
--- the status of the program: 0 if all was done, 1 on a fault, 2 for a bad command line
+-- The exit status of the program: 0 if all was done, 1 on a fault, 2 for a bad command line.
 abbrev pub status_by : {A : Type 0} → Result A RunError → ℕ
 status_by (Ok done) = 0
 status_by (Err (Ended ending)) = if is_usage ending then 2 else 1
@@ -36,8 +36,8 @@ status_by (Err other) = 2
 
 -- ---- What status 0 says, over any set of files.
 
--- There were no words, or help was asked for; or what the words ask for was done, with what the files gave
--- that are named, before anything was put.
+-- If the status is 0, there were no words, or they asked for help or the version; or what they
+-- request was done, with what the named files gave before anything was put.
 abbrev pub ZeroLeaves : List Text → (before after : FilesView) → (status : ℕ) → Type 0
 ZeroLeaves words before after status = status ≡ 0 → (words ≡ []) ⊎ (IsForHelp words
     ⊎ ((asked : Request) × Requests words asked × (let First = CameFirst before after in
@@ -45,8 +45,8 @@ ZeroLeaves words before after status = status ≡ 0 → (words ≡ []) ⊎ (IsFo
 
 -- ---- Names that must differ.
 
--- the output has the name of no file that is read, and the earlier output isn't the input; `first` and
--- `second` are the files of the passphrase, and of the shared secret or the random bytes
+-- The output has the name of no file that is read, and the earlier output isn't the input. `first`
+-- and `second` are the files of the passphrase, and of the shared secret or the random bytes.
 pub record IsOutputApart (from to : Text) (first second position old : Option Text) : Type 0 where
   pub input : to ≢ from
   pub pass : first ≢ Some to
@@ -55,7 +55,7 @@ pub record IsOutputApart (from to : Text) (first second position old : Option Te
   pub earlier : old ≢ Some to
   pub old_input : old ≢ Some from
 
--- the file of `--save` has a name of its own, or that of the position
+-- The file of `--save` has a name of its own, or that of the position.
 pub record IsSaveApart (from to : Text) (first second old : Option Text) (save : Text) : Type 0 where
   pub output : save ≢ to
   pub input : save ≢ from
@@ -63,6 +63,7 @@ pub record IsSaveApart (from to : Text) (first second old : Option Text) (save :
   pub shared : second ≢ Some save
   pub earlier : old ≢ Some save
 
+-- The names of a decryption differ, where they must.
 abbrev pub AreApart : Decrypting → (position old : Option Text) → Type 0
 AreApart d position old =
     let from = d.paths.from.now in
@@ -72,6 +73,7 @@ AreApart d position old =
     IsOutputApart from to pass shared position old
     × IfSome (option_text d.save) (IsSaveApart from to pass shared old)
 
+-- The names of a request differ, where they must.
 abbrev pub IsApart : Request → Type 0
 IsApart (Encrypt e) =
     IsOutputApart e.paths.from.now e.paths.to.now (Some e.pass.now) (option_text e.random) None None
@@ -81,17 +83,18 @@ IsApart other = Unit {0}
 
 -- ---- What a run did.
 
--- some text was written, and sent on
+-- Some text was written, and flushed.
 abbrev pub Prints : (old new : SinkView) → Type 0
 Prints old new = (text : List ℕ) × (text ≢ []) × Appends old.taken new.taken text × (new.flushed ≡ true)
 
--- a report was written: of the input, which was read to its end, or of the file of a name
+-- A report was written: on the input, which was read to its end, or on the file of a name.
 abbrev pub Reports : (before after : World) → Option Text → Type 0
 Reports before after None =
     PrintsReport (Inspects before.input.supply after.input.supply) before.output after.output
 Reports before after (Some name) =
     PrintsReport (ReportsFile (CameFirst before.files after.files) name) before.output after.output
 
+-- A report was written, if the request is for one.
 abbrev pub ReportsFor : (before after : World) → Request → Type 0
 ReportsFor before after (Inspect file) = Reports before after (option_text file)
 ReportsFor before after other = Unit {0}
@@ -101,19 +104,20 @@ abbrev pub WritesNone : List Text → (before after : FilesView) → Type 0
 WritesNone words before after = Does before after ⊎ ((asked : Request) × Requests words asked
     × IsSomeAnd (paths_of asked) (λ p. Spares p.to.now before after))
 
--- OUT alone was put if all was done; or it was left so
+-- If all was done, OUT alone was put. If the command isn't done, OUT was left as `Left` says.
 abbrev pub PutsFor : Request → Paths → (before after : FilesView) → Result (Unit {0}) RunError → Type 0
 PutsFor asked p before after (Ok done) = (took : List ℕ) × PutsOnly (entry p.to.now took ∷ []) before after
 PutsFor asked p before after (Err (Ended ending)) = Left asked p before after ending
 PutsFor asked p before after (Err other) = ⊥
 
--- Words are refused only by the parser's rules, or if no request can be read from them.
+-- Words are refused only by the parser's rules, or if they make no request.
 abbrev pub IsCausedBy : List Text → RunError → Type 0
 IsCausedBy words (Words e) = IsAmong (kind_of e) (refusals words)
 IsCausedBy words Unread = (refusals words ≡ []) × ((asked : Request) → Requests words asked → ⊥)
 IsCausedBy words (Ended ending) = Unit {0}
 
--- What a run did, of these words, that ended so. Its status is `status_by ended`.
+-- A run of these words led from one world to another, and ended so. Its exit status is `status_by
+-- ended`.
 pub record Runs (words : List Text) (before after : World) (ended : Result (Unit {0}) RunError) : Type 0 where
   -- what done means of the commands that write
   pub zero : ZeroLeaves words before.files after.files (status_by ended)
@@ -137,11 +141,12 @@ pub record Runs (words : List Text) (before after : World) (ended : Result (Unit
 
 -- ---- What was read of the words.
 
--- the words make this request; none ask for a report of the input
+-- The words make this request. No words mean a report on the input.
 abbrev pub IsMadeBy : (words : List Text) → Request → Type 0
 IsMadeBy words asked = Requests words asked ⊎ ((words ≡ []) × (asked ≡ Inspect None))
 
--- they were read so: they make the request, if one was found, or are refused by the parser's rules
+-- The words were parsed so: they make the request, if one was found, or are refused by the parser's
+-- rules.
 pub record IsReadOf (words : List Text) (read : Result (Option Request) Error) : Type 0 where
   pub made : IfOk read (λ o. IfSome o (IsMadeBy words))
   pub unread : IfOk read (λ o. IfNone o (IsCausedBy words Unread))

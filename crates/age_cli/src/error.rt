@@ -1,4 +1,4 @@
-//! Why a run of the program failed.
+//! The error of a run of the program.
 
 ghost use Rattle.std.specs.Prelude.{◌≡◌};
 ghost use Rattle.age_command.specs.declared.ending.Ending.TheVariants.{Fault};
@@ -9,14 +9,14 @@ use age_fault::FileFault;
 use age_io::Unsent;
 use clap::Error;
 
-/// Why a run failed.
+/// The reason why a run failed.
 #[derive(Drop)]
 pub enum RunError<'w> {
     /// The parser of command lines refuses the words.
     Words(Error),
-    /// The parser takes the words, but no request could be read from them.
+    /// The parser accepts the words, but no request could be made of them.
     Unread,
-    /// What the words ask for isn't done.
+    /// The command isn't done, for the reason in this ending.
     Ended(Ending<'w>),
 }
 

@@ -1,4 +1,4 @@
-//! The command that reports what a file holds.
+//! The command `inspect`, which reports what a header says.
 
 ghost use Rattle.std.specs.Prelude.{◌≡◌, IfOk, OnOk};
 ghost use Rattle.age_fileset.specs.{Does, CameSince};
@@ -13,8 +13,8 @@ use age_inspection::{Report, inspect, inspect_sized};
 use age_io::{Sink, Source, flush_all};
 use std::alloc::Global;
 
-/// Reports what an input of this length holds. If its length isn't known, it is read to its end;
-/// likewise if it is 0, since a file of no length may give bytes, as in /proc.
+/// Inspects an input of this length. Reads it to its end if its length isn't known, or is 0, since
+/// a file of length 0 may give bytes, as in `/proc`.
 fn inspect_as<I: Source>(
     alloc: Global,
     length: Option<u64>,
@@ -30,8 +30,7 @@ fn inspect_as<I: Source>(
     }
 }
 
-/// Writes the report of an input of this length, or, if that isn't known, of one that is read to its
-/// end.
+/// Writes the report on an input of this length. Reads it to its end if its length isn't known.
 pub(crate) fn report<'w, I: Source, O: Sink>(
     alloc: Global,
     length: Option<u64>,
@@ -49,8 +48,8 @@ pub(crate) fn report<'w, I: Source, O: Sink>(
     Ok(flush_all(output)?)
 }
 
-/// Why a file couldn't be opened. This command opens one file only, so one that is in use was opened
-/// before it.
+/// Returns the ending of a command that couldn't open a file. `inspect` opens one file only, so one
+/// that is in use was opened before the command.
 fn unopened<'w>(error: &OpenError<'w>) -> Ending<'w> {
     let fault = match error.fault() {
         OpenFault::Fault(fault) => fault,
@@ -59,7 +58,7 @@ fn unopened<'w>(error: &OpenError<'w>) -> Ending<'w> {
     Ending::Fault(FileError::new(fault, error.context()))
 }
 
-/// Returns how a report ended; a fault that names no file gets this context.
+/// Returns the result of a report, with `context` for a fault that has none.
 fn with_context<'w>(
     reported: Result<(), Ending<'w>>,
     context: ErrorContext<'w>,
@@ -72,8 +71,8 @@ fn with_context<'w>(
     }
 }
 
-/// Writes the report on the file of this name. If its length is known, nothing is read once its
-/// header has come.
+/// Writes the report on the file of this name. If its length is known, reads nothing more once its
+/// header is complete.
 pub(crate) fn report_file<'w, F: FileSet<'w>, O: Sink>(
     alloc: Global,
     files: &mut F,

@@ -1,12 +1,14 @@
-//! The program over arguments, files, a source and sinks.
+//! The program `age_tool` as a function of its arguments, files and streams.
 //!
-//! `run_words` takes the arguments after the program's name, a set of files, the input, the output, a
-//! sink for faults and a meter for progress, and says how it ended; `run` returns the status of
-//! that: 0 on success, 1 on a fault, 2 on a bad command line. Both are generic over all of them, so
-//! that their contract covers every input and every set of files; the program passes in the
-//! machine's. Whoever calls `run`, or implements a set of files, finds all names here. What `inspect`
-//! does is here; `encrypt`, `decrypt` and `resume` are in `age_outputs`,
-//! and `drill` is in `age_drill`.
+//! [`run`] takes the arguments after the program's name, a set of files, the input, the output, a
+//! sink for faults and a meter for progress, and returns the exit status: 0 on success, 1 on a
+//! fault, 2 on a bad command line. [`run_words`] does the same and returns the error in place of
+//! the status. Both are generic over all of these, so that their contract covers every input and
+//! every set of files; the program passes in the files of the system.
+//!
+//! All names that a caller of `run` needs, or an implementation of a set of files, are exported
+//! here. `inspect` is implemented here; `encrypt`, `decrypt` and `resume` are in `age_outputs`, and
+//! `drill` is in `age_drill`.
 #![tactic(auto)]
 
 mod error;

@@ -6,7 +6,7 @@ ghost use Rattle.age_cli.specs.Runs.{AreApart, IsApart, IsOutputApart, IsSaveApa
 
 use age_cli_args::{Decrypting, Paths, Request};
 
-/// Returns whether this is a name that is given.
+/// Returns whether an optional name is given, and is `name`.
 fn is_given(given: Option<&str>, name: &str) -> bool
     ensures { option_text given.entry ≡ Some name.now → result ≡ true }
 {
@@ -16,8 +16,8 @@ fn is_given(given: Option<&str>, name: &str) -> bool
     }
 }
 
-/// Returns a name that the output shares with a file that is read, or the earlier output with the
-/// input.
+/// Returns the name that the output shares with a file that is read, or the earlier output with the
+/// input, if there is one.
 fn find_read_output<'w>(
     paths: &Paths<'w>,
     first: Option<&'w str>,
@@ -43,7 +43,8 @@ fn find_read_output<'w>(
     None
 }
 
-/// Returns the name of the file of `--save`, if another file than that of the position has it.
+/// Returns the name of the file of `--save`, if another file of the command has it. The file of the
+/// position may.
 fn find_used_save<'w>(asked: &Decrypting<'w>, old: Option<&'w str>) -> Option<&'w str>
     ensures { IfNone result (IfSome (option_text asked.now.save)
         (IsSaveApart asked.now.paths.from.now asked.now.paths.to.now
@@ -63,7 +64,7 @@ fn find_used_save<'w>(asked: &Decrypting<'w>, old: Option<&'w str>) -> Option<&'
     None
 }
 
-/// Returns a name that two of the files of a decryption have.
+/// Returns a name that two of the files of a decryption share, if there is one.
 fn find_shared<'w>(
     asked: &Decrypting<'w>,
     position: Option<&'w str>,
@@ -78,7 +79,8 @@ fn find_shared<'w>(
     }
 }
 
-/// Returns a name that two of the files have that a command reads and writes, if it writes one.
+/// Returns a name that two of the files of a command share, if there is one, and if the command
+/// writes a file.
 pub(crate) fn find_shared_name<'w>(request: &Request<'w>) -> Option<&'w str>
     ensures { IfNone result (IsApart request.now) }
 {

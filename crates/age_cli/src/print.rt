@@ -39,7 +39,7 @@ fn plain_text(alloc: Global, plain: Option<u128>) -> Result<String, AllocError>
     }
 }
 
-/// The lines of a report.
+/// Formats a report, one line a field.
 pub(crate) fn text_of(alloc: Global, report: &Report) -> Result<Vec<u8>, FileFault>
     ensures text { IfOk result (λ v. v.items ≡ report_text report.now) }
     ensures memory { IfErr result (λ f. f ≡ Memory) }

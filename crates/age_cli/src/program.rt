@@ -1,4 +1,4 @@
-//! The program, over arguments, files, a source and sinks.
+//! The program `age_tool` as a function of its arguments, files and streams.
 
 ghost use Rattle.std.specs.Prelude.{◌≡◌, IfErr, IsOk, List, OnOk, Result};
 ghost use Rattle.clap.specs.Words.{Text, kind_of};
@@ -23,7 +23,8 @@ use clap::Error;
 use clap::error::ErrorKind;
 use std::alloc::Global;
 
-/// Help and the version go to the output if asked for; other words are refused.
+/// Prints help or the version to the output, if the parser's error is a request for that, as `clap`
+/// has it. Fails with any other error.
 fn answer<'w, O: Sink>(alloc: Global, error: Error, output: &mut O) -> Result<(), RunError<'w>>
     ensures asked { IsOk result → IsForOutput (kind_of error) }
     ensures refused { IfErr result (IsRefusedBy error) }
@@ -46,7 +47,7 @@ fn answer<'w, O: Sink>(alloc: Global, error: Error, output: &mut O) -> Result<()
     }
 }
 
-/// How a command without a position ended.
+/// Converts the result of a command that saves no position.
 fn ended<'w>(done: Result<(), Ending<'w>>) -> Result<(), Unfinished<'w>>
     ensures { result ≡ ended_so done.entry }
 {
@@ -56,7 +57,7 @@ fn ended<'w>(done: Result<(), Ending<'w>>) -> Result<(), Unfinished<'w>>
     }
 }
 
-/// Does what is asked, up to where its position is to be saved.
+/// Runs the requested command. If it stops, its position is still to be saved, by [`conclude`].
 fn obey<'w, F: FileSet<'w>, I: Source, O: Sink, P: Meter>(
     alloc: Global,
     request: &Request<'w>,
@@ -81,7 +82,7 @@ fn obey<'w, F: FileSet<'w>, I: Source, O: Sink, P: Meter>(
     }
 }
 
-/// Reports why a command isn't done.
+/// Reports why a command isn't done, and returns the error of the run.
 fn refuse<'w, E: Sink>(ending: Ending<'w>, faults: &mut E) -> RunError<'w>
     ensures { result ≡ Ended ending.entry }
 {
@@ -89,7 +90,8 @@ fn refuse<'w, E: Sink>(ending: Ending<'w>, faults: &mut E) -> RunError<'w>
     RunError::Ended(ending)
 }
 
-/// Does what is asked, and reports to `faults` why it isn't done, if it isn't.
+/// Runs the requested command. If it isn't done, reports why to `faults`, and saves its position,
+/// if it has one. Refuses a request that gives one name to two files that must differ.
 fn perform<'w, F: FileSet<'w>, I: Source, O: Sink, E: Sink, P: Meter>(
     alloc: Global,
     request: &Request<'w>,
@@ -116,7 +118,7 @@ fn perform<'w, F: FileSet<'w>, I: Source, O: Sink, E: Sink, P: Meter>(
     }
 }
 
-/// Returns the status of the program for how a run ended: 0 if all was done, 1 on a fault, 2 on a bad
+/// Returns the exit status for the result of a run: 0 if all was done, 1 on a fault, 2 on a bad
 /// command line.
 pub fn status(ended: &Result<(), RunError<'_>>) -> u8
     ensures { result ≡ status_by ended.now }
@@ -128,8 +130,8 @@ pub fn status(ended: &Result<(), RunError<'_>>) -> u8
     }
 }
 
-/// Reports why words weren't obeyed, if they weren't. What the parser of command lines refuses is left
-/// to the caller, who may know more to say of it.
+/// Reports a failure that isn't reported yet, and returns the result unchanged. Leaves words that
+/// the parser refuses to the caller, who may know more to tell about them.
 fn reported<'w, E: Sink>(
     answered: Result<(), RunError<'w>>,
     faults: &mut E,
@@ -151,13 +153,13 @@ fn reported<'w, E: Sink>(
     }
 }
 
-/// Sends a line.
+/// Writes a line, and flushes the sink.
 fn send_line<E: Sink>(faults: &mut E, line: &[u8]) -> Result<(), FileFault> {
     put_bytes(faults, line)?;
     Ok(flush_all(faults)?)
 }
 
-/// What the words after the program's name ask for: none ask for a report of the input.
+/// Parses the arguments after the program's name. No arguments mean a report on the input.
 pub fn read_words<'w>(alloc: Global, words: &'w [&'w str]) -> Result<Option<Request<'w>>, Error>
     ensures { IsReadOf (texts words.now) result }
 {
@@ -167,25 +169,25 @@ pub fn read_words<'w>(alloc: Global, words: &'w [&'w str]) -> Result<Option<Requ
     read_request(alloc, words)
 }
 
-/// Does what the words after the program's name ask for, as `read_words` read them; and says how that
-/// ended, and which files it is about. A fault is reported to `faults` in one line (two, if a position
-/// couldn't be saved either). Words that the parser refuses are returned, and reported by the caller.
+/// Runs the program on the arguments after its name, which [`read_words`] has parsed into `read`,
+/// and returns why it failed, if it did. A fault is reported to `faults` in one line (two, if a
+/// position couldn't be saved either). Words that the parser refuses aren't reported: that is left
+/// to the caller.
 ///
-/// Without words, or with `inspect`, it reads the input to its end and writes the report; with
-/// `inspect FILE` it reads that file. `encrypt`, `decrypt` and `resume` read IN and write OUT.
-/// `drill` delivers the payload of IN by a script, and writes a line for each line of it. Help goes
-/// to the output if asked for.
+/// Without words, or with `inspect`, reads the input to its end and writes the report; with
+/// `inspect FILE` reads that file. `encrypt`, `decrypt` and `resume` read IN and write OUT. `drill`
+/// delivers the payload of IN by a script, and writes a line for each line of it. Help goes to the
+/// output if asked for.
 ///
-/// If all of an encryption or a decryption is done, over any set of files, the machine's among them:
-/// OUT was closed with just the age file of what IN gave; or with just the text whose age file IN
-/// gave, or, if it was resumed, the earlier output and IN. If OUT is a regular file and the disk
-/// answers as expected, it is at its path, and without `--no-sync` a power cut leaves nothing else
-/// there. If it isn't done, OUT was left as the contract says, and a position that was saved lies
+/// After an encryption or a decryption that is done, over any set of files, OUT was closed with
+/// exactly these bytes: the age file of what IN gave; or the plaintext whose age file IN gave, or,
+/// if it was resumed, the earlier output and IN. If OUT is a regular file and the disk answers as
+/// expected, it is at its path, and without `--no-sync` a power cut leaves nothing else there. If
+/// the command isn't done, OUT was left as the contract says, and a position that was saved lies
 /// within what OUT holds for certain.
 ///
-/// With `--progress`, `progress` is shown how many bytes IN has, if the set of files can say so,
-/// and how many of them each pull gave, and then that the reading is over, before a fault is
-/// reported.
+/// With `--progress`, `progress` is given the length of IN, if the set of files knows it, the
+/// number of bytes of each read, and the end of the reading, before a fault is reported.
 pub fn run_words<'w, F: FileSet<'w>, I: Source, O: Sink, E: Sink, P: Meter>(
     alloc: Global,
     words: &'w [&'w str],
@@ -210,13 +212,13 @@ pub fn run_words<'w, F: FileSet<'w>, I: Source, O: Sink, E: Sink, P: Meter>(
     }
 }
 
-/// Sends the parser's text of an error.
+/// Writes the parser's text of an error, and flushes the sink.
 fn send_words<E: Sink>(alloc: Global, error: &Error, faults: &mut E) -> Result<(), FileFault> {
     let text = error.to_string(alloc)?;
     send_line(faults, text.as_bytes())
 }
 
-/// Reports words that the parser refused.
+/// Reports words that the parser refused, if it did.
 fn report_words<'w, E: Sink>(alloc: Global, ended: &Result<(), RunError<'w>>, faults: &mut E)
     ensures { OnOk ended.now (E.view faults.new ≡ E.view faults.old) }
 {
@@ -228,9 +230,9 @@ fn report_words<'w, E: Sink>(alloc: Global, ended: &Result<(), RunError<'w>>, fa
     }
 }
 
-/// Runs the program on the arguments after its name, and returns its status: 0 on success; 1 on a
-/// fault; and 2 on a bad command line. Why it failed is reported to `faults`. What it does is said
-/// at [`run_words`].
+/// Runs the program on the arguments after its name, and returns its exit status: 0 on success, 1
+/// on a fault, 2 on a bad command line. Reports a failure to `faults`. [`run_words`] says what each
+/// command does.
 pub fn run<'w, F: FileSet<'w>, I: Source, O: Sink, E: Sink, P: Meter>(
     alloc: Global,
     words: &'w [&'w str],

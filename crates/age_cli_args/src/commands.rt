@@ -14,16 +14,16 @@ use crate::request::MOST_WORK;
 use clap::{Arg, ArgAction, ArgMatches, Command, Error};
 use std::alloc::{AllocError, Global};
 
-/// How an argument of a command is given.
+/// The form of an argument: an option with a value, a flag, or a word.
 #[derive(Clone, Copy)]
 pub enum Given {
-    /// `--ID VALUE`; the help shows this word for the value.
+    /// An option with a value, `--ID VALUE`; the help shows this word for the value.
     Value(&'static str),
-    /// `--ID FILE`, which is required.
+    /// A required option with a file, `--ID FILE`.
     File,
-    /// `--ID N`, for N from 1 to [`MOST_WORK`].
+    /// An option with a number, `--ID N`, for N from 1 to [`MOST_WORK`].
     Number,
-    /// `--ID`.
+    /// A flag, `--ID`.
     Flag,
     /// A required word.
     Operand,
@@ -34,11 +34,11 @@ pub enum Given {
 /// An argument of a command.
 #[derive(Clone, Copy)]
 pub struct Argument {
-    /// Its name.
+    /// The name of the argument.
     pub id: &'static str,
-    /// How it is given.
+    /// The form of the argument.
     pub given: Given,
-    /// What the help says of it.
+    /// The text of the help.
     help: &'static str,
 }
 
@@ -141,23 +141,24 @@ enum Page { Encrypt, Decrypt, Resume, Inspect, Drill }
 /// A command of the program.
 #[derive(Clone, Copy)]
 pub struct Subcommand {
-    /// Its name.
+    /// The name of the command.
     pub name: &'static str,
-    /// Its options, and then its operands.
+    /// The options of the command, and then its operands.
     pub arguments: &'static [Argument],
     page: Page,
 }
 
 impl Subcommand {
-    /// Returns the lines that show how the command is given.
+    /// Returns the usage: the lines that show how the command is given.
     pub fn usage(&self) -> &'static str {
         let (usage, _, _) = texts_of(self.page);
         usage
     }
 }
 
-/// A static, since a constant would put all texts in it into what is proved of `table`. Even those of
-/// a static cost the proof some time, so the long ones are in [`texts_of`].
+/// The commands of the program. A static, since a constant would put all texts in it into what is
+/// proved of `table`. Even those of a static cost the proof some time, so the long ones are in
+/// [`texts_of`].
 #[rattlefmt::skip]
 static COMMANDS: [Subcommand; 5] = [
     Subcommand { name: "encrypt", arguments: ENCRYPT, page: Page::Encrypt },
@@ -167,7 +168,7 @@ static COMMANDS: [Subcommand; 5] = [
     Subcommand { name: "drill", arguments: DRILL, page: Page::Drill },
 ];
 
-/// A command's usage, and the texts before its arguments and after them.
+/// Returns a command's usage, and the texts before its arguments and after them.
 #[rattlefmt::skip]
 fn texts_of(page: Page) -> (&'static str, &'static str, &'static str) {
     match page {
@@ -179,7 +180,7 @@ fn texts_of(page: Page) -> (&'static str, &'static str, &'static str) {
     }
 }
 
-/// `--ID VALUE`.
+/// Returns an option with a value, `--ID VALUE`.
 fn option<'a>(alloc: Global, id: &'a str, value: &'a str, help: &'a str) -> Arg<'a>
     ensures rule { rule_of result ≡ option_rule id.entry.now }
     ensures local { result.global ≡ false }
@@ -187,7 +188,7 @@ fn option<'a>(alloc: Global, id: &'a str, value: &'a str, help: &'a str) -> Arg<
     Arg::new(alloc, id).long(id).value_name(value).help(help)
 }
 
-/// `--ID FILE`, which is required.
+/// Returns a required option with a file, `--ID FILE`.
 fn required<'a>(alloc: Global, id: &'a str, help: &'a str) -> Arg<'a>
     ensures rule { rule_of result ≡ required_rule (option_rule id.entry.now) }
     ensures local { result.global ≡ false }
@@ -195,7 +196,7 @@ fn required<'a>(alloc: Global, id: &'a str, help: &'a str) -> Arg<'a>
     option(alloc, id, "FILE", help).required(true)
 }
 
-/// `--ID N`, for N from 1 to [`MOST_WORK`].
+/// Returns an option with a number, `--ID N`, for N from 1 to [`MOST_WORK`].
 fn number<'a>(alloc: Global, id: &'a str, help: &'a str) -> Arg<'a>
     ensures rule { rule_of result ≡ number_rule id.entry.now }
     ensures local { result.global ≡ false }
@@ -203,7 +204,7 @@ fn number<'a>(alloc: Global, id: &'a str, help: &'a str) -> Arg<'a>
     option(alloc, id, "N", help).value_parser(clap::value_parser!(u32).range(1..=MOST_WORK as i64))
 }
 
-/// `--ID`.
+/// Returns a flag, `--ID`.
 fn flag<'a>(alloc: Global, id: &'a str, help: &'a str) -> Arg<'a>
     ensures rule { rule_of result ≡ flag_rule id.entry.now }
     ensures local { result.global ≡ false }
@@ -214,7 +215,7 @@ fn flag<'a>(alloc: Global, id: &'a str, help: &'a str) -> Arg<'a>
         .help(help)
 }
 
-/// An optional word.
+/// Returns an optional word.
 fn word<'a>(alloc: Global, id: &'a str, help: &'a str) -> Arg<'a>
     ensures rule { rule_of result ≡ new_rule id.entry.now }
     ensures local { result.global ≡ false }
@@ -222,7 +223,7 @@ fn word<'a>(alloc: Global, id: &'a str, help: &'a str) -> Arg<'a>
     Arg::new(alloc, id).help(help)
 }
 
-/// A required word.
+/// Returns a required word.
 fn operand<'a>(alloc: Global, id: &'a str, help: &'a str) -> Arg<'a>
     ensures rule { rule_of result ≡ required_rule (new_rule id.entry.now) }
     ensures local { result.global ≡ false }
@@ -266,7 +267,7 @@ fn with_arguments<'a>(
     Ok(whole)
 }
 
-/// A command with its usage and its arguments.
+/// Returns a command with its usage and its arguments.
 fn command_of<'a>(alloc: Global, sub: &Subcommand) -> Result<Command<'a>, AllocError>
     ensures { IfOk result (HasApp (app_as sub.now)) }
 {
@@ -275,7 +276,7 @@ fn command_of<'a>(alloc: Global, sub: &Subcommand) -> Result<Command<'a>, AllocE
     with_arguments(alloc, plain.override_usage(usage), sub.arguments)
 }
 
-/// A program with one more command.
+/// Returns the program with one more command.
 fn with_command<'a>(
     alloc: Global,
     program: Command<'a>,
@@ -308,7 +309,7 @@ fn with_commands<'a>(
     Ok(whole)
 }
 
-/// The program's help and version, without its arguments.
+/// Returns the program with its help and version, and without arguments.
 fn described<'a>(alloc: Global) -> Command<'a>
     ensures { HasApp described_tool result }
 {
@@ -317,7 +318,7 @@ fn described<'a>(alloc: Global) -> Command<'a>
         .override_usage(help::USAGE)
 }
 
-/// The program without its commands.
+/// Returns the program without its commands.
 fn bare<'a>(alloc: Global) -> Result<Command<'a>, AllocError>
     ensures { IfOk result (HasApp bare_tool) }
 {
@@ -327,8 +328,8 @@ fn bare<'a>(alloc: Global) -> Result<Command<'a>, AllocError>
         .bin_name("age_tool")
 }
 
-/// The commands. Each function that names [`COMMANDS`] costs the proof of all texts in it, so only this
-/// one does.
+/// Returns the commands. Each function that names [`COMMANDS`] costs the proof of all texts in it,
+/// so only this one does.
 fn table() -> &'static [Subcommand]
     ensures { age_tool ≡ with_subcommands bare_tool result.now }
 {
@@ -341,7 +342,7 @@ fn program<'a>(alloc: Global) -> Result<Command<'a>, AllocError>
     with_commands(alloc, bare(alloc)?, table())
 }
 
-/// What the command line gives for each argument.
+/// Parses the arguments after the program's name.
 pub(crate) fn matches_of<'a>(alloc: Global, words: &'a [&'a str]) -> Result<ArgMatches<'a>, Error>
     ensures matches { IfOk result (λ m. subcommand_rows_of m ≡ named (texts words.now)) }
     ensures refusals { FailsBy (refusals (texts words.now)) result }

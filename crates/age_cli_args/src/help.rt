@@ -6,8 +6,8 @@ pub(crate) const VERSION: &str = "2.0.0 (not a release)";
 
 pub(crate) const PROGRAM: &str = "Encrypt, decrypt and inspect age files (age-encryption.org/v1).";
 
-/// The program may be run without arguments, which `clap` wouldn't say of a program that has
-/// commands.
+/// The usage of the program, which may be run without arguments. `clap` wouldn't say so of a
+/// program that has commands.
 pub const USAGE: &str = "age_tool [COMMAND]";
 
 pub(crate) const AFTER_PROGRAM: &str =
@@ -46,7 +46,8 @@ what it has written stays in OUT.";
 
 pub(crate) const DECRYPT: &str = "Decrypt an age file";
 
-/// One of the three is required, which `clap` wouldn't say, since its rules here are simple ones.
+/// The usage of `decrypt`. One of the three options is required, which `clap` wouldn't say, since
+/// its rules here are simple ones.
 pub(crate) const DECRYPT_USAGE: &str = "age_tool decrypt [OPTIONS]
        <--pass <FILE>|--file-key <HEX>|--shared <FILE>> <IN> <OUT>";
 

@@ -1,5 +1,6 @@
-//! The command line of `age_tool`: its commands, their options and help, and what the arguments ask
-//! for. `list_commands` shows them, for the lines about arguments that are refused.
+//! The command line of `age_tool`: its commands, their options and help, and the request that the
+//! arguments make. [`list_commands`] has the commands, for the lines about arguments that are
+//! refused.
 #![tactic(auto)]
 
 mod commands;

@@ -1,4 +1,4 @@
-//! Reads what the arguments ask for.
+//! Converts the arguments to a request.
 
 ghost use Rattle.std.specs.Prelude.{◌≡◌, ◌≤◌, ℕ, None, Some, IfNone, IfOk, IfSome, codes};
 ghost use Rattle.std.specs.Prelude.{if◌then◌else◌};
@@ -27,7 +27,7 @@ use age_options::{ClobberOption, Durability};
 use clap::{ArgMatches, Error};
 use std::alloc::Global;
 
-/// A number, if it is from 1 to 22.
+/// Returns the number if it is a work factor, 1 to 22.
 fn within(n: u32) -> Option<u32>
     ensures some { IfSome result (λ m. (m ≡ n) × (1 ≤ n) × (n ≤ 22)) }
     ensures none { IfNone result (1 ≤ n → n ≤ 22 → ⊥) }
@@ -39,8 +39,8 @@ fn within(n: u32) -> Option<u32>
     }
 }
 
-/// A number from 1 to 22, or the default if it isn't given. The parser's contract says nothing
-/// about a number's range, so it is checked here.
+/// Returns the work factor in an argument, 1 to 22, or the default if it isn't given. The parser's
+/// contract says nothing about a number's range, so it is checked here.
 fn number(matches: &ArgMatches<'_>, id: &str, default: u32) -> Option<u32>
     ensures value { IfSome result
         (IsNumber default (one_of id.now (rows_of (found_of matches.now)))) }
@@ -54,21 +54,21 @@ fn number(matches: &ArgMatches<'_>, id: &str, default: u32) -> Option<u32>
     }
 }
 
-/// The first value of an argument.
+/// Returns the first value of an argument.
 fn text<'a>(matches: &ArgMatches<'a>, id: &str) -> Option<&'a str>
     ensures { option_text result ≡ first_of id.now (rows_of (found_of matches.now)) }
 {
     matches.get_str(id)
 }
 
-/// Whether a flag is given.
+/// Returns whether a flag is given.
 fn flag(matches: &ArgMatches<'_>, id: &str) -> bool
     ensures { result ≡ is_given id.now (rows_of (found_of matches.now)) }
 {
     matches.get_one::<bool>(id).unwrap_or(false)
 }
 
-/// Whether what is written must reach the disk before the program ends.
+/// Returns whether OUT and a saved position are synced: unless `--no-sync` is given.
 fn durability(matches: &ArgMatches<'_>) -> Durability
     ensures { result ≡ (if is_given (codes "no-sync") (rows_of (found_of matches.now)) then Buffered
         else Synced) }
@@ -80,7 +80,7 @@ fn durability(matches: &ArgMatches<'_>) -> Durability
     }
 }
 
-/// What becomes of an existing OUT.
+/// Returns whether an existing OUT is overwritten or refused, as `--no-clobber` asks.
 fn clobber(matches: &ArgMatches<'_>) -> ClobberOption
     ensures { result ≡ (if is_given (codes "no-clobber") (rows_of (found_of matches.now)) then Refused
         else Allowed) }
@@ -92,7 +92,7 @@ fn clobber(matches: &ArgMatches<'_>) -> ClobberOption
     }
 }
 
-/// Whether progress is shown.
+/// Returns whether progress is shown, as `--progress` asks.
 fn progress(matches: &ArgMatches<'_>) -> ProgressOption
     ensures { result ≡ (if is_given (codes "progress") (rows_of (found_of matches.now)) then Shown
         else Silent) }
@@ -104,7 +104,7 @@ fn progress(matches: &ArgMatches<'_>) -> ProgressOption
     }
 }
 
-/// The command that the arguments name, with its own matches.
+/// Returns the name of the command that the arguments give, and its own arguments.
 fn command_of<'m, 'a>(matches: &'m ArgMatches<'a>) -> Option<(&'a str, &'m ArgMatches<'a>)>
     ensures some { IfSome result
         (λ p. subcommand_rows_of matches.now ≡ Some (p.0.now, rows_of (found_of p.1.now))) }
@@ -185,7 +185,7 @@ fn drilling<'a>(matches: &ArgMatches<'a>) -> Option<Drilling<'a>>
     })
 }
 
-/// What a command asks for, by its name and its matches.
+/// Returns the request of a command, by its name and its arguments.
 fn request_of<'a>(name: &str, matches: &ArgMatches<'a>) -> Option<Request<'a>>
     ensures some { IfSome result (IsRequest name.now (rows_of (found_of matches.now))) }
     ensures none { IfNone result ((r : Request)
@@ -201,13 +201,13 @@ fn request_of<'a>(name: &str, matches: &ArgMatches<'a>) -> Option<Request<'a>>
     }
 }
 
-/// Reads what the arguments after the program's name ask for. It fails with the error of the parser
-/// of command lines: for arguments that no command takes, for a request for help or the version,
-/// and if memory runs out.
+/// Parses the arguments after the program's name. Fails with the error of the parser of command
+/// lines: for arguments that no command takes, for a request for help or the version, and if memory
+/// runs out.
 ///
-/// It never returns `None`: each command declares every argument that it reads, and numbers outside
-/// 1 to 22 are refused. But the parser of command lines doesn't promise this, so callers must
-/// handle it.
+/// Never returns `None`: each command declares every argument that it reads, and numbers outside 1
+/// to 22 are refused. But the parser of command lines doesn't promise this, so callers must handle
+/// it.
 pub fn read_request<'a>(alloc: Global, words: &'a [&'a str]) -> Result<Option<Request<'a>>, Error>
     ensures asked { IfOk result (λ o. IfSome o (Requests (texts words.now))) }
     ensures unasked { IfOk result (λ o. IfNone o ((r : Request) → Requests (texts words.now) r → ⊥)) }

@@ -1,31 +1,31 @@
-//! What the arguments ask for.
+//! The requests of a user: a command with its arguments.
 
 use age_options::{ClobberOption, Durability};
 
-/// The greatest work factor that can be asked for.
+/// The greatest work factor that an option may give.
 pub(crate) const MOST_WORK: u32 = 22;
 
-/// Whether progress is shown while IN is read.
+/// The choice whether progress is shown while IN is read.
 #[derive(Clone, Copy, PartialEq, Eq)]
 pub enum ProgressOption {
-    /// It is shown how much of IN was read.
+    /// The number of bytes read of IN is shown.
     Shown,
-    /// Nothing is shown.
+    /// No progress is shown.
     Silent,
 }
 
 /// The files of a command that writes one, and how it writes.
 #[derive(Clone, Copy)]
 pub struct Paths<'a> {
-    /// The path of what is read (IN).
+    /// The path of the input (IN).
     pub from: &'a str,
-    /// The path of what is written (OUT).
+    /// The path of the output (OUT).
     pub to: &'a str,
-    /// What becomes of an existing OUT: it is refused, if `--no-clobber` is given.
+    /// The treatment of an existing OUT: refused, if `--no-clobber` is given.
     pub clobber: ClobberOption,
-    /// When OUT and the saved position reach the disk: later, if `--no-sync` is given.
+    /// The time at which OUT and the saved position reach the disk: later, if `--no-sync` is given.
     pub durability: Durability,
-    /// Whether progress is shown: if `--progress` is given.
+    /// The choice whether progress is shown: if `--progress` is given.
     pub progress: ProgressOption,
 }
 
@@ -39,12 +39,12 @@ pub struct Encrypting<'a> {
     pub log: u32,
     /// The path of the file of random bytes, if `--random` is given.
     pub random: Option<&'a str>,
-    /// The plaintext and the age file.
+    /// The plaintext (IN) and the age file (OUT).
     pub paths: Paths<'a>,
 }
 
-/// The options that say what opens a file. It isn't checked yet that exactly one of the first three
-/// is given.
+/// The identity options, one of which gives the key or the file that opens the input. Exactly one
+/// of the first three must be given, which isn't checked yet.
 #[derive(Clone, Copy)]
 pub struct IdentityOptions<'a> {
     /// The path of the passphrase file, if `--pass` is given.
@@ -60,18 +60,18 @@ pub struct IdentityOptions<'a> {
 /// The arguments of `decrypt`.
 #[derive(Clone, Copy)]
 pub struct Decrypting<'a> {
-    /// What opens the file.
+    /// The identity options.
     pub identity: IdentityOptions<'a>,
-    /// The path that a stop's position is saved to, if `--save` is given.
+    /// The path to which the position of a stopped run is saved, if `--save` is given.
     pub save: Option<&'a str>,
-    /// The age file and the plaintext.
+    /// The age file (IN) and the plaintext (OUT).
     pub paths: Paths<'a>,
 }
 
 /// The arguments of `resume`: a decryption that continues at a position, after an earlier output.
 #[derive(Clone, Copy)]
 pub struct Resuming<'a> {
-    /// The decryption.
+    /// The arguments of the decryption that continues.
     pub decrypting: Decrypting<'a>,
     /// The path of the saved position (`--position`).
     pub position: &'a str,
@@ -79,10 +79,10 @@ pub struct Resuming<'a> {
     pub old: &'a str,
 }
 
-/// The arguments of `drill`. It isn't checked yet that exactly one of the first two is given.
+/// The arguments of `drill`. Exactly one of the first two must be given, which isn't checked yet.
 #[derive(Clone, Copy)]
 pub struct Drilling<'a> {
-    /// Whether the payload is in the clear (`--clear`).
+    /// True if the payload is in the clear (`--clear`).
     pub clear: bool,
     /// The path of the passphrase file, if `--pass` is given.
     pub pass: Option<&'a str>,
@@ -95,14 +95,14 @@ pub struct Drilling<'a> {
 /// A command with its arguments.
 #[derive(Clone, Copy)]
 pub enum Request<'a> {
-    /// To encrypt a file.
+    /// A request to encrypt a file.
     Encrypt(Encrypting<'a>),
-    /// To decrypt a file.
+    /// A request to decrypt a file.
     Decrypt(Decrypting<'a>),
-    /// To continue a decryption.
+    /// A request to continue a decryption that stopped.
     Resume(Resuming<'a>),
-    /// To inspect the file at this path, or standard input.
+    /// A request to inspect the file at this path, or standard input.
     Inspect(Option<&'a str>),
-    /// To deliver a payload by a script.
+    /// A request to deliver a payload by a script.
     Drill(Drilling<'a>),
 }

@@ -1,4 +1,4 @@
--- What contracts see of a set of files over memory, and what each call does.
+-- A set of files in memory as contracts see it, and what each call does.
 use Rattle.std.specs.Prelude.{ℕ, List, ◌≡◌, Bool, false, [], Option, Some, None, ◌≢◌, ◌-◌, ◌^◌, true}
 use Rattle.std.specs.Prelude.{is_some, ◌∷◌, if◌then◌else◌, find, length, option_map, Result, OnOk, OnErr}
 use Rattle.std.specs.Str.{bytes_eq}
@@ -13,12 +13,12 @@ use Rattle.age_fileset.specs.declared.files.Missing.{Missing}
 use Rattle.age_fileset.specs.declared.files.Missing.TheVariants.{Fails, Empty}
 use Rattle.age_cli_memory.specs.declared.entry.MemEntry.{MemEntry}
 
--- why a name in memory can't be opened: nothing is shared there
+-- The error is this fault, or that memory ran out: no file in memory is shared.
 abbrev pub MemFails : FileFault → OpenFault → Type 0
 MemFails other SameFile = ⊥
 MemFails other (Fault fault) = IsMemoryOr other fault
 
--- what there is to read under a name that has this file, or none
+-- The bytes to read under a name that has this file, or none.
 abbrev pub held_by : Missing → Option (List ℕ) → Option (List ℕ)
 held_by Fails held = held
 held_by Empty None = Some []
@@ -26,24 +26,25 @@ held_by Empty (Some bytes) = Some bytes
 
 -- ---- What is stored under each name, by what came.
 
+-- The contents of files: of each name the bytes of its file, if it has one.
 abbrev pub Files : Type 0
 Files = List ℕ → Option (List ℕ)
 
--- nothing
+-- The contents of no files.
 abbrev pub no_files : Files
 no_files name = None
 
--- once this came
+-- The contents after one more outcome.
 abbrev pub once : Files → Outcome → Files
 once files (Put name bytes) q = if bytes_eq name q then Some bytes else files q
 once files other q = files q
 
--- once these came
+-- The contents after these outcomes.
 unfoldable pub stands : Files → List Outcome → Files
 stands files [] = files
 stands files (outcome ∷ more) = stands (once files outcome) more
 
--- this is true of such files, in a set that shows them
+-- The outcome is true of these contents, in a set that shows them.
 abbrev pub Fits : Files → Outcome → Type 0
 Fits files (Found missing name left size) =
     (is_some left ≡ true) × (left ≡ held_by missing (files name)) × (size ≡ option_map length left)
@@ -53,21 +54,22 @@ Fits files (Settled durability took size) = size ≡ length took
 Fits files (Gave reading) = Unit {0}
 Fits files (Put name bytes) = Unit {0}
 
--- each of these, when it came
+-- Each of these outcomes is true of the contents at its time.
 unfoldable pub AllFit : Files → List Outcome → Type 0
 AllFit files [] = Unit {0}
 AllFit files (outcome ∷ more) = Fits files outcome × AllFit (once files outcome) more
 
--- ---- What files over memory hold.
+-- ---- What files in memory hold.
 
+-- Whether an entry has this name.
 abbrev pub has_name : List ℕ → MemEntry → Bool
 has_name q e = bytes_eq e.name q
 
--- the bytes of the first entry of a name
+-- The bytes of the first entry of a name.
 abbrev pub entry_of : List MemEntry → List ℕ → Option (List ℕ)
 entry_of es q = option_map (λ e. e.bytes) (find (has_name q) es)
 
--- these bytes were to be put under a name, in place of its old contents
+-- Bytes were to be stored under a name, in place of its old contents.
 pub record PutsEntry {E : Type 0} (name bytes : List ℕ) (result : Result (Unit {0}) E)
     (old new : List MemEntry) : Type 0 where
   -- They are stored there, if it succeeded.
@@ -77,7 +79,7 @@ pub record PutsEntry {E : Type 0} (name bytes : List ℕ) (result : Result (Unit
   -- Nothing changes at all, if it failed.
   pub err : OnErr result (new ≡ old)
 
--- a set of files over memory
+-- A set of files in memory.
 pub record Shelf : Type 0 where
   -- the files
   pub entries : List MemEntry
@@ -90,19 +92,19 @@ pub record Shelf : Type 0 where
   -- the output that was ended last, if one was
   pub ended : Option EndedFile
 
--- what contracts see of it: it is on no disk
+-- A set of files in memory as contracts see any set. None of its files is on a disk.
 abbrev pub seen_in : Shelf → FilesView
 seen_in shelf = record {
   outcomes = shelf.outcomes;
   ended = shelf.ended;
 }
 
--- what is stored under each name is what came of what was done, which is all true
+-- The bytes under each name are those that the outcomes put there, and the outcomes are all true.
 pub record AreTrue (entries : List MemEntry) (outcomes : List Outcome) : Type 0 where
   pub stand : (q : List ℕ) → entry_of entries q ≡ stands no_files outcomes q
   pub fit : AllFit no_files outcomes
 
--- a file over memory that is read, by its name and its source
+-- A file in memory that is read, as a source.
 abbrev pub shown_in : List ℕ × Feeding → SourceView
 shown_in file = record {
   supply = memory_supply file.1.given file.1.left file.1.is_at_end;
@@ -111,11 +113,11 @@ shown_in file = record {
   label = file.0;
 }
 
--- how long it is
+-- The number of bytes that a file in memory still has to give.
 abbrev pub size_in : List ℕ × Feeding → Option ℕ
 size_in file = Some (length file.1.left)
 
--- and one that is written, by its name and its sink
+-- A file in memory that is written, as a sink.
 abbrev pub shown_out : List ℕ × Holding → SinkView
 shown_out file = record {
   taken = record (holds file.1.held) { label = file.0 };
@@ -124,7 +126,7 @@ shown_out file = record {
   flushed = file.1.flushed;
 }
 
--- what contracts see of one that was ended: it is on no disk
+-- A file in memory that was ended. It is on no disk.
 abbrev pub ended_with : List ℕ → Bool → EndedFile
 ended_with took is_closed = record {
   took = took;
@@ -135,7 +137,7 @@ ended_with took is_closed = record {
   failed = 0;
 }
 
--- the source of a file of these bytes: it gives them all, and no pull fails
+-- The source of a file of these bytes. It gives them all, and no read fails.
 abbrev pub full_with : List ℕ → Feeding
 full_with bytes = record {
   given = [];
@@ -148,7 +150,7 @@ full_with bytes = record {
   is_at_end = false;
 }
 
--- the sink of a new file that holds at most this many bytes
+-- The sink of a new file that holds at most `room` bytes.
 abbrev pub empty_with : ℕ → Holding
 empty_with room = record {
   held = [];

@@ -13,19 +13,20 @@ use Rattle.age_cli.specs.Printing.{PrintsReport}
 use Rattle.age_cli.specs.Runs.{Runs, World, status_by}
 use Rattle.age_cli.specs.declared.error.RunError.{RunError}
 
--- the file of this name holds just these bytes, or begins with them
+-- The file of this name holds just these bytes.
 abbrev pub FileHolds : Files → Text → List ℕ → Type 0
 FileHolds files name bytes = files name ≡ Some bytes
 
+-- The file of this name begins with these bytes.
 abbrev pub FileBegins : Files → Text → List ℕ → Type 0
 FileBegins files name bytes = (more : List ℕ) × (files name ≡ Some (bytes ++ more))
 
--- OUT, if what is asked has one
+-- The name of OUT, if a request has one.
 abbrev pub out_of : Request → Option Text
 out_of asked = option_map (λ p. p.to.now) (paths_of asked)
 
--- only OUT and the file of `--save` differ, if what is asked has them; none, if the command line is
--- refused; and OUT alone, if all was done
+-- A run changes only OUT and the file of `--save`, if the request has them; no file, if the command
+-- line is refused; and OUT alone, if all was done.
 abbrev pub SparesOthers : List Text → (old new : Files) → ℕ → Type 0
 SparesOthers words old new status = ((asked : Request) → Requests words asked
     → (q : Text) → (out_of asked ≡ Some q → ⊥) → (save_of asked ≡ Some q → ⊥) → new q ≡ old q)
@@ -33,13 +34,14 @@ SparesOthers words old new status = ((asked : Request) → Requests words asked
     × ((asked : Request) → Requests words asked → status ≡ 0
     → (q : Text) → (out_of asked ≡ Some q → ⊥) → new q ≡ old q)
 
--- a file that is inspected holds what was reported
+-- The file that was inspected held what was reported.
 abbrev pub ReportsEntry : List Text → (old : Files) → (before after : World) → ℕ → Type 0
 ReportsEntry words old before after status = (file : Bor Text) → Requests words (Inspect (Some file))
     → status ≡ 0 → (bytes : List ℕ) × FileHolds old file.now bytes
     × PrintsReport (IsReport bytes) before.output after.output
 
--- A run over files in memory does so; and after 0 OUT holds what was asked for, of what the files held.
+-- A run over files in memory changes no other files; and after status 0, OUT holds what was
+-- requested, of what the files held.
 abbrev pub RunsOverMemory : (old new : Shelf) → Type 0
 RunsOverMemory old new = (words : List Text) (before after : World) (ended : Result (Unit {0}) RunError)
     → before.files ≡ seen_in old → after.files ≡ seen_in new → Runs words before after ended

@@ -1,4 +1,4 @@
-//! Files over memory, as a list.
+//! A list of files in memory.
 
 ghost use Rattle.std.specs.Prelude.{◌≡◌, IsOk, ℕ, List, IfOk, is_some, true, position, option_map};
 ghost use Rattle.age_cli_memory.specs.{has_name, entry_of, PutsEntry};
@@ -7,7 +7,7 @@ use age_io::Bytes;
 use std::alloc::{AllocError, Global};
 use std::marker::Model;
 
-/// A file's name. A contract sees its bytes.
+/// The name of a file in memory. Contracts see its bytes.
 #[derive(Drop)]
 pub(crate) struct Name {
     text: String,
@@ -37,21 +37,21 @@ impl Name {
     }
 }
 
-/// A file over memory.
+/// A file in memory: a name and its bytes.
 #[derive(Drop)]
 pub(crate) struct MemEntry {
     pub(crate) name: Name,
     pub(crate) bytes: Bytes,
 }
 
-/// The place of the first file of a name.
+/// Returns the index of the first file of a name.
 fn place(entries: &[MemEntry], name: &str) -> Option<usize>
     ensures { result ≡ position (has_name name.now) entries.now }
 {
     entries.iter().position(|e| e.name.as_str() == name)
 }
 
-/// The bytes of the first file of a name.
+/// Returns the bytes of the first file of a name.
 pub(crate) fn bytes_of<'a>(entries: &'a [MemEntry], name: &str) -> Option<&'a [u8]>
     ensures { option_map (λ s. s.now) result ≡ entry_of entries.now name.now }
 {
@@ -59,7 +59,7 @@ pub(crate) fn bytes_of<'a>(entries: &'a [MemEntry], name: &str) -> Option<&'a [u
     Some(found.bytes.as_slice())
 }
 
-/// Puts bytes under a name. An existing name needs no allocation.
+/// Stores bytes under a name. Allocates nothing if the name exists.
 pub(crate) fn put_entry(
     entries: &mut Vec<MemEntry>,
     name: Name,

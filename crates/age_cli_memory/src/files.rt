@@ -1,4 +1,4 @@
-//! Files over memory.
+//! A set of files in memory.
 
 ghost use Rattle.std.specs.Prelude.{◌≡◌, ◌↔◌, ◌⊎◌, ◌++◌, ◌∷◌, ◌<◌, ◌≤◌, IsTrue, [], true, Some, None, OnOk};
 ghost use Rattle.std.specs.Prelude.{OnErr, IfOk, IsErrOf, IsOk, IfErr, IsOkUnless, Contains, is_some};
@@ -25,8 +25,8 @@ use age_options::{ClobberOption, Durability, ErrorContext};
 use std::alloc::{AllocError, Global};
 use std::marker::Model;
 
-/// Files over memory, whose names and bytes contracts see: the list of them, the names that can't
-/// be written, and how many bytes a file that is written can hold.
+/// A set of files in memory, with the names that can't be written, and the number of bytes that a
+/// written file can hold. Contracts see all of that.
 #[derive(Drop)]
 pub struct MemFiles {
     entries: Vec<MemEntry>,
@@ -36,7 +36,7 @@ pub struct MemFiles {
     ended: Option<MemEnded>,
 }
 
-/// A file over memory that was ended, for contracts alone.
+/// A record of an ended file in memory, for contracts.
 #[derive(Drop)]
 struct MemEnded {
     took: Tape,
@@ -75,7 +75,7 @@ impl Model for MemFiles {
     ghost invariant = { λ f. AreTrue f.entries.items f.log };
 }
 
-/// A file over memory that is read. A contract sees its name and its source.
+/// A file in memory that is read. Contracts see its name and its source.
 #[derive(Drop)]
 pub struct MemIn {
     name: Name,
@@ -110,7 +110,7 @@ impl Source for MemIn {
     }
 }
 
-/// A file over memory that is written. A contract sees its name and its sink.
+/// A file in memory that is written. Contracts see its name and its sink.
 #[derive(Drop)]
 pub struct MemOut {
     name: Name,
@@ -153,7 +153,7 @@ impl Sink for MemOut {
 }
 
 impl MemFiles {
-    /// No files. A file that is written can hold `room` bytes.
+    /// Creates a set without files. A file that is written can hold `room` bytes.
     pub fn new(alloc: Global, room: usize) -> MemFiles
         ensures { result ≡ record {
           entries = [];
@@ -185,7 +185,7 @@ impl MemFiles {
             .map_err(|_| Memory)
     }
 
-    /// Puts bytes under a name, and notes that.
+    /// Stores bytes under a name, and notes that.
     fn put_noted(&mut self, name: Name, bytes: Bytes) -> Result<(), AllocError>
         ensures puts { PutsEntry name bytes result self.old.entries self.new.entries }
         ensures there { is_some (entry_of self.old.entries name) ≡ true → IsOk result }
@@ -202,21 +202,21 @@ impl MemFiles {
         Ok(())
     }
 
-    /// The bytes of a file, if it exists.
+    /// Returns the bytes of a file, if it exists.
     pub fn get(&self, name: &str) -> Option<&[u8]>
         ensures { option_map (λ s. s.now) result ≡ entry_of self.now.entries name.now }
     {
         bytes_of(self.entries.as_slice(), name)
     }
 
-    /// A law: what is stored under each name is what came of what was done.
+    /// States that the bytes stored under each name are those that came of what was done.
     pub fn is_kept(&self)
         ensures { AreTrue self.now.entries self.now.outcomes }
     {
         let _room = self.room;
     }
 
-    /// Notes that a reading is over.
+    /// Notes that the reading of a file is over.
     fn log_reading(&mut self, source: &MemIn)
         ensures { self.new ≡ record self.old {
           outcomes = self.old.outcomes ++ Gave (reading_of (shown_in source.now)) ∷ [];
@@ -229,8 +229,8 @@ impl MemFiles {
             .note(Doing::Gave(&name, &given, source.source.is_at_end()));
     }
 
-    /// Refuses each later attempt to create or replace a file of this name. If memory runs out,
-    /// nothing changes.
+    /// Makes each later attempt to create or replace a file of this name fail with `Write` (27). If
+    /// memory runs out, nothing changes.
     pub fn refuse(&mut self, alloc: Global, name: &str) -> Result<(), Memory>
         ensures ok { OnOk result
             (self.new ≡ record self.old { refused = self.old.refused ++ name.now ∷ [] }) }
@@ -247,7 +247,7 @@ impl MemFiles {
 }
 
 impl MemEnded {
-    /// What became of this sink.
+    /// Creates the record of a sink that was closed or discarded.
     fn of(sink: &MemSink, is_closed: bool) -> MemEnded
         ensures { result ≡ ended_with sink.now.held is_closed }
     {
@@ -257,7 +257,7 @@ impl MemEnded {
     }
 }
 
-/// Notes that a file was found, which has this to give.
+/// Notes that a file was found, with what it has to give.
 fn note_found(log: &mut Log, missing: Missing, name: &str, left: Option<&Tape>, size: Option<u64>)
     ensures { log.new ≡ log.old ++ Found missing name.now (option_map (λ t. t.now) left.entry) size ∷ [] }
 {
@@ -270,7 +270,7 @@ fn is_refused(refused: &[Name], name: &str) -> bool
     refused.iter().any(|r| r.as_str() == name)
 }
 
-/// What there is to read under a name.
+/// Returns the bytes to be read under a name.
 fn bytes_held<'a>(entries: &'a [MemEntry], name: &str, missing: Missing) -> Option<&'a [u8]>
     ensures { option_map (λ s. s.now) result ≡ held_by missing (entry_of entries.now name.now) }
 {
@@ -283,7 +283,7 @@ fn bytes_held<'a>(entries: &'a [MemEntry], name: &str, missing: Missing) -> Opti
     }
 }
 
-/// Whether a file has the name, and may not be replaced.
+/// Returns whether a file has the name and may not be replaced.
 fn is_kept(entries: &[MemEntry], name: &str, clobber: ClobberOption) -> bool
     ensures { IsTrue result
         ↔ ((clobber ≡ Refused) × (is_some (entry_of entries.now name.now) ≡ true)) }
@@ -294,7 +294,7 @@ fn is_kept(entries: &[MemEntry], name: &str, clobber: ClobberOption) -> bool
     }
 }
 
-/// A copy of a file's bytes, to be read.
+/// Returns a source of a copy of these bytes.
 fn source_of(alloc: Global, bytes: &[u8]) -> Result<MemSource, FileFault>
     ensures made { IfOk result (λ s. s ≡ full_with bytes.now) }
     ensures memory { OnErr result (result ≡ Err FileFault.Memory) }
@@ -302,7 +302,7 @@ fn source_of(alloc: Global, bytes: &[u8]) -> Result<MemSource, FileFault>
     Ok(MemSource::new(bytes.to_vec(alloc)?, usize::MAX, None))
 }
 
-/// The same, under this name.
+/// Returns a file to be read, with this name and a copy of these bytes.
 fn new_in(alloc: Global, name: &str, bytes: &[u8]) -> Result<MemIn, FileFault>
     ensures made { IfOk result (λ s. s ≡ (name.now, full_with bytes.now)) }
     ensures memory { OnErr result (result ≡ Err FileFault.Memory) }
@@ -312,7 +312,7 @@ fn new_in(alloc: Global, name: &str, bytes: &[u8]) -> Result<MemIn, FileFault>
     Ok(MemIn { name, source })
 }
 
-/// An empty sink for a file of this name.
+/// Returns an empty file to be written, of this name.
 fn new_out(alloc: Global, name: &str, room: usize) -> Result<MemOut, FileFault>
     ensures made { IfOk result (λ o. o ≡ (name.now, empty_with room)) }
     ensures memory { OnErr result (result ≡ Err FileFault.Memory) }
@@ -322,7 +322,8 @@ fn new_out(alloc: Global, name: &str, room: usize) -> Result<MemOut, FileFault>
     Ok(MemOut { name, sink })
 }
 
-/// The same, unless the name is one that can't be written, or of a file that is kept.
+/// Returns an empty file to be written, of this name. Fails with `Write` (27) if the name is one of
+/// `refused`, or if it has a file that may not be replaced.
 fn open_out<'w>(
     alloc: Global,
     refused: &[Name],
@@ -352,7 +353,7 @@ impl<'w> FileSet<'w> for MemFiles {
 
     ghost file = { λ _. None };
 
-    /// Equal names alone stand for one file.
+    /// Returns whether two names are equal: only then they stand for one file.
     fn is_same(&mut self, one: &'w str, other: &'w str) -> bool
         ensures same { self.new ≡ self.old }
         ensures equal { result ≡ true ↔ (one.now ≡ other.now) }
@@ -360,7 +361,7 @@ impl<'w> FileSet<'w> for MemFiles {
         one == other
     }
 
-    /// None is a stream.
+    /// Succeeds, since no file in memory is a stream.
     fn check_streams(
         &mut self,
         _alloc: Global,
@@ -372,8 +373,8 @@ impl<'w> FileSet<'w> for MemFiles {
         Ok(())
     }
 
-    /// Opens a copy of a file's bytes. If no file has the name, refuses with `Read` (26), or opens a
-    /// copy of no bytes, as `missing` says.
+    /// Opens a copy of a file's bytes. If no file has the name, fails with `Read` (26), or opens an
+    /// empty copy, as `missing` says.
     fn open(
         &mut self,
         alloc: Global,
@@ -401,7 +402,7 @@ impl<'w> FileSet<'w> for MemFiles {
         Ok(source)
     }
 
-    /// Exactly as many bytes as are still to come.
+    /// Returns exactly how many bytes are still to come.
     fn length(&self, source: &MemIn) -> Option<u64>
         ensures { result ≡ Some (length source.now.1.left) }
     {
@@ -417,7 +418,7 @@ impl<'w> FileSet<'w> for MemFiles {
         ErrorContext::Nothing
     }
 
-    /// Tries nothing: a name that can't be written is refused when it is replaced.
+    /// Succeeds, and does nothing. A name that can't be written is refused when it is replaced.
     fn prepare(
         &mut self,
         _alloc: Global,
@@ -433,9 +434,9 @@ impl<'w> FileSet<'w> for MemFiles {
         Ok(())
     }
 
-    /// Gives a sink with the room that was given for it; the entry is made when it is closed.
-    /// Refuses with `Write` (27) exactly if the name is one that can't be written, or of an existing
-    /// file that is refused.
+    /// Creates a file of at most `room` bytes, which is stored when it is closed. Fails with
+    /// `Write` (27) exactly if the name is one that can't be written, or has a file and `clobber`
+    /// refuses existing files.
     fn create(
         &mut self,
         alloc: Global,
@@ -460,7 +461,7 @@ impl<'w> FileSet<'w> for MemFiles {
         out
     }
 
-    /// Refuses with `Write` (27) exactly if a file has the name.
+    /// Fails with `Write` (27) exactly if a file has the name.
     fn check_absent(&mut self, name: &'w str) -> Result<(), OpenError<'w>>
         ensures refused { IsErrOf result (Fault FileFault.Write)
             ↔ (is_some (entry_of self.old.entries name.now) ≡ true) }
@@ -473,7 +474,7 @@ impl<'w> FileSet<'w> for MemFiles {
         Err(OpenError::new(FileFault::Write, ErrorContext::Nothing))
     }
 
-    /// Exactly if no file has the name.
+    /// Returns whether no file has the name.
     fn is_absent(&mut self, name: &'w str) -> bool
         ensures absent { result ≡ true ↔ (entry_of self.old.entries name.now ≡ None) }
         ensures kept { self.new ≡ record self.old {
@@ -488,7 +489,7 @@ impl<'w> FileSet<'w> for MemFiles {
         true
     }
 
-    /// None is the stream of faults.
+    /// Returns `false`, since no file in memory is that of standard error.
     fn is_for_faults(&mut self, _out: &MemOut) -> bool
         ensures same { self.new ≡ self.old }
         ensures none { result ≡ false }
@@ -496,7 +497,7 @@ impl<'w> FileSet<'w> for MemFiles {
         false
     }
 
-    /// None is a terminal.
+    /// Returns `false`, since no file in memory is a terminal.
     fn is_terminal(&mut self, _out: &MemOut) -> bool
         ensures same { self.new ≡ self.old }
         ensures none { result ≡ false }
@@ -508,7 +509,7 @@ impl<'w> FileSet<'w> for MemFiles {
         out.sink.bytes().is_empty()
     }
 
-    /// All that the sink took.
+    /// Returns the number of all bytes that the sink took.
     fn settle(&mut self, out: &mut MemOut, durability: Durability) -> u64
         ensures kept { self.new ≡ record self.old {
           outcomes = self.old.outcomes ++ Settled durability out.old.1.held result ∷ [];
@@ -519,7 +520,7 @@ impl<'w> FileSet<'w> for MemFiles {
         self.settled_so_far(out, durability)
     }
 
-    /// All that the sink took.
+    /// Returns the number of all bytes that the sink took.
     fn settled_so_far(&mut self, out: &MemOut, durability: Durability) -> u64
         ensures kept { self.new ≡ record self.old {
           outcomes = self.old.outcomes ++ Settled durability out.now.1.held result ∷ [];
@@ -533,8 +534,7 @@ impl<'w> FileSet<'w> for MemFiles {
         size
     }
 
-    /// Puts what the sink took under its name. That allocates nothing if a file of that name
-    /// exists.
+    /// Stores what the sink took under its name. Allocates nothing if a file of that name exists.
     fn close(&mut self, out: MemOut, _durability: Durability) -> Result<(), FileError<'w>>
         ensures puts { PutsEntry out.0 out.1.held result self.old.entries self.new.entries }
         ensures there { is_some (entry_of self.old.entries out.0) ≡ true → IsOk result }
@@ -553,12 +553,12 @@ impl<'w> FileSet<'w> for MemFiles {
         }
     }
 
-    /// Nothing answers but the room that there is.
+    /// Returns no reason, since a put of a file in memory fails only if the file is full.
     fn reason(&self, _out: &MemOut) -> ErrorContext<'w> {
         ErrorContext::Nothing
     }
 
-    /// Drops whatever the sink took.
+    /// Drops what the sink took.
     fn discard(&mut self, out: MemOut, _durability: Durability)
         ensures kept { self.new ≡ record self.old {
           ended = Some (ended_with out.1.held false);
@@ -568,8 +568,8 @@ impl<'w> FileSet<'w> for MemFiles {
         let _dropped = out;
     }
 
-    /// Refuses with `Write` (27) exactly if the name is one that can't be written, or if the bytes
-    /// are more than there is room for.
+    /// Stores bytes under a name. Fails with `Write` (27) exactly if the name is one that can't be
+    /// written, or if there are more bytes than a file can hold.
     fn replace(
         &mut self,
         alloc: Global,

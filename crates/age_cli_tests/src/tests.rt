@@ -19,7 +19,7 @@ const MIB: u64 = 1 << 20;
 
 const GIB: u64 = 1 << 30;
 
-/// A clock that is so many milliseconds further at each look.
+/// A clock that advances by so many milliseconds at each look.
 #[derive(Drop)]
 struct Ticking {
     now: Cell<u64>,
@@ -47,10 +47,11 @@ impl Clock for Ticking {
     }
 }
 
-/// Runs that are shown one after another: the length of each, and what it counts.
+/// Runs that are shown one after another: the length of each, and the bytes that it counts.
 type Runs<'a> = &'a [(Option<u64>, &'a [u64])];
 
-/// The runs, how far the clock is at each look, and what they show.
+/// A table of runs: the runs, how far the clock advances at each look, the style, and what they
+/// show.
 const ROWS: &[(Runs<'static>, u64, LineStyle, &str)] = &[
     // Each percentage comes once.
     (
@@ -154,7 +155,7 @@ const ROWS: &[(Runs<'static>, u64, LineStyle, &str)] = &[
     ),
 ];
 
-/// Shows the runs in a sink, and compares what it then holds.
+/// Shows the runs in a sink, and compares its contents with `wanted`.
 fn see(
     rt: &impl Abort,
     sink: MemSink,
@@ -177,7 +178,7 @@ fn see(
     assert!(rt; sink.bytes() == wanted.as_bytes(), "{wanted}");
 }
 
-/// A sink that takes little gets complete lines too.
+/// Checks what runs show, in a sink that takes all of a line and in one that takes it in parts.
 #[test]
 fn shows_runs(rt: HostRuntime) -> Result<(), Fail> {
     for (runs, tick, style, wanted) in ROWS {
@@ -189,7 +190,8 @@ fn shows_runs(rt: HostRuntime) -> Result<(), Fail> {
     Ok(())
 }
 
-/// The sink's calls are a put and a flush of each line. A put fails, or a flush.
+/// Checks what follows a line that the sink didn't take. Each line makes a put and a flush, and one
+/// of these calls fails.
 #[test]
 fn continues_after_a_failed_line(rt: HostRuntime) -> Result<(), Fail> {
     for (call, wanted) in [
@@ -257,7 +259,7 @@ impl Meter for Silent {
     fn end(&mut self) {}
 }
 
-/// Whether a run over files in memory ends with this status.
+/// Returns whether a run over files in memory ends with this status.
 fn ends(alloc: Global, files: &mut MemFiles, words: &[&str], wanted: u8) -> bool {
     let (Ok(mut output), Ok(mut faults)) = (
         MemSink::new(alloc, 100, 100, None),
@@ -310,8 +312,8 @@ fn is_cut(alloc: Global, files: &mut MemFiles) -> bool {
     }
 }
 
-/// Whether a text is encrypted and decrypted; and a stop saves its position, unless that or OUT is
-/// refused.
+/// Returns whether a text is encrypted and decrypted, and a stop saves its position, unless that or
+/// OUT is refused.
 fn are_served(alloc: Global, files: &mut MemFiles) -> bool {
     encrypts(alloc, files)
         && decrypts(alloc, files, 0)
@@ -328,7 +330,7 @@ fn are_served(alloc: Global, files: &mut MemFiles) -> bool {
         && decrypts(alloc, files, 1)
 }
 
-/// Files in memory that count how many were opened, as a caller's own set would.
+/// A set of files in memory that counts how many were opened, as a caller's own set would.
 #[derive(Drop)]
 struct Counted {
     files: MemFiles,
@@ -489,7 +491,7 @@ fn files_in_memory(rt: HostRuntime) {
     assert!(rt; are_served(rt.alloc(), &mut MemFiles::new(rt.alloc(), 300)));
 }
 
-/// The status of a run without words, whose output fails at this call.
+/// Returns the status of a run without words, whose output fails at this call.
 fn status_of(alloc: Global, fail_call: u64) -> Result<u8, Fail> {
     let mut input = MemSource::new(HEADER.to_vec(alloc)?, 100, None);
     let mut output = MemSink::new(alloc, 100, 100, Some(fail_call))?;
@@ -511,7 +513,7 @@ fn status_of(alloc: Global, fail_call: u64) -> Result<u8, Fail> {
     })
 }
 
-/// The report is taken by one put and one flush. One of them fails, or the other.
+/// Checks the status of a run whose report isn't taken: its put fails, or its flush.
 #[test]
 fn outputs_that_fail(rt: HostRuntime) -> Result<(), Fail> {
     assert!(rt; status_of(rt.alloc(), 0)? == 1);

@@ -1,9 +1,9 @@
--- How a command ends that isn't done.
+-- The ending of a command that isn't done.
 use Rattle.std.specs.Prelude.{Bool, true, false}
 use Rattle.age_command.specs.declared.ending.Ending.{Ending}
 use Rattle.age_command.specs.declared.ending.Ending.TheVariants.{Fault, Unsaved, Usage}
 
--- it can't be done as it was asked
+-- Whether the ending is a bad command line.
 abbrev pub is_usage : Ending → Bool
 is_usage (Fault fault) = false
 is_usage (Unsaved fault second) = false

@@ -1,4 +1,4 @@
--- What opens a file, by the options and by the files that they name.
+-- The identity that opens a file, by the options and by the files that they name.
 use Rattle.std.specs.Prelude.{◌≡◌, ℕ, List, ◌++◌, length, Option, Some, None, option_map, codes}
 use Rattle.std.specs.Option.{option_or}
 use Rattle.std.specs.declared.vec.Vec.{Vec}
@@ -18,35 +18,36 @@ use Rattle.age_command.specs.declared.identity.Identity.TheVariants.{ByPassphras
 
 -- ---- What opens a file, by all options together.
 
--- the keys that a passphrase with its limit, a file key or a shared secret may find in a header,
--- and the faults
+-- The file keys that the identity may find in a header.
 abbrev pub allows_by : Identity → Header → List ℕ → Type 0
 allows_by (ByPassphrase words) h key = IsPassphraseKey words h key
 allows_by (ByFileKey known) h key = key ≡ known
 allows_by (ByShared shared) h key = IsSharedKey shared h key
 
+-- The faults by which the identity may refuse a header.
 abbrev pub refuses_by : Identity → Header → KeyFault → Type 0
 refuses_by (ByPassphrase words) h fault = PassphraseRefuses words h fault
 refuses_by (ByFileKey known) h fault = ⊥
 refuses_by (ByShared shared) h fault = SharedRefuses shared h fault
 
--- the most steps of scrypt for a header
+-- The largest number of steps of scrypt for a header.
 abbrev pub steps_by : Identity → ℕ
 steps_by (ByPassphrase words) = passphrase_steps words
 steps_by (ByFileKey known) = 0
 steps_by (ByShared shared) = 0
 
--- a file that gave this holds the passphrase
+-- The passphrase is what a file gave, without one line feed at its end.
 abbrev pub IsPassphraseIn : (Gave : List ℕ → Type 0) → List ℕ → Type 0
 IsPassphraseIn Gave pass = (bytes : List ℕ) × Gave bytes × (pass ≡ without_line_feed bytes)
 
--- one that gave this holds the shared secret, followed by the recipient
+-- A file gave the shared secret, followed by the recipient for which it was made.
 pub record IsSharedIn (Gave : List ℕ → Type 0) (shared : Shared) : Type 0 where
   pub bytes : Gave (shared.secret ++ shared.recipient)
   pub secret_length : length shared.secret ≡ 32
   pub recipient_length : length shared.recipient ≡ 32
 
--- the one option that says what opens the file, and all that the file gave that it names, make this
+-- The identity option is the only one that is given, and makes this identity, of all that the file
+-- gave that it names.
 abbrev pub IsIdentity : (GaveAll : Text → List ℕ → Type 0) → Option Text → Option Text → Option Text → ℕ
     → Identity → Type 0
 IsIdentity GaveAll (Some pass) None None max_log (ByPassphrase words) =
@@ -56,33 +57,33 @@ IsIdentity GaveAll None (Some digits) None max_log (ByFileKey known) = SpellsKey
 IsIdentity GaveAll None None (Some name) max_log (ByShared shared) = IsSharedIn (GaveAll name) shared
 IsIdentity GaveAll pass file_key shared max_log identity = ⊥
 
--- the options, and all that the file gave that they name, make what opens the input
+-- The options, and all that the file gave that they name, make this identity.
 abbrev pub MakesBy : (GaveAll : Text → List ℕ → Type 0) → IdentityOptions → Identity → Type 0
 MakesBy GaveAll u identity = IsIdentity GaveAll (option_text u.pass) (option_text u.file_key)
     (option_text u.shared) u.max_log identity
 
--- a file holds these bytes, if there are any
+-- A file holds these bytes, if it was read.
 abbrev pub HoldsBytes : Option (List ℕ) → List ℕ → Type 0
 HoldsBytes held bytes = held ≡ Some bytes
 
 -- ---- What opens a file, by the one option that is chosen.
 
--- the file that a choice names, if it names one
+-- The file that a choice names, if it names one.
 abbrev pub file_of : Choice → Option Text
 file_of (PassphraseFile name max_log) = Some name.now
 file_of (FileKey known) = None
 file_of (SharedFile name) = Some name.now
 
--- the bytes of a file that was read, if it wasn't too long
+-- The bytes of a file that was read, if it wasn't too long.
 abbrev pub file_bytes : {Z : Type 0} → Option (Vec ℕ Z) → Option (List ℕ)
 file_bytes = option_map (λ v. v.items)
 
--- these bytes, if there are any, are all that the file of this name gave, if there is a name
+-- These bytes, if there are any, are all that the file of this name gave, if there is a name.
 abbrev pub IsSecretGiven : (Came : Outcome → Type 0) → Option Text → Option (List ℕ) → Type 0
 IsSecretGiven Came (Some name) (Some bytes) = HasGivenAll Came name bytes
 IsSecretGiven Came name bytes = Unit {0}
 
--- what a choice makes of the bytes of its file
+-- A choice makes this identity of the bytes of its file.
 abbrev pub Makes : Choice → Option (List ℕ) → Identity → Type 0
 Makes (PassphraseFile name max_log) held (ByPassphrase words) = IsPassphraseIn (HoldsBytes held) words.pass
     × (words.max_log ≡ max_log) × IsAllowed words.pass words.max_log
@@ -90,7 +91,7 @@ Makes (FileKey known) held (ByFileKey key) = key ≡ known
 Makes (SharedFile name) held (ByShared shared) = IsSharedIn (HoldsBytes held) shared
 Makes choice held identity = ⊥
 
--- a choice is what these options say
+-- The choice is what these options say.
 pub record Chooses (options : IdentityOptions) (choice : Choice) : Type 0 where
   -- Its file is the one that the options name.
   pub file : file_of choice ≡ option_or (option_text options.pass) (option_text options.shared)
@@ -100,7 +101,7 @@ pub record Chooses (options : IdentityOptions) (choice : Choice) : Type 0 where
 
 -- ---- The random bytes of an encryption.
 
--- their file, if none is named
+-- The name of the file of random bytes: `/dev/urandom`, if none is given.
 abbrev pub random_name : Option Text → Text
 random_name None = codes "/dev/urandom"
 random_name (Some name) = name

@@ -1,4 +1,4 @@
-//! What opens a file, as one of the options says.
+//! The identity option of a command, and the identity that it makes.
 
 ghost use Rattle.std.specs.Prelude.{◌≡◌, IfOk, IfErr, IfSome};
 ghost use Rattle.age_keys.specs.{IsAllowed};
@@ -16,19 +16,20 @@ use age_fileset::{ErrorContext, FileSet, OpenError, Purpose};
 use age_keys::{KnownKey, SharedSecret};
 use std::alloc::Global;
 
-/// What opens a file, as one of the options says: a key, or the name of a file that isn't read yet.
+/// The identity option of a command: a key, or the name of a file that isn't read yet.
 #[derive(Drop)]
 pub enum Choice<'a> {
-    /// The file of a passphrase, and the greatest work factor that is accepted.
+    /// A passphrase file, by name, and the greatest work factor that is accepted.
     PassphraseFile(&'a str, u32),
     /// A file key.
     FileKey(KnownKey),
-    /// The file of a shared secret and its recipient.
+    /// A file with a shared secret and its recipient, by name.
     SharedFile(&'a str),
 }
 
 impl<'a> Choice<'a> {
-    /// The choice made by the single identity option. Refuses none, several, and a bad file key.
+    /// Returns the choice that the identity options make. Fails if none or several are given, or if
+    /// the file key is malformed.
     pub fn of(options: &IdentityOptions<'a>) -> Result<Choice<'a>, UsageError<'a>>
         ensures { IfOk result (Chooses options.now) }
     {
@@ -43,8 +44,8 @@ impl<'a> Choice<'a> {
         }
     }
 
-    /// The bytes of the file, if one is named; `None` also if it is longer than a secret may be.
-    /// Pulls at most one byte more than that.
+    /// Reads the file that the option names. Returns `None` if it names none, or if the file is
+    /// longer than a secret may be. Reads at most one byte more than that.
     pub fn read<F: FileSet<'a>>(
         &self,
         alloc: Global,
@@ -72,8 +73,8 @@ impl<'a> Choice<'a> {
         }
     }
 
-    /// What opens the file, given the bytes that `read` returned. Refuses bytes that hold no
-    /// passphrase, or no shared secret with its recipient.
+    /// Returns the identity, given the bytes that [`read`](Choice::read) returned. Fails if they
+    /// hold no passphrase, or no shared secret with its recipient.
     pub fn identity(self, secret: Option<Vec<u8>>) -> Result<Identity, UsageError<'a>>
         ensures { IfOk result (Makes self.entry (file_bytes secret)) }
     {
@@ -92,7 +93,7 @@ impl<'a> Choice<'a> {
     }
 }
 
-/// How many bytes a file holds that was read; `None` if they are too many.
+/// Returns the length of a file that was read, or `None` if it was too long.
 pub fn length_of(held: &Option<Vec<u8>>) -> Option<usize> {
     match held {
         Some(bytes) => Some(bytes.len()),
@@ -100,12 +101,12 @@ pub fn length_of(held: &Option<Vec<u8>>) -> Option<usize> {
     }
 }
 
-/// The file of this name holds no passphrase, but so many bytes.
+/// Returns the error that the file of this name holds no passphrase, but `len` bytes.
 pub fn bad_passphrase_file<'w>(name: &'w str, len: Option<usize>) -> UsageError<'w> {
     UsageError::new(Usage::BadPassphraseFile, ErrorContext::Holds(name, len))
 }
 
-/// The passphrase in the bytes of its file.
+/// Returns the passphrase in the bytes of its file, if they hold one.
 pub fn passphrase_in(secret: Option<Vec<u8>>, max_log: u32) -> Option<OwnPassphrase>
     ensures { IfSome result (λ words. IsPassphraseIn (HoldsBytes (file_bytes secret)) words.pass
         × (words.max_log ≡ max_log) × IsAllowed words.pass words.max_log) }
@@ -116,7 +117,7 @@ pub fn passphrase_in(secret: Option<Vec<u8>>, max_log: u32) -> Option<OwnPassphr
     }
 }
 
-/// The shared secret and the recipient in the bytes of their file.
+/// Returns the shared secret and the recipient in the bytes of their file, if they hold them.
 fn shared_in(secret: &Option<Vec<u8>>) -> Option<SharedSecret>
     ensures { IfSome result (IsSharedIn (HoldsBytes (file_bytes secret.now))) }
 {

@@ -1,4 +1,4 @@
-//! Why a run didn't do what it was asked.
+//! The errors of a run, and the ending that reports them.
 
 ghost use Rattle.std.specs.Prelude.{◌≡◌};
 ghost use Rattle.age_command.specs.inner.{ending_of};
@@ -11,7 +11,7 @@ use age_io::Unsent;
 use age_position::Position;
 use std::marker::Model;
 
-/// What is wrong with a command line that the parser of command lines accepts.
+/// An error of a command line that its parser accepts.
 #[derive(Clone, Copy, PartialEq, Eq)]
 pub enum Usage {
     /// Not exactly one of `--pass`, `--file-key` and `--shared` is given.
@@ -32,13 +32,13 @@ pub enum Usage {
     GiveClearOrPass,
     /// The script has more than 1,048,576 bytes or 1,000 lines.
     ScriptTooLong,
-    /// This line of the script, counted from 1, is malformed, or reaches past the payload.
+    /// A line of the script, counted from 1, is malformed, or reaches past the payload.
     BadScriptLine(usize),
     /// The payload has more than 16,777,216 bytes.
     PayloadTooLong,
 }
 
-/// What is wrong with a command line, and what that is about. Contracts see the first alone.
+/// An error of a command line, with its context. Contracts see the error alone.
 #[derive(Drop)]
 pub struct UsageError<'w> {
     usage: Usage,
@@ -54,21 +54,21 @@ impl<'w> Model for UsageError<'w> {
 }
 
 impl<'w> UsageError<'w> {
-    /// It is about this.
+    /// Creates an error of a command line, with its context.
     pub fn new(usage: Usage, context: ErrorContext<'w>) -> UsageError<'w>
         ensures { result ≡ usage }
     {
         UsageError { usage, context }
     }
 
-    /// What is wrong.
+    /// Returns the error of the command line, without its context.
     pub fn usage(&self) -> Usage
         ensures { result ≡ self.now }
     {
         self.usage
     }
 
-    /// What that is about.
+    /// Returns the context of the error: the files that it is about.
     pub fn context(&self) -> ErrorContext<'w> {
         self.context
     }
@@ -82,7 +82,7 @@ impl<'w> From<Usage> for UsageError<'w> {
     }
 }
 
-/// Why a position couldn't be saved, and the position. Contracts see the fault alone.
+/// An error of saving a position, and the position. Contracts see the fault alone.
 #[derive(Drop)]
 pub struct UnsavedError<'w> {
     error: FileError<'w>,
@@ -98,44 +98,44 @@ impl<'w> Model for UnsavedError<'w> {
 }
 
 impl<'w> UnsavedError<'w> {
-    /// This position couldn't be saved, for this reason.
+    /// Creates an error of saving `position`.
     pub fn new(error: FileError<'w>, position: Option<Position>) -> UnsavedError<'w>
         ensures { result ≡ error.entry }
     {
         UnsavedError { error, position }
     }
 
-    /// The fault.
+    /// Returns the fault of saving the position.
     pub fn fault(&self) -> FileFault
         ensures { result ≡ self.now }
     {
         self.error.fault()
     }
 
-    /// What the fault is about.
+    /// Returns the context of the fault: the file, and the error of the system.
     pub fn context(&self) -> ErrorContext<'w> {
         self.error.context()
     }
 
-    /// The position.
+    /// Returns the position that couldn't be saved, if it is known.
     pub fn position(&self) -> Option<Position> {
         self.position
     }
 }
 
-/// Why a command isn't done.
+/// The reason why a command isn't done.
 #[derive(Drop)]
 pub enum Ending<'w> {
-    /// What was asked can't be done so.
+    /// A bad command line.
     Usage(UsageError<'w>),
     /// A fault.
     Fault(FileError<'w>),
-    /// A fault, and a second one: its position couldn't be saved.
+    /// A fault, and a second one, because its position couldn't be saved.
     Unsaved(FileError<'w>, UnsavedError<'w>),
 }
 
 impl<'w> Ending<'w> {
-    /// Returns this ending; a fault that names no file gets this context.
+    /// Returns this ending, with `context` for a fault that has none.
     pub fn with_context(self, context: ErrorContext<'w>) -> Ending<'w>
         ensures { result ≡ self.entry }
     {

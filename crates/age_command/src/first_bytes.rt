@@ -13,10 +13,10 @@ use age_fileset::{FileSet, Missing, OpenError, Purpose};
 use age_io::Source;
 use std::alloc::Global;
 
-/// How many bytes are pulled at once, at most.
+/// The largest number of bytes that are read at once.
 const ROOM: usize = 4096;
 
-/// Pulls at most `most` bytes to the beginning of a buffer.
+/// Reads at most `most` bytes to the beginning of a buffer, and returns their number.
 fn pull_some<S: Source>(
     source: &mut S,
     buffer: &mut [u8; ROOM],
@@ -35,8 +35,8 @@ fn pull_some<S: Source>(
     }
 }
 
-/// Reads `most` bytes into an empty vector, or fewer if the source ends first. Pulls no more than
-/// that. If it fails, the vector holds what was read before.
+/// Reads `most` bytes into an empty vector, or fewer if the source ends first. Reads no byte beyond
+/// them. After a fault, the vector holds what was read before it.
 pub fn fill_first<S: Source>(
     source: &mut S,
     held: &mut Vec<u8>,
@@ -59,7 +59,8 @@ pub fn fill_first<S: Source>(
     Ok(())
 }
 
-/// The first `most` bytes of a source, or fewer if it ends first. Pulls no more than that.
+/// Returns the first `most` bytes of a source, or fewer if it ends first. Reads no byte beyond
+/// them.
 pub fn read_first<S: Source>(
     alloc: Global,
     source: &mut S,
@@ -76,8 +77,8 @@ pub fn read_first<S: Source>(
     Ok(held)
 }
 
-/// Reads a source to its end; `None` if it has more than `most` bytes (below 2^32). Pulls at most
-/// `most + 1` bytes.
+/// Reads a source to its end, or returns `None` if it has more than `most` bytes (below 2^32).
+/// Reads at most `most + 1` bytes.
 pub fn read_up_to<S: Source>(
     alloc: Global,
     source: &mut S,
@@ -97,8 +98,8 @@ pub fn read_up_to<S: Source>(
     Ok(Some(first))
 }
 
-/// Reads a file to its end; `None` if it has more than `most` bytes (below 2^32). Pulls at most
-/// `most + 1` bytes. Then its reading is over.
+/// Opens a file, reads it to its end and closes it. Returns `None` if it has more than `most` bytes
+/// (below 2^32). Reads at most `most + 1` bytes.
 pub fn read_file<'w, F: FileSet<'w>>(
     alloc: Global,
     files: &mut F,

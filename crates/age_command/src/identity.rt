@@ -1,4 +1,4 @@
-//! What opens a file, and what the files of secrets hold.
+//! The identity that opens a file, and the format of the files with secrets.
 
 ghost use Rattle.std.specs.Prelude.{◌≡◌, IfSome, Some};
 ghost use Rattle.age_command.specs.Identities.{HoldsBytes, IsSharedIn};
@@ -9,7 +9,7 @@ use age_keys::{FileKey, KeyFault, KnownKey, PASSPHRASE_LIMIT, SharedSecret, Step
 use age_stanza::Header;
 use std::alloc::Global;
 
-/// What opens a file.
+/// An identity that opens a file: a passphrase, a file key or a shared secret.
 #[derive(Drop)]
 pub enum Identity {
     /// A passphrase, and the greatest work factor that is accepted.
@@ -43,7 +43,7 @@ impl Unlock for Identity {
     }
 }
 
-/// The bytes without one line feed at their end.
+/// Returns the bytes without one line feed at their end.
 pub(crate) fn trimmed(bytes: &[u8]) -> &[u8]
     ensures { result.now ≡ without_line_feed bytes.now }
 {
@@ -55,13 +55,13 @@ pub(crate) fn trimmed(bytes: &[u8]) -> &[u8]
     }
 }
 
-/// The most bytes of a passphrase's file: 65,536 and a line feed.
+/// The greatest length of a passphrase's file: 65,536 bytes and a line feed.
 pub(crate) const PASSPHRASE_FILE_MAX: usize = PASSPHRASE_LIMIT + 1;
 
 /// The length of a shared secret's file: the secret, and the recipient that it was made for.
 pub(crate) const SHARED_FILE_LEN: usize = 64;
 
-/// The shared secret, and the recipient after it.
+/// Parses a shared secret, and the recipient after it.
 pub(crate) fn shared_of(bytes: &[u8]) -> Option<SharedSecret>
     ensures some { IfSome result (IsSharedIn (HoldsBytes (Some bytes.now))) }
 {

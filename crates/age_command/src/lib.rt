@@ -1,8 +1,6 @@
-//! What the commands share: what opens a file (the passphrase, file key or shared secret that the
-//! options name), the first bytes of a source, and how a command ends, with the lines that report
-//! it.
-//!
-//! Its definitions say what the options and the files that they name make.
+//! The common parts of the commands: the identity that opens a file (by the passphrase, file key or
+//! shared secret that the options name), the first bytes of a source, and the ending of a command
+//! with the lines that report it.
 #![tactic(auto)]
 
 mod choice;

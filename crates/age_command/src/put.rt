@@ -8,7 +8,7 @@ ghost use Rattle.age_io.specs.Taken.{Appends};
 use age_fault::FileFault;
 use age_io::{Sink, write_all};
 
-/// Writes all bytes. After a failure it isn't known how many were written.
+/// Writes all bytes to a sink. After a failure it isn't known how many were written.
 pub fn put_bytes<O: Sink>(sink: &mut O, bytes: &[u8]) -> Result<(), FileFault>
     ensures ok { OnOk result (Appends (O.view sink.old).taken (O.view sink.new).taken bytes.now) }
     ensures same { OnOk result ((O.view sink.new).failed ≡ (O.view sink.old).failed) }

@@ -10,8 +10,8 @@ use age_io::{Failed, Failures, Sink, flush_all};
 use arrayvec::ArrayVec;
 use itoa::Buffer;
 
-/// A line on the stack, so that it goes out in one put and lines of several runs don't mix. The
-/// longest has 54 bytes.
+/// A buffer for one line on the stack, so that the line goes out in one write and lines of several
+/// runs don't mix. The longest line has 54 bytes.
 #[derive(Drop)]
 struct FaultLine {
     bytes: ArrayVec<u8, 128>,
@@ -52,14 +52,14 @@ impl Sink for FaultLine {
     }
 }
 
-/// A word, and a number in decimal.
+/// Writes a word, and a number in decimal.
 fn put_number<E: Sink>(faults: &mut E, word: &str, number: u64) -> Result<(), FileFault> {
     put_bytes(faults, word.as_bytes())?;
     let mut digits = Buffer::new();
     put_bytes(faults, digits.format(number).as_bytes())
 }
 
-/// The line of a header's fault, or the chunk of a payload's.
+/// Writes the line of a header's fault, or the chunk of a payload's.
 fn put_place<E: Sink>(faults: &mut E, fault: FileFault) -> Result<(), FileFault> {
     match fault.place() {
         Some(line) if fault.number() <= 8 => put_number(faults, " line ", line),
@@ -68,8 +68,8 @@ fn put_place<E: Sink>(faults: &mut E, fault: FileFault) -> Result<(), FileFault>
     }
 }
 
-/// The fault's number and name, and its place. It allocates nothing, so that running out of memory
-/// can be reported too.
+/// Writes the fault's number and name, and its line or chunk. Allocates nothing, so that running
+/// out of memory can be reported too.
 fn put_fault_line<E: Sink>(faults: &mut E, fault: FileFault) -> Result<(), FileFault> {
     put_number(faults, "age_tool: ", fault.number() as u64)?;
     put_bytes(faults, b" ")?;
@@ -78,7 +78,7 @@ fn put_fault_line<E: Sink>(faults: &mut E, fault: FileFault) -> Result<(), FileF
     put_bytes(faults, b"\n")
 }
 
-/// One line, in one put.
+/// Writes the line of a fault by one write.
 fn put_fault<E: Sink>(faults: &mut E, fault: FileFault) -> Result<(), FileFault> {
     let mut line = FaultLine::new();
     match put_fault_line(&mut line, fault) {
@@ -88,13 +88,13 @@ fn put_fault<E: Sink>(faults: &mut E, fault: FileFault) -> Result<(), FileFault>
     }
 }
 
-/// The message about a malformed line of a script.
+/// Writes the message about a malformed line of a script.
 fn put_script_line<E: Sink>(faults: &mut E, line: u64) -> Result<(), FileFault> {
     put_number(faults, "age_tool: bad script line ", line)?;
     put_bytes(faults, b"\n")
 }
 
-/// The same, in one put.
+/// Writes the message about a malformed line of a script by one write.
 fn put_whole_script_line<E: Sink>(faults: &mut E, line: u64) -> Result<(), FileFault> {
     let mut whole = FaultLine::new();
     match put_script_line(&mut whole, line) {
@@ -103,7 +103,7 @@ fn put_whole_script_line<E: Sink>(faults: &mut E, line: u64) -> Result<(), FileF
     }
 }
 
-/// What is wrong with a command line: one line, in one put, which allocates nothing either.
+/// Writes the message about a bad command line by one write. Allocates nothing.
 fn put_usage<E: Sink>(faults: &mut E, usage: Usage) -> Result<(), FileFault> {
     match usage {
         Usage::GiveOneIdentity => put_bytes(
@@ -123,7 +123,7 @@ fn put_usage<E: Sink>(faults: &mut E, usage: Usage) -> Result<(), FileFault> {
     }
 }
 
-/// The lines of an ending.
+/// Writes the lines of an ending.
 fn put_ending<E: Sink>(faults: &mut E, ending: &Ending<'_>) -> Result<(), FileFault> {
     match ending {
         Ending::Usage(error) => put_usage(faults, error.usage()),
@@ -135,19 +135,19 @@ fn put_ending<E: Sink>(faults: &mut E, ending: &Ending<'_>) -> Result<(), FileFa
     }
 }
 
-/// The same, flushed.
+/// Writes the lines of an ending, and flushes the sink.
 fn send_ending<E: Sink>(faults: &mut E, ending: &Ending<'_>) -> Result<(), FileFault> {
     put_ending(faults, ending)?;
     Ok(flush_all(faults)?)
 }
 
-/// Reports a fault by its line, sent on.
+/// Writes the line of a fault, and flushes the sink.
 pub fn report_fault<E: Sink>(faults: &mut E, fault: FileFault) -> Result<(), FileFault> {
     put_fault(faults, fault)?;
     Ok(flush_all(faults)?)
 }
 
-/// Reports why a command isn't done, if the sink takes it.
+/// Writes why a command isn't done, and flushes the sink. Ignores a failure of the sink.
 pub fn report_ending<E: Sink>(faults: &mut E, ending: &Ending<'_>) {
     let _ = send_ending(faults, ending);
 }

@@ -1,4 +1,4 @@
-//! A passphrase whose bytes are overwritten once it isn't needed.
+//! A passphrase whose bytes are overwritten when it is dropped.
 
 ghost use Rattle.age_keys.specs.{IsAllowed, IsPassphraseKey, PassphraseRefuses, passphrase_steps};
 ghost use Rattle.age_command.specs.Files.{without_line_feed};
@@ -10,8 +10,8 @@ use age_stanza::Header;
 use std::alloc::Global;
 use std::marker::Model;
 
-/// Bytes that are overwritten before their memory is freed. No contract says so, but a test checks
-/// it.
+/// A vector whose bytes are overwritten before their memory is freed. No contract says so, but a
+/// test checks it.
 struct Erased {
     bytes: Vec<u8>,
 }
@@ -32,7 +32,7 @@ impl Drop for Erased {
 }
 
 impl Erased {
-    /// The bytes.
+    /// Returns the bytes.
     fn bytes(&self) -> &[u8]
         ensures { result.now ≡ self.now }
     {
@@ -41,8 +41,8 @@ impl Erased {
 }
 
 /// A passphrase that owns the bytes of its file, and a work factor: the greatest that is accepted
-/// with it, or the one that is written. When it is dropped, these bytes are overwritten. A contract
-/// sees both.
+/// with it, or the one that is written. When it is dropped, these bytes are overwritten. Contracts
+/// see the passphrase and the work factor.
 #[derive(Drop)]
 pub struct OwnPassphrase {
     held: Erased,
@@ -82,7 +82,7 @@ impl Unlock for OwnPassphrase {
 }
 
 impl OwnPassphrase {
-    /// The bytes of the passphrase, and the work factor.
+    /// Returns the bytes of the passphrase, and the work factor.
     pub fn parts(&self) -> (&[u8], u32)
         ensures parts { (result.0.now ≡ self.now.pass) × (result.1 ≡ self.now.max_log) }
         ensures allowed { IsAllowed self.now.pass self.now.max_log }
@@ -91,7 +91,7 @@ impl OwnPassphrase {
     }
 }
 
-/// The passphrase in the bytes of its file, if they hold one.
+/// Returns the passphrase in the bytes of its file, if they hold one.
 pub(crate) fn own_passphrase(bytes: Vec<u8>, max_log: u32) -> Option<OwnPassphrase>
     ensures { IfSome result (λ words. (words.pass ≡ without_line_feed bytes.items)
         × (words.max_log ≡ max_log)) }

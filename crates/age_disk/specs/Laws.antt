@@ -1,4 +1,4 @@
--- What follows for the files that are read.
+-- Laws about the files that are read.
 use Rattle.std.specs.Prelude.{◌≡◌, ◌<◌, ◌^◌, ℕ, List, Some, Contains}
 use Rattle.age_calls.specs.{FileCall, after_calls, OutFile, AllOn}
 use Rattle.age_calls.specs.Disk.{Disk}
@@ -9,8 +9,8 @@ use Rattle.age_names.specs.declared.names.FileId.TheVariants.{File}
 use Rattle.age_host_out.specs.{OutputView}
 use Rattle.age_disk.specs.Files.{IsApart}
 
--- The calls of a regular output that is none of the files that were opened leave on every disk what
--- these files hold.
+-- The calls of a regular output that is none of the opened files change on no disk what these files
+-- hold.
 -- (in any order: each of these files is open, whichever came first)
 abbrev pub NoInputIsChanged : Type 0
 NoInputIsChanged = (opened : List FileId) (out : OutputView) (file : OutFile) (calls : List FileCall)
@@ -18,7 +18,7 @@ NoInputIsChanged = (opened : List FileId) (out : OutputView) (file : OutFile) (c
     → (input : Node) → input.inode < 2 ^ 64 → Contains opened (File input) → (disk : Disk)
     → (after_calls calls disk).bytes (number_of input) ≡ disk.bytes (number_of input)
 
--- The calls of a new output leave what every file to which a path led before holds.
+-- The calls of a new output change no file to which a path led before.
 abbrev pub NoOtherIsChanged : Type 0
 NoOtherIsChanged = (file : OutFile) (calls : List FileCall) → AllOn file.path file.number calls
     → (disk : Disk) → ((path : List ℕ) → disk.file path ≡ Some file.number → ⊥)

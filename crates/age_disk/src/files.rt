@@ -1,4 +1,4 @@
-//! The machine's files.
+//! The set of the files of a system.
 
 ghost use Rattle.std.specs.Prelude.{◌≡◌, ◌≤◌, ◌∷◌, ◌++◌, [], true, None, Some, Ok, Err, IfOk, length, IfErr};
 ghost use Rattle.std.specs.Prelude.{IfSome, Contains};
@@ -29,13 +29,17 @@ use std::alloc::Global;
 use std::io;
 use std::rt::HostRuntime;
 
-/// The machine's files. Contracts see what was done with them and what came of that, and which
-/// bytes were read and put. A name is a path; `/dev/stdin`, `/dev/stdout`, `/dev/stderr` and their
-/// names under `/dev/fd` and `/proc/self/fd` are the streams that the program was started with. Two
-/// regular files or pipes are one if they have the same device and inode, and two block devices if
-/// they have the same number. Character devices and sockets that are written aren't compared. A
+/// The files of a system, named by their paths. `/dev/stdin`, `/dev/stdout`, `/dev/stderr` and
+/// their names under `/dev/fd` and `/proc/self/fd` are the streams that the program was started
+/// with.
+///
+/// Two regular files or pipes are one if they have the same device and inode, and two block devices
+/// if they have the same number. Character devices and sockets that are written aren't compared. A
 /// stream gives each of its bytes once, and is opened only once for reading: a pipe, a socket, a
 /// terminal and the like, and standard input, whatever that is.
+///
+/// Contracts see what was done with the files and what came of that, and which bytes were read and
+/// put.
 #[derive(Drop)]
 pub struct HostFiles<'r, 'w> {
     rt: &'r HostRuntime,
@@ -43,14 +47,14 @@ pub struct HostFiles<'r, 'w> {
     streams: Vec<StreamId>,
     prepared: Vec<PositionFile<'w>>,
     log: Log,
-    // What was done to the file that was ended last.
+    // The record of the file that was ended last.
     ended: Option<HostEnded>,
     // The output, under its name as it was given.
     output: Output<'w>,
     notes: Notes<'w>,
 }
 
-/// The name of the output, and whether it may take an existing file's place.
+/// The name of the output, and whether it may replace an existing file.
 #[derive(Clone, Copy)]
 struct Output<'w> {
     name: &'w str,
@@ -58,7 +62,7 @@ struct Output<'w> {
 }
 
 impl<'r, 'w> HostFiles<'r, 'w> {
-    /// Returns the files that the machine reaches.
+    /// Creates the set, with no file opened.
     pub fn new(rt: &'r HostRuntime) -> HostFiles<'r, 'w> {
         HostFiles {
             rt,
@@ -75,12 +79,13 @@ impl<'r, 'w> HostFiles<'r, 'w> {
         }
     }
 
-    /// What may surprise in these files, and is no error.
+    /// Returns what may surprise people in these files, and is no error.
     pub fn notes(&self) -> Notes<'w> {
         self.notes
     }
 
-    /// Keeps a stream before it is opened, since opening it may wait forever.
+    /// Adds the stream to which a name leads, if it is one, to those in use. Fails if it is in use
+    /// already. This comes before the stream is opened, which may block.
     fn admit_stream(&mut self, alloc: Global, name: &'w str) -> Result<(), OpenError<'w>>
         ensures kept { (self.new.log ≡ self.old.log) × (self.new.ended ≡ self.old.ended) }
         ensures open { self.new.open ≡ self.old.open }
@@ -93,7 +98,8 @@ impl<'r, 'w> HostFiles<'r, 'w> {
         }
     }
 
-    /// Opens a file for reading, and keeps it.
+    /// Opens a file for reading, and adds it to those in use. Tells people about a passphrase or a
+    /// copy, by `purpose`.
     fn admit_in(
         &mut self,
         alloc: Global,
@@ -125,7 +131,8 @@ impl<'r, 'w> HostFiles<'r, 'w> {
         }
     }
 
-    /// Keeps a file that is to be written, and takes it for this run alone if it was opened.
+    /// Adds a file that was opened for writing to those in use, and locks it. Fails if it is in use
+    /// already.
     fn admit_created(
         &mut self,
         name: &'w str,
@@ -149,7 +156,7 @@ impl<'r, 'w> HostFiles<'r, 'w> {
         }
     }
 
-    /// Refuses a name that leads to the same stream as one of the others, and keeps both.
+    /// Fails if a name leads to the same stream as one of the others.
     fn check_stream(
         &self,
         alloc: Global,
@@ -165,7 +172,7 @@ impl<'r, 'w> HostFiles<'r, 'w> {
         }
     }
 
-    /// Refuses these names if two of them lead to one stream.
+    /// Fails if two of these names lead to one stream.
     fn check_each(&self, alloc: Global, names: &[Option<&'w str>]) -> Result<(), OpenError<'w>>
         ensures { IfErr result (OpenFails Memory) }
     {
@@ -177,8 +184,8 @@ impl<'r, 'w> HostFiles<'r, 'w> {
         Ok(())
     }
 
-    /// Finds out where the name of a position leads. With `--no-clobber` a file that holds something is
-    /// refused, unless it is the one that is spared.
+    /// Follows the name of a position to its file. If `clobber` refuses existing files, fails for
+    /// one that holds something, unless it is the spared one.
     fn locate(
         &self,
         alloc: Global,
@@ -194,8 +201,8 @@ impl<'r, 'w> HostFiles<'r, 'w> {
         Ok(location)
     }
 
-    /// Prepares a file to be replaced, which may be open if it is that of `spared`: the position of
-    /// this command.
+    /// Prepares the file of a position to be replaced, which may be open if it is that of `spared`:
+    /// the position that this command reads.
     fn prepare_named(
         &self,
         alloc: Global,
@@ -251,14 +258,14 @@ impl<'r, 'w> HostFiles<'r, 'w> {
     }
 }
 
-/// Returns why no position can be saved to a file.
+/// Returns the error that no position can be saved to a file.
 fn unsaved<'w>(name: &'w str, error: io::Error) -> OpenError<'w>
     ensures { OpenFails Write result }
 {
     failed(FileFault::Write, Action::Save, name, error)
 }
 
-/// Returns why a file can't be written.
+/// Returns the error that a file can't be written.
 fn refusal<'w>(
     rt: &HostRuntime,
     name: &'w str,
@@ -275,7 +282,7 @@ fn refusal<'w>(
     )
 }
 
-/// Returns what couldn't be done with a file that can't be opened or made.
+/// Returns the action that failed, for a file that can't be opened or made.
 fn refused(rt: &HostRuntime, name: &str, clobber: ClobberOption, error: io::Error) -> Action {
     let is_there = error.kind() == io::ErrorKind::AlreadyExists;
     // (if it may be overwritten, another run has just made it)
@@ -288,7 +295,7 @@ fn refused(rt: &HostRuntime, name: &str, clobber: ClobberOption, error: io::Erro
     }
 }
 
-/// What is done to open an output, which is to be made if it doesn't exist.
+/// Returns whether opening `name` as an output creates a file or writes an existing one.
 fn opening(rt: &HostRuntime, name: &str) -> Action {
     match found_at(rt, name) {
         Ok(None) => Action::Create,
@@ -296,7 +303,7 @@ fn opening(rt: &HostRuntime, name: &str) -> Action {
     }
 }
 
-/// Whether an empty regular file has this name.
+/// Returns whether an empty regular file has this name.
 fn is_empty_at(rt: &HostRuntime, name: &str) -> bool {
     matches!(found_at(rt, name), Ok(Some(found)) if found.is_file() && found.len() == 0)
 }
@@ -314,7 +321,7 @@ impl<'r, 'w> FileSet<'w> for HostFiles<'r, 'w> {
 
     ghost file = { λ o. o.file };
 
-    /// Two paths of one file are the same too, so that no link destroys what is read.
+    /// Returns whether two names lead to one file, so that no link destroys what is read.
     fn is_same(&mut self, one: &'w str, other: &'w str) -> bool {
         if one == other {
             return true;
@@ -354,7 +361,8 @@ impl<'r, 'w> FileSet<'w> for HostFiles<'r, 'w> {
         opened
     }
 
-    /// The length of a regular file. Standard input has none.
+    /// Returns how many bytes a regular file still has to give, or `None` for standard input and
+    /// other kinds.
     fn length(&self, source: &HostIn<'w>) -> Option<u64> {
         source.length()
     }
@@ -422,7 +430,7 @@ impl<'r, 'w> FileSet<'w> for HostFiles<'r, 'w> {
         Err(refusal(self.rt, name, ClobberOption::Refused, error))
     }
 
-    /// A file that can't be looked at may exist.
+    /// Returns whether nothing has the name. Returns `false` if that can't be looked at.
     fn is_absent(&mut self, name: &'w str) -> bool {
         let is_absent = matches!(found_at(self.rt, name), Ok(None));
         self.log.note(if is_absent {

@@ -1,4 +1,4 @@
-//! Which files and streams are in use, so that none is used twice.
+//! The files and streams that are in use, so that none is used twice.
 
 ghost use Rattle.std.specs.Prelude.{◌≡◌, true, Some, Err, IfErr, OnOk, IfSome, Contains};
 ghost use Rattle.age_fault.specs.declared.fault.FileFault.TheVariants.{Read, Write, Memory};
@@ -16,7 +16,7 @@ use std::alloc::Global;
 use std::io;
 use std::rt::HostRuntime;
 
-/// Keeps a stream of this name. Refuses one that was kept before.
+/// Adds a stream to those in use. Fails if it is in use already.
 pub(crate) fn keep_stream<'w>(
     kept: &mut Vec<StreamId>,
     stream: StreamId,
@@ -30,14 +30,14 @@ pub(crate) fn keep_stream<'w>(
     Ok(kept.push(stream).map_err(|_| FileFault::Memory)?)
 }
 
-/// Whether two names lead to one stream.
+/// Returns whether two names lead to one stream.
 fn is_one_stream(alloc: Global, rt: &HostRuntime, one: &str, other: &str) -> io::Result<bool> {
     let one = StreamId::at(alloc, rt, one)?;
     let other = StreamId::at(alloc, rt, other)?;
     Ok(matches!((one, other), (Some(one), Some(other)) if one.is_same(other)))
 }
 
-/// The given name that leads to the same stream as this one, if one does.
+/// Returns one of the other names that leads to the same stream as `name`, if one does.
 pub(crate) fn find_same<'n>(
     alloc: Global,
     rt: &HostRuntime,
@@ -54,7 +54,7 @@ pub(crate) fn find_same<'n>(
     Ok(None)
 }
 
-/// Whether this is a file that was opened.
+/// Returns whether this run has opened the file.
 pub(crate) fn is_known(opened: &[FileId], id: Option<FileId>) -> bool
     ensures { (one : FileId) → id ≡ Some one → Contains opened.now one → result ≡ true }
 {
@@ -64,7 +64,7 @@ pub(crate) fn is_known(opened: &[FileId], id: Option<FileId>) -> bool
     }
 }
 
-/// Whether one of these names leads to a file.
+/// Returns whether one of these names leads to the file.
 pub(crate) fn is_named(rt: &HostRuntime, names: &[Option<&str>], id: Option<FileId>) -> bool {
     for name in names.iter() {
         if let Some(name) = *name
@@ -77,8 +77,9 @@ pub(crate) fn is_named(rt: &HostRuntime, names: &[Option<&str>], id: Option<File
     false
 }
 
-/// Refuses a file of a position that was opened, or is that of standard error, unless it is the one
-/// that is spared; and one whose temporary file would be one of those, or has one of the other names.
+/// Fails if the file of a position was opened, unless it is the spared one, or is that of standard
+/// error. Fails too if what is at the path of its temporary file is one of those, or has one of the
+/// other names.
 pub(crate) fn check_location<'w>(
     rt: &HostRuntime,
     opened: &[FileId],
@@ -100,7 +101,7 @@ pub(crate) fn check_location<'w>(
     Ok(())
 }
 
-/// Keeps which file was opened.
+/// Adds a file to those that were opened.
 pub(crate) fn keep(opened: &mut Vec<FileId>, id: Option<FileId>) -> Result<(), FileFault>
     ensures memory { IfErr result (λ fault. fault ≡ Memory) }
     ensures known { OnOk result (IfSome id (Contains opened.new.items)) }
@@ -112,7 +113,8 @@ pub(crate) fn keep(opened: &mut Vec<FileId>, id: Option<FileId>) -> Result<(), F
     Ok(())
 }
 
-/// Keeps which file was opened for writing under this name. Refuses one that was opened before.
+/// Adds a file that was opened for writing to those that were opened. Fails if it is one of them
+/// already.
 fn admit<'w>(
     opened: &mut Vec<FileId>,
     id: Option<FileId>,
@@ -127,8 +129,8 @@ fn admit<'w>(
     Ok(keep(opened, id)?)
 }
 
-/// The name of the prepared file that is this one, or would be once this one is made. Fails if memory
-/// runs out.
+/// Returns the name of the prepared file that is the output, or will be once the output is made, if
+/// there is one. Fails if memory runs out.
 fn find_prepared<'w>(prepared: &[PositionFile<'w>], out: &HostOut) -> io::Result<Option<&'w str>> {
     for one in prepared.iter() {
         let is_same = match out.unmade() {
@@ -142,7 +144,7 @@ fn find_prepared<'w>(prepared: &[PositionFile<'w>], out: &HostOut) -> io::Result
     Ok(None)
 }
 
-/// Why something couldn't be done with a file: this fault, unless memory ran out.
+/// Returns the error of an action on a file: `fault`, unless memory ran out.
 pub(crate) fn failed<'w>(
     fault: FileFault,
     action: Action,
@@ -159,7 +161,7 @@ pub(crate) fn failed<'w>(
     OpenError::new(fault_of(error, fault), context)
 }
 
-/// The fault for an error: running out of memory is reported as such, and anything else as `other`.
+/// Returns the fault of an error: `Memory` (28) if memory ran out, and `other` for anything else.
 pub(crate) fn fault_of(error: io::Error, other: FileFault) -> FileFault
     ensures { IsMemoryOr other result }
 {
@@ -170,8 +172,8 @@ pub(crate) fn fault_of(error: io::Error, other: FileFault) -> FileFault
     }
 }
 
-/// Keeps which file is to be written. One that was opened or prepared before is refused, and its
-/// name is kept, with the other one if that is known.
+/// Adds the file of an output to those that were opened. Fails if it was opened or prepared before,
+/// with both names, if the other one is known.
 pub(crate) fn admit_out<'w>(
     opened: &mut Vec<FileId>,
     prepared: &[PositionFile<'w>],

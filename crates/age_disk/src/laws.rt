@@ -1,11 +1,12 @@
-//! What follows for the files that are read.
+//! Laws about the files that are read.
 
 ghost use Rattle.age_disk.specs.{NoInputIsChanged, NoOtherIsChanged};
 
 use age_calls::others_are_kept;
 use age_names::numbers_are_apart;
 
-/// An output that is none of the opened files changes none of them, and neither does a new one.
+/// States that an output which is none of the opened files changes none of them, and neither does a
+/// new one.
 pub fn no_input_is_changed()
     ensures opened { NoInputIsChanged }
     ensures made { NoOtherIsChanged }

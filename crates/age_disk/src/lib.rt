@@ -1,8 +1,8 @@
-//! The set of the machine's files: which of them are in use, so that none is used twice, what was
-//! done with each, and what a file that was prepared is replaced by.
+//! The set of the files of a system. It knows which of them are in use, so that none is used twice,
+//! and how each was made, written and replaced.
 //!
 //! Contracts see which files were opened, created, replaced and ended, what was read from them and
-//! what was put, and nothing else that they hold. What fails says what the machine answered.
+//! what was put, and nothing else that they hold. An error has the answer of the system.
 #![tactic(auto)]
 
 mod files;

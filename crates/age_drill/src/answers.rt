@@ -1,4 +1,4 @@
-//! What is held after each line of a script.
+//! The lines that a drill prints, one for each line of its script.
 
 use crate::script::ScriptLine;
 use age_command::{Ending, put_bytes};
@@ -7,8 +7,8 @@ use age_io::{Sink, flush_all};
 use age_stream::{ChunkBox, Delivery, Memory, Replay, Status};
 use std::alloc::{AllocError, Global};
 
-/// A line of the output: the number of the script's line, where the reader stands, and how many
-/// bytes are held.
+/// Returns a line of the output: the number of the script's line, the reader's status, and the
+/// number of plaintext bytes held.
 fn answer(alloc: Global, number: usize, status: Status, held: usize) -> Result<String, AllocError> {
     match status {
         Status::Open => format!(in alloc; "{number} open {held}\n"),
@@ -21,12 +21,12 @@ fn answer(alloc: Global, number: usize, status: Status, held: usize) -> Result<S
     }
 }
 
-/// The same after a restart that was refused.
+/// Returns a line of the output after a restart that was refused.
 fn refusal(alloc: Global, number: usize, held: usize) -> Result<String, AllocError> {
     format!(in alloc; "{number} refused-25 {held}\n")
 }
 
-/// The bytes of a piece, as far as the payload has them.
+/// Returns the bytes of a piece, as far as the payload has them.
 fn part(payload: &[u8], offset: usize, len: usize) -> &[u8] {
     let rest = &payload[offset.min(payload.len())..];
     &rest[..len.min(rest.len())]
@@ -39,7 +39,7 @@ fn flip(payload: &mut [u8], offset: usize) {
     }
 }
 
-/// Obeys a line of the script.
+/// Executes a line of the script.
 fn obey_line<B: ChunkBox, const SEALED: usize>(
     replay: &mut Replay<'_, B, SEALED>,
     payload: &mut [u8],
@@ -58,7 +58,7 @@ fn obey_line<B: ChunkBox, const SEALED: usize>(
     }
 }
 
-/// Obeys a line of the script, and writes a line for it.
+/// Executes a line of the script, and writes the line of the output.
 fn answer_line<B: ChunkBox, O: Sink, const SEALED: usize>(
     alloc: Global,
     replay: &mut Replay<'_, B, SEALED>,
@@ -80,7 +80,7 @@ fn answer_line<B: ChunkBox, O: Sink, const SEALED: usize>(
     put_bytes(output, text.as_bytes())
 }
 
-/// Obeys each line of the script, and writes a line for it.
+/// Executes each line of the script, and writes a line of the output for each.
 pub(crate) fn answer_lines<'w, B: ChunkBox, O: Sink, const SEALED: usize>(
     alloc: Global,
     replay: &mut Replay<'_, B, SEALED>,

@@ -1,4 +1,4 @@
-//! The command that delivers a payload by a script.
+//! The command `drill`, which delivers a payload by a script.
 
 ghost use Rattle.std.specs.Prelude.{◌≡◌, ◌<◌, ◌≤◌, [], IfOk, length};
 ghost use Rattle.age_chunk.specs.{block_length, tag_length};
@@ -23,16 +23,17 @@ use age_stanza::{HEAD_MAX, HeadParser, HeadStep, Header};
 use age_stream::{BLOCK_LEN, ChunkBox, ClearBox, Replay};
 use std::alloc::Global;
 
-/// The most bytes of a payload.
+/// The greatest length of a payload.
 const PAYLOAD_MAX: usize = 16_777_216;
 
-/// The most bytes of a file that are read: one more than the longest header and payload have.
+/// The largest number of bytes of a file that are read: one more than the longest header and
+/// payload have.
 const BYTES_MAX: usize = HEAD_MAX + PAYLOAD_NONCE_LEN + PAYLOAD_MAX + 1;
 
 /// The length of a block of a payload in the clear.
 const CLEAR_LEN: usize = 20;
 
-/// The passphrase in its file, if one is named.
+/// Reads the passphrase in its file, if one is named.
 fn read_passphrase<'w, F: FileSet<'w>>(
     alloc: Global,
     files: &mut F,
@@ -53,7 +54,7 @@ fn read_passphrase<'w, F: FileSet<'w>>(
     }
 }
 
-/// The bytes of the file of a script.
+/// Reads the file of a script. Fails if it is too long or has too many lines.
 fn read_script<'w, F: FileSet<'w>>(
     alloc: Global,
     files: &mut F,
@@ -67,8 +68,8 @@ fn read_script<'w, F: FileSet<'w>>(
     }
 }
 
-/// The header that a parser finds at the beginning of a file, and its length. `read` is how reading
-/// those bytes ended: its fault is reported only if the bytes before it have none.
+/// Returns the header at the beginning of a file, and its length, by a new parser. `read` is the
+/// result of reading the bytes: its fault is reported only if the bytes before it have none.
 fn find_header(
     parser: &mut HeadParser,
     bytes: &[u8],
@@ -87,7 +88,8 @@ fn find_header(
     }
 }
 
-/// The header at the beginning of a file, and its length.
+/// Parses the header at the beginning of a file, and returns its length too. `read` is the result
+/// of reading the bytes.
 fn read_header(
     alloc: Global,
     bytes: &[u8],
@@ -100,7 +102,7 @@ fn read_header(
     find_header(&mut parser, bytes, read)
 }
 
-/// The key of the payload after a header of this length, and where in the bytes it begins.
+/// Returns the payload key of a file, and the offset of its payload after a header of `len` bytes.
 fn payload_after(
     key: Result<FileKey, KeyFault>,
     len: usize,
@@ -118,8 +120,8 @@ fn payload_after(
     }
 }
 
-/// The key of a file's payload, and where in the bytes the payload begins. Faults come in the order
-/// of the bytes: a fault of reading comes after the faults of the header and the key.
+/// Returns the payload key of a file, and the offset of its payload. Faults come in the order of
+/// the bytes: a fault of reading comes after the faults of the header and the key.
 fn open_payload(
     alloc: Global,
     unlock: &OwnPassphrase,
@@ -133,7 +135,7 @@ fn open_payload(
     payload_after(key, len, bytes, read)
 }
 
-/// Checks all of the script, and then delivers a payload by it.
+/// Parses all of the script, and then delivers a payload by it.
 fn deliver<'w, B: ChunkBox, O: Sink, const SEALED: usize>(
     alloc: Global,
     key: &B,
@@ -202,8 +204,8 @@ fn deliver_source<'w, S: Source, O: Sink>(
     }
 }
 
-/// Delivers a payload as asked. No file is changed, and whatever the deliveries lead to is no
-/// fault.
+/// Runs the command `drill`. Changes no file. A fault to which the deliveries lead is a line of the
+/// output, and no fault of the command.
 pub fn drill_file<'w, F: FileSet<'w>, O: Sink>(
     alloc: Global,
     files: &mut F,

@@ -1,5 +1,6 @@
-//! The command that delivers a payload by a script, and says what is held after each line of it.
-//! Tests say what it prints, and why it is refused; its contract, that it puts nothing.
+//! The command `drill`, which delivers a payload by a script, and prints after each line of it how
+//! much plaintext the reader holds. Tests say what it prints, and why it is refused; its contract,
+//! that it puts nothing.
 #![tactic(auto)]
 
 mod answers;

@@ -4,31 +4,32 @@ use age_command::{Ending, Usage};
 use age_fault::FileFault;
 use std::alloc::{AllocError, Global};
 
-/// The most bytes of a script.
+/// The greatest length of a script.
 pub(crate) const SCRIPT_MAX: usize = 1_048_576;
 
-/// The most lines of a script.
+/// The largest number of lines of a script.
 const LINES_MAX: usize = 1_000;
 
-/// What a line of a script asks for.
+/// A line of a script: one step of the drill.
 #[derive(Clone, Copy)]
 pub(crate) enum ScriptLine {
-    /// To deliver this many bytes of the payload, from this one on.
+    /// A delivery of `len` bytes of the payload, from `offset` on.
     Piece { offset: usize, len: usize },
-    /// To invert all bits of this byte of the payload.
+    /// An inversion of all bits of a byte of the payload.
     Flip { offset: usize },
-    /// To end the input.
+    /// The end of the input.
     End,
-    /// To start again at this chunk.
+    /// A restart at this chunk.
     Restart { index: u64 },
 }
 
-/// Whether a script has more lines than a drill takes. What follows the last LF is a line too.
+/// Returns whether a script has more lines than a drill takes. What follows the last LF is a line
+/// too.
 pub(crate) fn has_too_many_lines(script: &[u8]) -> bool {
     script.split_inclusive(|b| *b == b'\n').count() > LINES_MAX
 }
 
-/// The text of a line, with its LF.
+/// Returns the text of a line, with its LF.
 fn text_of(alloc: Global, line: ScriptLine) -> Result<String, AllocError> {
     match line {
         ScriptLine::Piece { offset, len } => format!(in alloc; "piece {offset} {len}\n"),
@@ -38,7 +39,7 @@ fn text_of(alloc: Global, line: ScriptLine) -> Result<String, AllocError> {
     }
 }
 
-/// The numbers of a piece.
+/// Parses the numbers of a piece.
 fn piece(numbers: &str) -> Option<ScriptLine> {
     let (offset, len) = numbers.split_once(' ')?;
     match (offset.parse::<usize>(), len.parse::<usize>()) {
@@ -47,7 +48,7 @@ fn piece(numbers: &str) -> Option<ScriptLine> {
     }
 }
 
-/// A word and its numbers, however these are written.
+/// Parses a word and its numbers, however these are written.
 fn read_words(word: &str, numbers: &str) -> Option<ScriptLine> {
     match word {
         "piece" => piece(numbers),
@@ -62,7 +63,7 @@ fn read_words(word: &str, numbers: &str) -> Option<ScriptLine> {
     }
 }
 
-/// What a line may ask for: it does if its text is written exactly so.
+/// Parses a line leniently. The line is valid only if the result prints as just this text.
 fn guess(line: &[u8]) -> Option<ScriptLine> {
     let text = std::str::from_utf8(line.strip_suffix(b"\n")?).ok()?;
     match text.split_once(' ') {
@@ -71,7 +72,7 @@ fn guess(line: &[u8]) -> Option<ScriptLine> {
     }
 }
 
-/// Whether a payload of this length has the bytes that a line asks for.
+/// Returns whether a payload of this length has the bytes that a line asks for.
 fn is_within(line: ScriptLine, payload_len: usize) -> bool {
     match line {
         ScriptLine::Piece { offset, len } => offset <= payload_len && len <= payload_len - offset,
@@ -80,7 +81,8 @@ fn is_within(line: ScriptLine, payload_len: usize) -> bool {
     }
 }
 
-/// Reads a line with its LF: words separated by one space, numbers without leading zeros.
+/// Parses a line with its LF: words separated by one space, numbers without leading zeros. Returns
+/// `None` if it is malformed or reaches past the payload.
 fn read_line(
     alloc: Global,
     line: &[u8],
@@ -97,7 +99,7 @@ fn read_line(
     }
 }
 
-/// The lines of a script for a payload of this length, or the first bad one.
+/// Parses a script for a payload of this length. Fails with the number of the first bad line.
 pub(crate) fn read_lines<'w>(
     alloc: Global,
     script: &[u8],

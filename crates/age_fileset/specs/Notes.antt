@@ -1,10 +1,10 @@
--- What a set of files notes of what is done with it.
+-- The log of a set of files.
 use Rattle.std.specs.Prelude.{List, [], ◌∷◌, ◌++◌, option_map}
 use Rattle.age_fileset.specs.FileSet.{Outcome, Found, Absent, Present, Gave, Settled, Put, Reading, created_as}
 use Rattle.age_fileset.specs.declared.log.Doing.{Doing}
 use Rattle.age_fileset.specs.declared.log.Doing.TheVariants as doing
 
--- what comes of it
+-- The outcomes of an entry of the log.
 abbrev came_of : Doing → List Outcome
 came_of (doing.Found missing name left size) =
     Found missing name.now (option_map (λ t. t.now) left) size ∷ []
@@ -18,6 +18,6 @@ came_of (doing.Gave name given is_at_end) =
 came_of (doing.Settled durability took size) = Settled durability took.now size ∷ []
 came_of (doing.Put name bytes) = Put name.now bytes.now ∷ []
 
--- what came by then, once this is done
+-- The outcomes in a log after one more entry.
 abbrev pub once_done : Doing → List Outcome → List Outcome
 once_done doing old = old ++ came_of doing

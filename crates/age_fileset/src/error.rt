@@ -1,5 +1,5 @@
-//! Faults of files, each with its context: which file, what was to be done with it, and what the
-//! system answered. Contracts see the fault alone.
+//! Errors of files, each a fault with its context: the file, the action that failed, and the error
+//! of the system.
 
 use crate::files::OpenFault;
 use age_fault::FileFault;
@@ -8,7 +8,7 @@ use age_options::ErrorContext;
 use std::alloc::AllocError;
 use std::marker::Model;
 
-/// A fault and its context.
+/// An error of a file: a fault and its context. Contracts see the fault alone.
 #[derive(Drop)]
 pub struct FileError<'w> {
     fault: FileFault,
@@ -27,35 +27,36 @@ impl<'w> FileError<'w> {
     ghost use Rattle.std.specs.Prelude.{◌≡◌};
     ghost use Rattle.age_fault.specs.{fault_number, fault_place};
 
-    /// Makes an error of a fault and its context.
+    /// Creates an error of a fault and its context.
     pub fn new(fault: FileFault, context: ErrorContext<'w>) -> FileError<'w>
         ensures { result ≡ fault }
     {
         FileError { fault, context }
     }
 
-    /// Returns the fault.
+    /// Returns the fault, without its context.
     pub fn fault(&self) -> FileFault
         ensures { result ≡ self.now }
     {
         self.fault
     }
 
-    /// Returns the fault's number in the list of all faults.
+    /// Returns the fault's number in the list of all faults (docs/FAULTS.md).
     pub fn number(&self) -> u8
         ensures { result ≡ fault_number self.now }
     {
         self.fault.number()
     }
 
-    /// Returns the line of a header's fault, from 1, or the chunk of a payload's, from 0.
+    /// Returns the line of a header's fault, from 1, or the chunk of a payload's, from 0, or `None`
+    /// for a fault without either.
     pub fn place(&self) -> Option<u64>
         ensures { result ≡ fault_place self.now }
     {
         self.fault.place()
     }
 
-    /// Returns what it is about.
+    /// Returns the context of the fault: the file, and the error of the system.
     pub fn context(&self) -> ErrorContext<'w> {
         self.context
     }
@@ -93,7 +94,8 @@ impl<'w> From<FileFault> for FileError<'w> {
     }
 }
 
-/// Why a file could not be opened, prepared or created, and the context of that.
+/// An error of opening, preparing or creating a file, with its context. Contracts see the fault
+/// alone.
 #[derive(Drop)]
 pub struct OpenError<'w> {
     fault: OpenFault,
@@ -113,7 +115,7 @@ impl<'w> OpenError<'w> {
     ghost use Rattle.age_fileset.specs.FileSet.{open_fault_number, open_fault_place};
     ghost use Rattle.age_fileset.specs.declared.files.OpenFault.TheVariants.{SameFile, Fault};
 
-    /// Makes an error of a fault and its context.
+    /// Creates an error of a fault and its context.
     pub fn new(fault: FileFault, context: ErrorContext<'w>) -> OpenError<'w>
         ensures { result ≡ Fault fault }
     {
@@ -123,7 +125,8 @@ impl<'w> OpenError<'w> {
         }
     }
 
-    /// Refuses two names of one file or stream; only one, if the other isn't known.
+    /// Creates the error that two names are one file or stream. `other` is `None` if only one name
+    /// is known.
     pub fn same_file(one: &'w str, other: Option<&'w str>) -> OpenError<'w>
         ensures { result ≡ SameFile }
     {
@@ -133,15 +136,15 @@ impl<'w> OpenError<'w> {
         }
     }
 
-    /// Returns why.
+    /// Returns the fault, or that two names are one file, without the context.
     pub fn fault(&self) -> OpenFault
         ensures { result ≡ self.now }
     {
         self.fault
     }
 
-    /// Returns the fault's number in the list of all faults; `None` if two names are one file, which
-    /// is a bad command line.
+    /// Returns the fault's number in the list of all faults (docs/FAULTS.md), or `None` if two
+    /// names are one file, which is a bad command line.
     pub fn number(&self) -> Option<u8>
         ensures { result ≡ open_fault_number self.now }
     {
@@ -151,7 +154,8 @@ impl<'w> OpenError<'w> {
         }
     }
 
-    /// Returns the line of a header's fault, from 1, or the chunk of a payload's, from 0.
+    /// Returns the line of a header's fault, from 1, or the chunk of a payload's, from 0, or `None`
+    /// for an error without either.
     pub fn place(&self) -> Option<u64>
         ensures { result ≡ open_fault_place self.now }
     {
@@ -161,7 +165,7 @@ impl<'w> OpenError<'w> {
         }
     }
 
-    /// Returns what it is about.
+    /// Returns the context of the error: the file, and the error of the system.
     pub fn context(&self) -> ErrorContext<'w> {
         self.context
     }

@@ -1,4 +1,4 @@
-//! Files by their names.
+//! A set of files by their names.
 
 ghost use Rattle.std.specs.Prelude.{◌≡◌, ◌↔◌, ℕ, [], ◌∷◌, Option, IfOk, IfErr, IfSome, Some, ◌≤◌, ◌++◌};
 ghost use Rattle.std.specs.Prelude.{length, IsSomeAnd, IsOkUnless, true};
@@ -12,42 +12,42 @@ use age_io::{Sink, Source};
 use age_options::{ClobberOption, Durability, ErrorContext};
 use std::alloc::Global;
 
-/// Why a file could not be opened, prepared or created.
+/// The reason why a file could not be opened, prepared or created.
 #[derive(Clone, Copy, PartialEq, Eq)]
 pub enum OpenFault {
-    /// It is one of the files that were opened, prepared or created before, under whatever name,
-    /// and can't be used twice.
+    /// The file was opened, prepared or created before, under whatever name, and can't be used
+    /// twice.
     SameFile,
-    /// It can't be read (26) or written (27), or memory ran out (28).
+    /// The file can't be read (26) or written (27), or memory ran out (28).
     Fault(FileFault),
 }
 
-/// What a name stands for that has no file.
+/// The treatment of a name that has no file.
 #[derive(Clone, Copy, PartialEq, Eq)]
 pub enum Missing {
-    /// Nothing: it is refused with `Read` (26).
+    /// Opening the name fails with `Read` (26).
     Fails,
-    /// An empty file.
+    /// The name is read as an empty file.
     Empty,
 }
 
-/// What a file that is opened is for, by which a set may say what people should know meanwhile.
+/// The purpose of a file that is opened, by which a set may tell people what goes on.
 #[derive(Clone, Copy)]
 pub enum Purpose {
-    /// It holds a passphrase.
+    /// The file holds a passphrase.
     Passphrase,
-    /// It is an earlier output, which is copied before the input is read on, and people want to see
-    /// how far that is.
+    /// The file is an earlier output, which is copied before the input is read on. People want to
+    /// see how far the copy is.
     ShownCopy,
-    /// Any other.
+    /// The file has any other purpose.
     Input,
 }
 
-/// Files by their names.
+/// A set of files by their names, such as those of a system or files in memory.
 ///
-/// A name is opaque: only the set interprets it, and may keep it for as long as `'w`. What contracts
-/// see is noted as it is done: what was to be done in order, and what came of it. An implementation
-/// has to keep more than its contracts say:
+/// A name is opaque: only the set interprets it, and may keep it for as long as `'w`. A set notes
+/// for contracts, in order, what was to be done and what came of it. An implementation has to keep
+/// more than its contracts say:
 /// - `create` doesn't change an existing file. Its bytes are replaced by the first put that takes
 ///   some, or by `close`; from then on others may see them. It makes no file either: the first put
 ///   of some bytes does, or the flush, and fails if that can't be done;
@@ -66,22 +66,22 @@ pub trait FileSet<'w> {
     /// A file that is written. Its label is the name under which it was created.
     type Out: Sink;
 
-    // What contracts see of a set: what was done, and what came of it.
+    // A set as contracts see it: what was done, and what came of it.
     ghost view: { Self → FilesView };
 
-    // How many bytes a file that is read has to give, if the set can say.
+    // The number of bytes that a file that is read has to give, if the set can say.
     ghost size: { Self.In → Option ℕ };
 
-    // Which regular file of a disk a file that is written is, if it is one.
+    // The regular file behind a file that is written, if there is one on a disk.
     ghost file: { Self.Out → Option OutFile };
 
-    /// Whether two names stand for one file. Equal names do.
+    /// Returns whether two names stand for one file. Equal names do.
     fn is_same(&mut self, one: &'w str, other: &'w str) -> bool
         ensures same { view self.new ≡ view self.old };
 
-    /// Refuses with [`SameFile`](OpenFault::SameFile) if two of the names stand for one stream. A
-    /// stream gives each of its bytes once: a pipe, a socket or a terminal, or standard input,
-    /// whatever it is. The call opens nothing. It refuses with `Memory` (28) too.
+    /// Fails with [`SameFile`](OpenFault::SameFile) if two of the names stand for one stream: a
+    /// pipe, a socket or a terminal, or standard input, whatever it is. A stream gives each of its
+    /// bytes once. Fails with `Memory` (28) too. Opens nothing.
     fn check_streams(
         &mut self,
         alloc: Global,
@@ -90,7 +90,7 @@ pub trait FileSet<'w> {
         ensures same { view self.new ≡ view self.old }
         ensures faults { IfErr result (OpenFails FileFault.Memory) };
 
-    /// Opens a file for reading. Refuses with `Read` (26) if it can't be opened, or if it doesn't
+    /// Opens a file for reading. Fails with `Read` (26) if it can't be opened, or if it doesn't
     /// exist and `missing` says so; with `Memory` (28); and with [`SameFile`](OpenFault::SameFile)
     /// if it is a stream that was opened before.
     fn open(
@@ -106,27 +106,29 @@ pub trait FileSet<'w> {
         ensures named { IfOk result (λ s. (Self.In.view s).label ≡ name.now) }
         ensures faults { IfErr result (OpenFails FileFault.Read) };
 
-    /// How many bytes a file that was opened still has to give; `None` if the set can't say, as for
-    /// a pipe or a terminal.
+    /// Returns how many bytes an opened file still has to give, or `None` if the set can't say, as
+    /// for a pipe or a terminal.
     fn length(&self, source: &Self::In) -> Option<u64>
         ensures noted { result ≡ size source.now }
         ensures seen { IfSome (Self.In.view source.now).supply.left
             (λ bytes. result ≡ Some (length bytes)) };
 
-    /// The reading of a file that was opened is over: contracts see from now on what it gave. They
-    /// don't see it for a source that is dropped. Returns how much it gave, or why a pull has failed.
+    /// Ends the reading of an opened file. Returns how much it gave, or why a read has failed.
+    /// Contracts see from now on what it gave, which they don't for a source that is dropped.
     fn close_input(&mut self, source: Self::In) -> ErrorContext<'w>
         ensures over { view self.new
             ≡ with_outcomes (Gave (reading_of (Self.In.view source)) ∷ []) (view self.old) }
         ensures does { Does (view self.old) (view self.new) };
 
-    /// Prepares for a file to be replaced later, once the files to be read are open: checks that it
-    /// can be, and may make room for that beside it. Refuses with `Write` (27) if it can't, with
-    /// `Memory` (28), and with [`SameFile`](OpenFault::SameFile) if it was opened or created before,
-    /// unless it is the file of `spared`, or if one of the `others` would be where the room is, whether
-    /// that exists or not. If `clobber` refuses an existing file that holds something, so does this
-    /// call, with `Write` (27), unless it is that of `spared`. A file that is created after this is
-    /// refused if it is the prepared one. The room is on the disk then, if it is to be.
+    /// Checks that a file can be replaced later, once the files to be read are open, and may make a
+    /// temporary file beside it. That file is on the disk then, if `durability` asks for it. Fails
+    /// with `Write` (27) if the file can't be replaced, and with `Memory` (28).
+    ///
+    /// Fails with [`SameFile`](OpenFault::SameFile) if the file was opened or created before,
+    /// unless it is that of `spared`, or if one of the `others` is at the path of the temporary
+    /// file, whether it exists or not. If `clobber` refuses existing files, fails with `Write` (27)
+    /// for one that holds something, unless it is that of `spared`. From now on `create` refuses
+    /// the prepared file.
     fn prepare(
         &mut self,
         alloc: Global,
@@ -139,12 +141,13 @@ pub trait FileSet<'w> {
         ensures same { view self.new ≡ view self.old }
         ensures faults { IfErr result (OpenFails FileFault.Write) };
 
-    /// Opens a file to be written, which need not exist yet. Refuses with `Write` (27) if it can't be
+    /// Opens a file to be written, which need not exist yet. Fails with `Write` (27) if it can't be
     /// opened, or if it can be seen that no file can be made there; with `Memory` (28); and with
-    /// [`SameFile`](OpenFault::SameFile) if it was opened, prepared or created before. The disk is
-    /// waited for while it is written, if it is to be, so that the end needn't wait long.
+    /// [`SameFile`](OpenFault::SameFile) if it was opened, prepared or created before. If
+    /// `durability` asks for a sync, the file is synced while it is written too, so that `close`
+    /// needn't wait long.
     ///
-    /// If `clobber` refuses an existing file, so does this call, with `Write` (27), also one that
+    /// If `clobber` refuses existing files, fails with `Write` (27) for one, also for one that
     /// exists by the time the file is made. It is left unchanged, and no link is followed.
     fn create(
         &mut self,
@@ -159,52 +162,53 @@ pub trait FileSet<'w> {
         ensures named { IfOk result (λ o. (Self.Out.view o).taken.label ≡ name.now) }
         ensures faults { IfErr result (OpenFails FileFault.Write) };
 
-    /// Refuses anything that has the name, even a link, with `Write` (27), as `create` would if
-    /// existing files are refused. It changes nothing, and is called before work that takes long; by
-    /// the end of that, something may have the name.
+    /// Fails with `Write` (27) if anything has the name, even a link, as `create` does if existing
+    /// files are refused. Changes nothing. It is called before work that takes long; by the end of
+    /// that, something may have the name.
     fn check_absent(&mut self, name: &'w str) -> Result<(), OpenError<'w>>
         ensures same { view self.new ≡ view self.old }
         ensures faults { IfErr result (OpenFails FileFault.Write) };
 
-    /// Whether nothing has the name, not even a link. If it can't be looked at, something may have
-    /// it.
+    /// Returns whether nothing has the name, not even a link. Returns `false` if that can't be
+    /// looked at.
     fn is_absent(&mut self, name: &'w str) -> bool
         ensures { view self.new ≡ with_outcomes (looked_as name.now result) (view self.old) };
 
-    /// Whether a file that was created is standard error's, which the lines of progress and of
-    /// faults go to.
+    /// Returns whether a created file is that of standard error, to which the lines of progress and
+    /// of faults go.
     fn is_for_faults(&mut self, out: &Self::Out) -> bool
         ensures same { view self.new ≡ view self.old };
 
-    /// Whether a file that was created is a terminal. No regular file of a disk is one.
+    /// Returns whether a created file is a terminal. No regular file of a disk is one.
     fn is_terminal(&mut self, out: &Self::Out) -> bool
         ensures same { view self.new ≡ view self.old };
 
-    /// Whether a file that was created has taken no byte so far.
+    /// Returns whether a created file has taken no byte so far.
     fn is_empty(&self, out: &Self::Out) -> bool
         ensures { result ≡ true ↔ ((Self.Out.view out.now).taken.bytes ≡ []) };
 
-    /// Why a put or a flush of a file that was created has failed, if one has.
+    /// Returns why a put or a flush of a created file has failed, if one has.
     fn reason(&self, out: &Self::Out) -> ErrorContext<'w>;
 
-    /// How many bytes of those that a sink took its file certainly holds, on the disk if that is
-    /// asked for and the machine can wait. It is never more than the sink took.
+    /// Returns how many of the bytes that a sink took its file certainly holds: on the disk, if
+    /// `durability` asks for that and the file system can sync. Waits for the sync. Never more than
+    /// the sink took.
     fn settle(&mut self, out: &mut Self::Out, durability: Durability) -> u64
         ensures noted { view self.new ≡ with_outcomes
             (Settled durability (Self.Out.view out.old).taken.bytes result ∷ []) (view self.old) }
         ensures same { Self.Out.view out.new ≡ Self.Out.view out.old }
         ensures most { result ≤ length (Self.Out.view out.old).taken.bytes };
 
-    /// The same, by what is already known: nothing is waited for, and no failure is consumed that
-    /// `close` is to find.
+    /// Returns how many bytes a file certainly holds, like [`settle`](FileSet::settle), but without
+    /// waiting, by what earlier syncs have shown. Leaves a failure for `close` to report.
     fn settled_so_far(&mut self, out: &Self::Out, durability: Durability) -> u64
         ensures noted { view self.new ≡ with_outcomes
             (Settled durability (Self.Out.view out.now).taken.bytes result ∷ []) (view self.old) }
         ensures most { result ≤ length (Self.Out.view out.now).taken.bytes };
 
-    /// Ends a file that was created, with exactly the bytes that its sink took, in place of what it
-    /// held, and waits until they have reached the disk if that is asked for and the machine can
-    /// wait. Refuses with `Write` (27); the file is then as the calls that succeeded left it.
+    /// Ends a created file with exactly the bytes that its sink took, in place of what it held, and
+    /// syncs it if `durability` asks for that and the file system can. Fails with `Write` (27); the
+    /// file is then as the calls that succeeded left it.
     fn close(&mut self, out: Self::Out, durability: Durability) -> Result<(), FileError<'w>>
         ensures noted { (view self.new).outcomes ≡ (view self.old).outcomes
             ++ put_as (Self.Out.view out).taken.label (Self.Out.view out).taken.bytes result }
@@ -212,17 +216,18 @@ pub trait FileSet<'w> {
             (Closes durability (file out) (Self.Out.view out) result) }
         ensures faults { IsOkUnless result FileFault.Write };
 
-    /// Ends a file that was created and into which nothing was put: it is unchanged. One that was made
-    /// by a put that failed is removed, if it can be, also on the disk if that is asked for.
+    /// Ends a created file into which nothing was put, and leaves it unchanged. If a put that
+    /// failed has made the file, removes it, if that is possible, also on the disk if `durability`
+    /// asks for that.
     fn discard(&mut self, out: Self::Out, durability: Durability)
         requires none { (Self.Out.view out).taken.bytes ≡ [] }
         ensures noted { (view self.new).outcomes ≡ (view self.old).outcomes }
         ensures discarded { IsSomeAnd (view self.new).ended
             (Discards (file out) (Self.Out.view out)) };
 
-    /// Makes a file of these bytes, and waits for the disk as `close` does. An existing one is
-    /// replaced atomically if its folder lets a new one be made beside it; otherwise it is written
-    /// directly. Refuses with `Write` (27) and with `Memory` (28); a file that is written directly
+    /// Makes a file of these bytes, and syncs it as `close` does. An existing file is replaced
+    /// atomically, if its folder lets a temporary file be made beside it; otherwise it is written
+    /// in place. Fails with `Write` (27) and with `Memory` (28); a file that is written in place
     /// may hold a part of the bytes then.
     fn replace(
         &mut self,

@@ -1,4 +1,4 @@
-//! What came of a set of files, for contracts alone.
+//! The log of a set of files, for contracts: what came of each call.
 
 ghost use Rattle.std.specs.Prelude.{◌≡◌, List, []};
 ghost use Rattle.age_fileset.specs.FileSet.{Outcome};
@@ -9,36 +9,37 @@ use age_io::{Seen, Shows, Tape};
 use age_options::{ClobberOption, Durability};
 use std::marker::Model;
 
-/// What comes of a set of files.
+/// An entry of the log of a set of files.
 #[derive(Clone, Copy)]
 pub enum Doing<'a> {
-    /// A file was opened under this name, or an empty one if a missing one counts so. It has this
-    /// to give, if contracts see that, and so many bytes, if the set can say.
+    /// A file was opened under this name, or an empty one if a missing one counts so. The tape is
+    /// what it has to give, if contracts see that, and the number its length, if the set can say.
     Found(Missing, &'a str, Option<&'a Tape>, Option<u64>),
-    /// A file was created under this name: no file had it, if an existing one was to be refused.
+    /// A file was created under this name. No file had the name, if an existing one was to be
+    /// refused.
     Created(ClobberOption, &'a str),
     /// No file had this name.
     Absent(&'a str),
     /// Something had this name, or may have had it.
     Present(&'a str),
-    /// The reading of a file that was opened under this name is over: it gave these bytes. Also,
-    /// whether the last pull that did not fail found its end.
+    /// The reading of the file with this name is over, and it gave these bytes. The flag says
+    /// whether the last read that did not fail found its end.
     Gave(&'a Tape, &'a Tape, bool),
     /// An output that took these bytes holds so many of them for certain: on the disk, if that was
     /// asked for.
     Settled(Durability, &'a Tape, u64),
-    /// These bytes were put under this name, in place of its old contents.
+    /// A file of this name was given these bytes, in place of its old contents.
     Put(&'a Tape, &'a Tape),
 }
 
-/// Nothing so far, or one more.
+/// A log to be kept: empty, or a known one and one entry more.
 #[derive(Clone, Copy)]
 enum Note<'a, 'b> {
     Nothing,
     More(&'a Seen<AllDone>, Doing<'b>),
 }
 
-/// All that was done, as contracts see it. No code makes one.
+/// A list of entries, as contracts see it. No value of it exists.
 #[derive(Drop)]
 struct AllDone {}
 
@@ -56,7 +57,7 @@ impl Shows<AllDone> for Note<'_, '_> {
     ghost shows = { outcomes_of };
 }
 
-/// What came of a set of files, in order, for contracts alone. It has no bytes at run time.
+/// The log of a set of files: what came of each call, in order. Ghost: no bytes at run time.
 #[derive(Drop)]
 pub struct Log {
     seen: Seen<AllDone>,
@@ -73,7 +74,7 @@ impl Model for Log {
 impl Log {
     ghost use Rattle.age_fileset.specs.Notes.{once_done};
 
-    /// Nothing was done so far.
+    /// Creates an empty log.
     pub fn new() -> Log
         ensures { result ≡ [] }
     {
@@ -82,7 +83,7 @@ impl Log {
         }
     }
 
-    /// This was done, or came of it.
+    /// Appends an entry to the log.
     pub fn note(&mut self, doing: Doing<'_>)
         ensures { self.new ≡ once_done doing.entry self.old }
     {

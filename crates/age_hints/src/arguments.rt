@@ -1,10 +1,10 @@
-//! What the command line gives, by the names of its options and operands.
+//! The files and keys that a command line gives, by the names of its options and operands.
 
 use age_cli_args::{Decrypting, IdentityOptions, Request};
 use age_options::ClobberOption;
 use std::fmt::{self, Display, Formatter};
 
-/// What the command line gives to the options that take a file or a key, and to the operands.
+/// The values of the options that take a file or a key, and of the operands.
 #[derive(Clone, Copy)]
 pub(crate) struct Arguments<'w> {
     pub(crate) pass: Option<&'w str>,
@@ -34,7 +34,7 @@ const ROLES: [&str; 10] = [
 ];
 
 impl<'w> Arguments<'w> {
-    /// Returns those of a command without any.
+    /// Returns the arguments of a command without any.
     fn none() -> Arguments<'w> {
         Arguments {
             pass: None,
@@ -50,7 +50,7 @@ impl<'w> Arguments<'w> {
         }
     }
 
-    /// Returns those of a command.
+    /// Returns the arguments of a command.
     pub(crate) fn of(asked: &Request<'w>) -> Arguments<'w> {
         let none = Arguments::none();
         match *asked {
@@ -80,7 +80,7 @@ impl<'w> Arguments<'w> {
         }
     }
 
-    /// Returns those of a decryption.
+    /// Returns the arguments of a decryption.
     fn of_decryption(asked: &Decrypting<'w>) -> Arguments<'w> {
         Arguments {
             pass: asked.identity.pass,
@@ -93,7 +93,7 @@ impl<'w> Arguments<'w> {
         }
     }
 
-    /// Returns them in the order of [`ROLES`].
+    /// Returns the arguments in the order of [`ROLES`].
     fn in_order(&self) -> [Option<&'w str>; 10] {
         [
             self.pass,
@@ -109,18 +109,18 @@ impl<'w> Arguments<'w> {
         ]
     }
 
-    /// Whether one of them is this.
+    /// Returns whether one of the arguments is this name.
     pub(crate) fn have(&self, name: &str) -> bool {
         self.in_order().iter().any(|it| *it == Some(name))
     }
 
-    /// Whether one says what opens a file.
+    /// Returns whether one of the arguments is an identity option.
     pub(crate) fn have_key(&self) -> bool {
         self.pass.is_some() || self.file_key.is_some() || self.shared.is_some()
     }
 }
 
-/// Shows the options and operands that are given this name.
+/// The options and operands with this name, displayed by their own names.
 #[derive(Clone, Copy)]
 pub(crate) struct Roles<'w> {
     pub(crate) arguments: Arguments<'w>,
@@ -141,7 +141,7 @@ impl<'w> Display for Roles<'w> {
     }
 }
 
-/// Whether an existing output is refused.
+/// Returns whether an existing output is refused.
 pub(crate) fn keeps_outputs(asked: &Request<'_>) -> bool {
     let clobber = match *asked {
         Request::Encrypt(it) => it.paths.clobber,
@@ -152,7 +152,7 @@ pub(crate) fn keeps_outputs(asked: &Request<'_>) -> bool {
     clobber == ClobberOption::Refused
 }
 
-/// Whether the command line limits the work factor, and gives a key that has none.
+/// Returns whether the command line limits the work factor, and gives a key that has none.
 pub(crate) fn has_idle_limit(asked: &Request<'_>) -> bool {
     match *asked {
         Request::Decrypt(it) => is_idle(&it.identity),

@@ -1,4 +1,4 @@
-//! Why a command isn't done, and what may surprise.
+//! The lines after a run: why a command isn't done, and what may surprise.
 
 use crate::fault::explain_fault;
 use crate::position::{explain_position, explain_unsaved};
@@ -10,22 +10,22 @@ use age_fileset::ErrorContext;
 use age_messages::Notes;
 use std::rt::HostRuntime;
 
-/// What a run was asked, and what is to be said of its files and streams.
+/// The request of a run, and what is to be told of its files and streams.
 #[derive(Clone, Copy)]
 pub struct RunContext<'w> {
-    /// What it was asked.
+    /// The request: a command with its arguments.
     pub asked: Request<'w>,
-    /// What may surprise in its files.
+    /// The notes on what may surprise in the files.
     pub notes: Notes<'w>,
-    /// How much standard input gave, or why it failed.
+    /// The number of bytes that standard input gave, or why it failed.
     pub input: ErrorContext<'w>,
-    /// Why standard output failed.
+    /// The failure of standard output, if it failed.
     pub output: ErrorContext<'w>,
 }
 
-/// Says on standard error why a command isn't done, if it isn't, and what to do, in one line; whether
-/// a position was saved; or what is wrong with what was asked. Then, however it ended, what may
-/// surprise.
+/// Prints on standard error what people should know of a run: why its command isn't done, if it
+/// isn't, and what to do, in one line; whether a position was saved; and then what may surprise,
+/// however the run ended.
 pub fn explain<'w>(rt: &HostRuntime, ending: Option<&Ending<'w>>, run: &RunContext<'w>) {
     match ending {
         None => explain_work_factor(rt, run),
@@ -46,7 +46,7 @@ pub fn explain<'w>(rt: &HostRuntime, ending: Option<&Ending<'w>>, run: &RunConte
     }
 }
 
-/// Whether the passphrase's file was refused.
+/// Returns whether the passphrase file was refused.
 fn is_about_passphrase(ending: Option<&Ending<'_>>) -> bool {
     match ending {
         Some(Ending::Usage(error)) => error.usage() == Usage::BadPassphraseFile,

@@ -1,4 +1,4 @@
-//! What the system answered when something couldn't be done with a file, in a line.
+//! The line about a failed action on a file, with the system's message.
 
 use age_messages::{Escaped, Leading};
 use age_options::{Action, Failure};
@@ -6,7 +6,7 @@ use arrayvec::ArrayString;
 use std::fmt::{self, Formatter, Write};
 use std::io;
 
-/// The words before the file's name, and those after it.
+/// Returns the words before the file's name, and those after it.
 fn words_of(action: Action) -> (&'static str, &'static str) {
     match action {
         Action::Open => ("open ", ""),
@@ -18,7 +18,7 @@ fn words_of(action: Action) -> (&'static str, &'static str) {
     }
 }
 
-/// The line of a failure.
+/// A failed action on a file, displayed in a line.
 #[derive(Clone, Copy)]
 pub(crate) struct FailureLine<'w>(pub(crate) Failure<'w>);
 
@@ -40,7 +40,7 @@ impl<'w> fmt::Display for FailureLine<'w> {
     }
 }
 
-/// The system's words for a kind that std names in its own words.
+/// Returns the system's words for a kind that `std` names in its own words.
 fn kind_text(kind: io::ErrorKind) -> Option<&'static str> {
     match kind {
         io::ErrorKind::NotFound => Some("No such file or directory"),
@@ -55,7 +55,7 @@ fn kind_text(kind: io::ErrorKind) -> Option<&'static str> {
     }
 }
 
-/// What the system says, without the number that std puts after it.
+/// Shows the system's message, without the number that `std` puts after it.
 fn show_error<W: fmt::Write>(error: io::Error, f: &mut Formatter<W>) -> fmt::Result {
     if error.raw_os_error().is_none()
         && let Some(text) = kind_text(error.kind())

@@ -1,4 +1,4 @@
-//! Why a run stopped, and what to do.
+//! The line about a fault: why a run stopped, and what to do.
 
 use crate::arguments::Arguments;
 use crate::ending::RunContext;
@@ -13,7 +13,8 @@ use std::fmt::{self, Display, Formatter};
 use std::io::{self, Eprint};
 use std::rt::HostRuntime;
 
-/// Finds what a fault is about: what it says, or else the standard stream that it comes from.
+/// Returns the context of a fault: its own, or else that of the standard stream from which it
+/// comes.
 fn find_context<'w>(error: &FileError<'w>, run: &RunContext<'w>) -> ErrorContext<'w> {
     match (error.context(), error.fault()) {
         (ErrorContext::Failed(failure), _) => ErrorContext::Failed(failure),
@@ -23,7 +24,7 @@ fn find_context<'w>(error: &FileError<'w>, run: &RunContext<'w>) -> ErrorContext
     }
 }
 
-/// Says in one line what the system answered, or else what is wrong with which file, and what to do.
+/// Prints in one line the system's message, or else what is wrong with which file, and what to do.
 pub(crate) fn explain_fault<'w>(rt: &HostRuntime, error: &FileError<'w>, run: &RunContext<'w>) {
     let fault = error.fault();
     match (fault, find_context(error, run)) {
@@ -37,7 +38,7 @@ pub(crate) fn explain_fault<'w>(rt: &HostRuntime, error: &FileError<'w>, run: &R
     }
 }
 
-/// Says what is wrong with a file's content, and what to do; or which memory isn't to be had.
+/// Prints what is wrong with a file's content, and what to do, or how much memory isn't to be had.
 fn explain_content<'w>(
     rt: &HostRuntime,
     fault: FileFault,
@@ -60,7 +61,7 @@ fn explain_content<'w>(
     }
 }
 
-/// Shows the file that a line is about, if there is one, and a colon.
+/// A file that a line is about, displayed with a colon, or nothing if there is no file.
 #[derive(Clone, Copy)]
 struct About<'w>(Option<&'w str>);
 
@@ -76,7 +77,7 @@ impl<'w> Display for About<'w> {
     }
 }
 
-/// Finds the file that a fault is about.
+/// Returns the file that a fault is about, if it is about one.
 fn find_file<'w>(
     number: u8,
     read: Option<ReadSummary<'w>>,
@@ -90,7 +91,7 @@ fn find_file<'w>(
     }
 }
 
-/// Finds the work factor that a line about a fault names, if it does.
+/// Returns the work factor that the line about a fault names, if it names one.
 fn find_work(number: u8, read: Option<ReadSummary<'_>>, asked: &Request<'_>) -> Option<WorkFactor> {
     match (number, *asked) {
         (28, Request::Encrypt(it)) => Some(WorkFactor::Allowed(it.log.min(22) as u8)),
@@ -100,7 +101,7 @@ fn find_work(number: u8, read: Option<ReadSummary<'_>>, asked: &Request<'_>) -> 
     }
 }
 
-/// Says what is wrong with a file, where if the fault has a place, and what to do.
+/// Prints what is wrong with a file, at which line or chunk, and what to do.
 fn explain_file(rt: &HostRuntime, fault: FileFault, about: About<'_>, sentence: Sentence) {
     let (number, (what, to_do)) = (fault.number(), sentence);
     let _ = match find_place(fault) {
@@ -111,7 +112,7 @@ fn explain_file(rt: &HostRuntime, fault: FileFault, about: About<'_>, sentence: 
     };
 }
 
-/// Finds the line of the header, or the chunk of the payload, that a line about a fault names.
+/// Returns the line of the header, or the chunk of the payload, that the line about a fault names.
 fn find_place(fault: FileFault) -> Option<(&'static str, u64)> {
     match (fault.number(), fault.place()?) {
         (3..=6 | 8, line) if line > 1 => Some(("line", line)),
@@ -120,8 +121,8 @@ fn find_place(fault: FileFault) -> Option<(&'static str, u64)> {
     }
 }
 
-/// Says what memory a passphrase takes that isn't to be had; or which limit would do, if one would,
-/// for a file whose work factor is above the limit.
+/// Prints how much memory a passphrase takes that isn't to be had; or, for a file whose work factor
+/// is above the limit, which limit would do, if one would.
 fn explain_work(rt: &HostRuntime, number: u8, about: About<'_>, work: WorkFactor) {
     let _ = match work {
         _ if number == 28 => {
@@ -134,7 +135,7 @@ fn explain_work(rt: &HostRuntime, number: u8, about: About<'_>, work: WorkFactor
     };
 }
 
-/// Returns what follows what the system answered.
+/// Returns what to add to the system's message.
 fn more_of_failure(failure: Failure<'_>, asked: &Request<'_>) -> &'static str {
     let (kind, name) = (failure.error.kind(), Some(failure.name));
     let arguments = Arguments::of(asked);
@@ -161,7 +162,7 @@ fn more_of_failure(failure: Failure<'_>, asked: &Request<'_>) -> &'static str {
     }
 }
 
-/// Whether an answer is about the folder in which a file was to be made.
+/// Returns whether an error is about the folder in which a file was to be made.
 fn is_of_folder(kind: io::ErrorKind) -> bool {
     matches!(
         kind,

@@ -1,8 +1,8 @@
-//! What `help N` and `help NAME` answer.
+//! The answers of `help N` and `help NAME`.
 
 use crate::faults::{LAST_FAULT, row_of};
 
-/// Finds what a fault means, if the words are `help N` or `help NAME`.
+/// Returns the text about a fault, if the words are `help N` or `help NAME`.
 pub fn find_row(words: &[&str]) -> Option<&'static str> {
     match words {
         ["help", word] => find_fault(*word),
@@ -10,7 +10,7 @@ pub fn find_row(words: &[&str]) -> Option<&'static str> {
     }
 }
 
-/// Finds what the fault of this number or name means.
+/// Returns the text about the fault of this number or name, if there is one.
 pub(crate) fn find_fault(word: &str) -> Option<&'static str> {
     if let Ok(number) = word.parse::<u8>() {
         let (_, text) = row_of(number)?;

@@ -1,9 +1,9 @@
-//! What people read after a run: what its fault means and what to do, what the system answered, and
-//! what may surprise; what they read about words that are refused; and the help on a fault.
+//! Messages for people after a run: what its fault means and what to do, what the system answered,
+//! and what may surprise; the messages about words that are refused; and the help on a fault.
 //!
-//! `explain` says how a run ended, by its `Ending`, and `explain_refusal` why words are refused, by the
-//! kind of the parser's error and the table of the commands. Only the program uses this crate, so
-//! changing a sentence needs no proof except its own and the program's.
+//! [`explain`] prints how a run ended, by its `Ending`, and [`explain_refusal`] why words are
+//! refused, by the kind of the parser's error and the table of the commands. Only the program uses
+//! this crate, so changing a sentence needs no proof except its own and the program's.
 #![tactic(auto)]
 
 mod arguments;

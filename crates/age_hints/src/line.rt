@@ -4,7 +4,8 @@ use crate::quoted::Quoted;
 use age_messages::Leading;
 use std::fmt::{self, Display, Formatter};
 
-/// Shows the file that a line is about, with which it begins. Standard input has no name.
+/// A file at the beginning of the line about it, displayed by its name. Standard input has the
+/// empty name.
 #[derive(Clone, Copy)]
 pub(crate) struct File<'a>(pub(crate) &'a str);
 
@@ -18,7 +19,7 @@ impl<'a> Display for File<'a> {
     }
 }
 
-/// Shows a name for a shell, or the word that stands for it if no later command can open the file.
+/// A name for a shell, or the word in its place if no later command can open the file.
 #[derive(Clone, Copy)]
 pub(crate) struct Again<'a>(pub(crate) Option<&'a str>, pub(crate) &'static str);
 
@@ -31,7 +32,7 @@ impl<'a> Display for Again<'a> {
     }
 }
 
-/// Whether a name leads to a stream or a descriptor that only this run has.
+/// Returns whether a name leads to a stream or a descriptor that only this run has.
 fn is_of_this_run(name: &str) -> bool {
     name.starts_with("/dev/fd/")
         || name.starts_with("/proc/self/fd/")

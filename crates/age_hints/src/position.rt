@@ -1,4 +1,4 @@
-//! Whether a position was saved, and how to resume from it.
+//! The lines about a position: whether it was saved, and how to resume from it.
 
 use crate::arguments::{Arguments, keeps_outputs};
 use crate::ending::RunContext;
@@ -14,8 +14,8 @@ use std::io::Eprint;
 use std::os::unix::fs::FileTypeExt;
 use std::rt::HostRuntime;
 
-/// Says where the position was saved and how to resume from there, or that none was saved though
-/// that was asked for.
+/// Prints where the position was saved and how to resume from there, or that none was saved
+/// although `--save` was given.
 pub(crate) fn explain_position(rt: &HostRuntime, run: &RunContext<'_>) {
     let arguments = Arguments::of(&run.asked);
     let output = arguments.output.unwrap_or("");
@@ -37,13 +37,14 @@ pub(crate) fn explain_position(rt: &HostRuntime, run: &RunContext<'_>) {
     }
 }
 
-/// Whether a name is one of standard output.
+/// Returns whether a name is one of standard output.
 fn is_output_stream(name: &str) -> bool {
     name == "/dev/stdout" || name == "/dev/fd/1" || name == "/proc/self/fd/1"
 }
 
-/// Whether what was written there can be read again: not from a device that keeps nothing, nor from a
-/// pipe. (A position may belong to a file that wasn't made.)
+/// Returns whether what was written to a name can be read back: to a regular file or a block
+/// device, not to a pipe or another device. Returns `true` if the stat fails. (A position may
+/// belong to a file that wasn't made.)
 fn is_kept(rt: &HostRuntime, name: &str) -> bool {
     match fs::metadata(rt, name) {
         Ok(found) => found.is_file() || found.file_type().is_block_device(),
@@ -51,8 +52,8 @@ fn is_kept(rt: &HostRuntime, name: &str) -> bool {
     }
 }
 
-/// Says how to resume from a position that was saved, by a command for a shell. What the shell
-/// can't open later has a word in its place.
+/// Prints how to resume from a position that was saved, by a command for a shell. A word takes the
+/// place of what the shell can't open later.
 fn explain_resume(rt: &HostRuntime, saved: &str, asked: &Request<'_>) {
     let arguments = Arguments::of(asked);
     let (option, key) = key_again(&arguments);
@@ -75,8 +76,8 @@ fn explain_resume(rt: &HostRuntime, saved: &str, asked: &Request<'_>) {
     );
 }
 
-/// Returns what opens the file in a command that resumes: an option of this one, and its value. A file
-/// key isn't shown.
+/// Returns the identity option of a command that resumes, and its value: those of this command. A
+/// file key isn't shown.
 fn key_again<'w>(arguments: &Arguments<'w>) -> (&'static str, Again<'w>) {
     if arguments.pass.is_some() {
         ("--pass", Again(arguments.pass, "FILE"))
@@ -87,7 +88,7 @@ fn key_again<'w>(arguments: &Arguments<'w>) -> (&'static str, Again<'w>) {
     }
 }
 
-/// Says why a position couldn't be saved, and how to put it into another file.
+/// Prints why a position couldn't be saved, and how to put it into another file.
 pub(crate) fn explain_unsaved(rt: &HostRuntime, error: &UnsavedError<'_>) {
     if let ErrorContext::Failed(failure) = error.context()
         && error.fault() == FileFault::Write

@@ -8,12 +8,12 @@ use std::fmt::{self, Formatter};
 #[derive(Clone, Copy)]
 pub(crate) struct Quoted<'a>(pub(crate) &'a str);
 
-/// Whether a shell takes a character unquoted.
+/// Returns whether a shell takes a character unquoted.
 fn is_plain(c: char) -> bool {
     c.is_ascii_alphanumeric() || matches!(c, '_' | '-' | '.' | '/' | ':' | ',' | '+' | '@' | '%')
 }
 
-/// Whether a character can be shown between quotes.
+/// Returns whether a character can be shown between quotes.
 fn is_shown(c: char) -> bool {
     c == ' ' || c.is_ascii_graphic() || c.is_alphanumeric()
 }

@@ -1,5 +1,5 @@
-//! What people read about words that the parser of command lines refuses. The kind of the error says
-//! what is wrong, and the table of the commands which word it is: no text of the parser is read.
+//! Messages about words that the parser of command lines refuses. The kind of the error tells what
+//! is wrong, and the table of the commands which word it is: no text of the parser is read.
 
 use crate::faults::LAST_FAULT;
 use crate::help::find_fault;
@@ -16,11 +16,11 @@ use std::fs;
 use std::io::Eprint;
 use std::rt::HostRuntime;
 
-/// What begins a tip.
+/// The beginning of a tip.
 const TIP: &str = "\n\n  tip: ";
 
-/// Says on standard error why the parser refuses words, what to give in place of them, and the usage.
-/// What can't be shown of a word is shown by its code.
+/// Prints on standard error why the parser refuses the words, what to give in place of them, and
+/// the usage. A character that can't be shown is shown by its code.
 pub fn explain_refusal(rt: &HostRuntime, words: &[&str], error: &Error) -> Result<(), AllocError> {
     let mut text = String::from_str(rt.alloc(), "age_tool: ")?;
     let kind = error.kind();
@@ -47,7 +47,7 @@ fn push_usage(text: &mut String, kind: ErrorKind, usage: &str) -> Result<(), All
     text.push_str("\n\nFor more information, try '--help'.\n")
 }
 
-/// Says what is wrong with words whose first is no command.
+/// Appends what is wrong with words whose first is no command.
 fn push_refused_command(
     rt: &HostRuntime,
     text: &mut String,
@@ -69,7 +69,7 @@ fn push_refused_command(
     }
 }
 
-/// Says that a word is no command.
+/// Appends that a word is no command.
 fn push_no_command(rt: &HostRuntime, text: &mut String, word: &str) -> Result<(), AllocError> {
     if is_option(word) {
         push_unexpected(text, word)?;
@@ -80,12 +80,12 @@ fn push_no_command(rt: &HostRuntime, text: &mut String, word: &str) -> Result<()
     push_command_tip(rt.alloc(), text, word)
 }
 
-/// Whether there is help on a command or a fault of this name.
+/// Returns whether there is help on a command or a fault of this name.
 fn is_topic(word: &str) -> bool {
     find_command(word).is_some() || find_fault(word).is_some()
 }
 
-/// Says what is wrong with the words after a command.
+/// Appends what is wrong with the words after a command.
 fn push_refused_word(
     rt: &HostRuntime,
     text: &mut String,
@@ -112,13 +112,13 @@ fn push_refused_word(
     }
 }
 
-/// Says that a word isn't expected, before a tip.
+/// Appends that a word isn't expected, before a tip.
 fn push_unexpected(text: &mut String, word: &str) -> Result<(), AllocError> {
     let shown = Escaped(word.as_bytes());
     write!(text, "unexpected argument '{shown}'{TIP}")
 }
 
-/// Says what is wrong with an argument that the command has.
+/// Appends what is wrong with an argument that the command has.
 fn push_wrong(
     text: &mut String,
     kind: ErrorKind,
@@ -144,7 +144,7 @@ fn push_wrong(
     }
 }
 
-/// Finds the first word that the parser refuses by an error of this kind.
+/// Returns the first word that the parser refuses by an error of this kind.
 fn find_refused<'w>(kind: ErrorKind, found: &[Word<'w>]) -> Option<Word<'w>> {
     for (i, word) in found.iter().enumerate() {
         if is_refused(kind, word, found.get(..i).unwrap_or(&[])) {
@@ -154,7 +154,7 @@ fn find_refused<'w>(kind: ErrorKind, found: &[Word<'w>]) -> Option<Word<'w>> {
     None
 }
 
-/// Whether a word is refused by an error of this kind, after these found.
+/// Returns whether a word is refused by an error of this kind, after the words before it.
 fn is_refused(kind: ErrorKind, word: &Word<'_>, before: &[Word<'_>]) -> bool {
     match (kind, *word) {
         (ErrorKind::UnknownArgument, Word::Unknown(_) | Word::Extra(_)) => true,
@@ -170,12 +170,12 @@ fn is_refused(kind: ErrorKind, word: &Word<'_>, before: &[Word<'_>]) -> bool {
     }
 }
 
-/// Whether a text is a number from 1 to 22.
+/// Returns whether a text is a number from 1 to 22.
 fn is_work_factor(text: &str) -> bool {
     matches!(text.parse::<u32>(), Ok(1..=22))
 }
 
-/// The form in which an argument is given.
+/// An argument, displayed as it is given on the command line.
 #[derive(Clone, Copy)]
 struct Form(&'static Argument);
 
@@ -192,7 +192,7 @@ impl Display for Form {
     }
 }
 
-/// Names the arguments that a command needs and doesn't get.
+/// Appends the arguments that a command needs and doesn't get.
 fn push_missing(
     text: &mut String,
     command: &'static Subcommand,
@@ -211,7 +211,8 @@ fn push_missing(
     }
 }
 
-/// The options of which a command needs one, if none is given. The parser doesn't know of them.
+/// Returns the options of which a command needs one, if none is given. The parser doesn't know of
+/// that need.
 fn missing_choice(command: &str, found: &[Word<'_>]) -> Option<&'static str> {
     let (ids, choice): (&[&str], &str) = match command {
         "decrypt" | "resume" => (
@@ -228,8 +229,9 @@ fn missing_choice(command: &str, found: &[Word<'_>]) -> Option<&'static str> {
     }
 }
 
-/// Finds a word that begins with `-h`, such as the name `-holiday.jpg`. The parser would show the help,
-/// with status 0, and a script would take the file for done.
+/// Returns a word that begins with `-h` without being an option, such as the name `-holiday.jpg`,
+/// if there is one. The parser would show the help, with status 0, and a script would take the file
+/// for done.
 pub fn find_word_like_help<'w>(words: &[&'w str]) -> Option<&'w str> {
     for word in words {
         if *word == "--" {
@@ -242,7 +244,8 @@ pub fn find_word_like_help<'w>(words: &[&'w str]) -> Option<&'w str> {
     None
 }
 
-/// Says on standard error that such a word is refused, and what to write in place of it.
+/// Prints on standard error that a word is refused which only looks like `-h`, and what to write in
+/// place of it.
 pub fn explain_word_like_help(rt: &HostRuntime, word: &str) {
     let shown = Escaped(word.as_bytes());
     let name = Quoted(word);

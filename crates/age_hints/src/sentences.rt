@@ -1,13 +1,13 @@
-//! What a fault means, and what to do.
+//! The sentences about faults: what is wrong, and what to do.
 
 use age_fault::FileFault;
 
-/// What is wrong, and what to do.
+/// A sentence about a fault: what is wrong, and what to do.
 pub(crate) type Sentence = (&'static str, &'static str);
 
-/// Says of a fault what is wrong, and what to do, as docs/FAULTS.md does; `None` for 11, which names the
-/// work factor, and for 26 and 27, which say what the system answered. `by_pass` is whether a
-/// passphrase was to open the file.
+/// Returns what is wrong and what to do, of a fault, as docs/FAULTS.md has it. Returns `None` for
+/// 11, whose line names the work factor, and for 26 and 27, whose lines have the system's message.
+/// `by_pass` is true if a passphrase was to open the file.
 pub(crate) fn find_sentence(fault: FileFault, by_pass: bool) -> Option<Sentence> {
     let number = fault.number();
     match number {

@@ -1,4 +1,4 @@
-//! What may surprise in a run, however it ended.
+//! The lines about what may surprise in a run, however it ended.
 
 use crate::arguments::{Arguments, has_idle_limit};
 use crate::ending::RunContext;
@@ -10,7 +10,7 @@ use age_messages::{Escaped, Notes};
 use std::io::{Eprint, IsTerminal};
 use std::rt::HostRuntime;
 
-/// Warns of a word that means something else to other programs.
+/// Warns of a word that means something else to other programs, and of an option that does nothing.
 pub(crate) fn explain_words_taken(rt: &HostRuntime, asked: &Request<'_>) {
     if Arguments::of(asked).have("-") {
         let _ = eprintln!(rt;
@@ -22,7 +22,7 @@ pub(crate) fn explain_words_taken(rt: &HostRuntime, asked: &Request<'_>) {
     }
 }
 
-/// Says what may surprise in a file that was read or written.
+/// Prints what may surprise in a file that was read or written.
 pub(crate) fn explain_files(rt: &HostRuntime, notes: &Notes<'_>) {
     if let Some(name) = notes.cut_off {
         let file = File(name);
@@ -40,7 +40,7 @@ pub(crate) fn explain_files(rt: &HostRuntime, notes: &Notes<'_>) {
     }
 }
 
-/// Says what can't be typed in a passphrase that a file is encrypted with.
+/// Prints what can't be typed in a passphrase with which a file is encrypted.
 pub(crate) fn explain_typing(rt: &HostRuntime, run: &RunContext<'_>) {
     if let Request::Encrypt(asked) = run.asked
         && let Some(what) = run.notes.typing.untypable()
@@ -52,7 +52,8 @@ pub(crate) fn explain_typing(rt: &HostRuntime, run: &RunContext<'_>) {
     }
 }
 
-/// Says at a terminal how much memory a file that was inspected asks for, if a passphrase can open it.
+/// Prints how much memory an inspected file asks for, if standard error is a terminal and a
+/// passphrase can open the file.
 pub(crate) fn explain_work_factor(rt: &HostRuntime, run: &RunContext<'_>) {
     let read = match run.asked {
         Request::Inspect(None) => run.input,

@@ -1,4 +1,4 @@
-//! What to give in place of a word that is refused.
+//! Tips: what to give in place of a word that is refused.
 
 use crate::quoted::Quoted;
 use crate::words::{find_option, split_option};
@@ -8,7 +8,7 @@ use std::fs;
 use std::rt::HostRuntime;
 use strsim::jaro;
 
-/// Words of other programs, and what to give in place of them.
+/// A table of words of other programs, and of what to give in place of them.
 type Tips = &'static [(&'static [&'static str], &'static str)];
 
 #[rattlefmt::skip]
@@ -35,11 +35,11 @@ const OPTION_TIPS: Tips = &[
     (&["-q", "--quiet"], "leave it out: without --progress a run that succeeds says little"),
 ];
 
-/// What to give in place of a word that is no command, if it isn't like one.
+/// The tip for a word that isn't like any command.
 pub(crate) const KNOWN_COMMANDS: &str =
     "the commands are encrypt, decrypt, resume, inspect, drill and help";
 
-/// Finds what such a table says of a word.
+/// Returns the tip for a word in a table, if it has one.
 fn find_tip(tips: Tips, word: &str) -> Option<&'static str> {
     for (words, tip) in tips {
         if words.iter().any(|it| *it == word) {
@@ -49,7 +49,7 @@ fn find_tip(tips: Tips, word: &str) -> Option<&'static str> {
     None
 }
 
-/// The name that is most like a word.
+/// The name that is most like a word, among those compared.
 #[derive(Clone, Copy)]
 struct Best {
     score: f64,
@@ -67,7 +67,7 @@ impl Best {
         Ok(())
     }
 
-    /// None; a name must be at least so much like the word.
+    /// Starts a comparison without a name; a name must be at least so much like the word.
     fn new() -> Best {
         Best {
             score: 0.7,
@@ -76,7 +76,7 @@ impl Best {
     }
 }
 
-/// Finds the command whose name is most like a word.
+/// Returns the command whose name is most like a word, if one is like it.
 fn find_similar_command(alloc: Global, word: &str) -> Result<Option<&'static str>, AllocError> {
     let mut best = Best::new();
     for command in list_commands() {
@@ -85,7 +85,7 @@ fn find_similar_command(alloc: Global, word: &str) -> Result<Option<&'static str
     Ok(best.name)
 }
 
-/// Finds the option of a command whose name is most like that of a word.
+/// Returns the option of a command whose name is most like that of a word, if one is like it.
 fn find_similar_option(
     alloc: Global,
     command: &Subcommand,
@@ -103,7 +103,7 @@ fn find_similar_option(
     Ok(best.name)
 }
 
-/// Says what to give in place of a word that is no command.
+/// Appends what to give in place of a word that is no command.
 pub(crate) fn push_command_tip(
     alloc: Global,
     text: &mut String,
@@ -118,7 +118,7 @@ pub(crate) fn push_command_tip(
     }
 }
 
-/// Says which commands have an option, if one has it; returns whether one does.
+/// Appends which commands have an option. Returns whether one does.
 fn push_owners(text: &mut String, name: &str) -> Result<bool, AllocError> {
     let owners = list_commands()
         .iter()
@@ -144,7 +144,8 @@ fn push_owners(text: &mut String, name: &str) -> Result<bool, AllocError> {
     Ok(count > 0)
 }
 
-/// Says what to give in place of an option that a command hasn't, or that stands before the command.
+/// Appends what to give in place of an option that a command doesn't have, or that stands before
+/// the command.
 pub(crate) fn push_option_tip(
     rt: &HostRuntime,
     text: &mut String,

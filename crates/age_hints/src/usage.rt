@@ -1,4 +1,4 @@
-//! What is wrong with a command line that the parser accepts.
+//! The line about a command line that the parser accepts, and that is wrong.
 
 use crate::arguments::{Arguments, Roles};
 use age_cli_args::Request;
@@ -8,7 +8,7 @@ use age_messages::{Escaped, Leading};
 use std::io::Eprint;
 use std::rt::HostRuntime;
 
-/// Says which files were the same, or what is wrong with one that was refused.
+/// Prints which files were the same, or what is wrong with one that was refused.
 pub(crate) fn explain_usage(rt: &HostRuntime, error: &UsageError<'_>, asked: &Request<'_>) {
     let arguments = Arguments::of(asked);
     match (error.usage(), error.context()) {
@@ -29,7 +29,7 @@ pub(crate) fn explain_usage(rt: &HostRuntime, error: &UsageError<'_>, asked: &Re
     }
 }
 
-/// Says what is wrong with a script, or with the file that is drilled.
+/// Prints what is wrong with a script, or with the file that is drilled.
 fn explain_drill(rt: &HostRuntime, usage: Usage, arguments: &Arguments<'_>) {
     let script = arguments.script.unwrap_or("");
     match usage {
@@ -54,7 +54,7 @@ fn explain_drill(rt: &HostRuntime, usage: Usage, arguments: &Arguments<'_>) {
     }
 }
 
-/// Says that a name leads to another file of the command.
+/// Prints that a name leads to another file of the command.
 fn explain_used(rt: &HostRuntime, name: &str, arguments: &Arguments<'_>) {
     let or_new = if arguments.save == Some(name) {
         " or the .new file beside it"
@@ -65,7 +65,7 @@ fn explain_used(rt: &HostRuntime, name: &str, arguments: &Arguments<'_>) {
     let _ = eprintln!(rt; "age_tool: {name}{or_new} is another file of this command too");
 }
 
-/// Says which two names lead to one file, or which options and operands have the same name.
+/// Prints which two names lead to one file, or which options and operands have the same name.
 fn explain_twice<'w>(rt: &HostRuntime, name: &'w str, other: &str, arguments: &Arguments<'w>) {
     let shown = Escaped(other.as_bytes());
     if name == other {
@@ -78,13 +78,13 @@ fn explain_twice<'w>(rt: &HostRuntime, name: &'w str, other: &str, arguments: &A
     }
 }
 
-/// Says what is wrong with a file that was read.
+/// Prints what is wrong with a file that was read.
 fn explain_file(rt: &HostRuntime, name: &str, what: &str) {
     let name = Leading(name.as_bytes());
     let _ = eprintln!(rt; "age_tool: {name}: {what}");
 }
 
-/// Says that one of several options must be given.
+/// Prints that one of several options must be given.
 fn explain_choice(rt: &HostRuntime, arguments: &Arguments<'_>) {
     let what = if arguments.have_key() {
         "only one of them can be given"
@@ -94,7 +94,7 @@ fn explain_choice(rt: &HostRuntime, arguments: &Arguments<'_>) {
     let _ = eprintln!(rt; "age_tool: {what}");
 }
 
-/// Returns what is wrong with the file of a passphrase, which holds so many bytes.
+/// Returns what is wrong with a passphrase file of `len` bytes.
 fn passphrase_error(len: Option<usize>) -> &'static str {
     match len {
         Some(0) => "it is empty",
@@ -103,7 +103,7 @@ fn passphrase_error(len: Option<usize>) -> &'static str {
     }
 }
 
-/// Says what is wrong with a file of a wanted length.
+/// Prints what is wrong with a file that should have `wanted` bytes.
 fn explain_length(rt: &HostRuntime, name: &str, len: Option<usize>, wanted: u64) {
     let name = Leading(name.as_bytes());
     let _ = match len {

@@ -1,4 +1,4 @@
-//! What each word of a command line is to its command.
+//! The words of a command line: which argument of its command each one gives.
 
 use age_cli_args::{Argument, Given, Subcommand};
 use std::alloc::{AllocError, Global};
@@ -14,17 +14,17 @@ pub(crate) enum Word<'w> {
     Extra(&'w str),
 }
 
-/// Whether an argument is a word without an option.
+/// Returns whether an argument is a word without an option.
 fn is_operand(argument: &Argument) -> bool {
     matches!(argument.given, Given::Operand | Given::Word)
 }
 
-/// Whether an argument has a value, in the word after it or in the same one.
+/// Returns whether an argument has a value, in the word after it or in the same one.
 pub(crate) fn takes_value(argument: &Argument) -> bool {
     !matches!(argument.given, Given::Flag)
 }
 
-/// Whether a word is an option.
+/// Returns whether a word is an option.
 pub(crate) fn is_option(word: &str) -> bool {
     word.starts_with('-') && word != "-"
 }
@@ -37,7 +37,7 @@ pub(crate) fn split_option(word: &str) -> (&str, Option<&str>) {
     }
 }
 
-/// Finds the option of a command by its name, with its dashes.
+/// Returns the option of a command by its name, with its dashes.
 pub(crate) fn find_option(command: &Subcommand, name: &str) -> Option<&'static Argument> {
     let id = name.strip_prefix("--")?;
     for argument in command.arguments {
@@ -48,20 +48,20 @@ pub(crate) fn find_option(command: &Subcommand, name: &str) -> Option<&'static A
     None
 }
 
-/// How far the words of a command are read.
+/// The state of reading the words of a command.
 #[derive(Clone, Copy)]
 struct Reader {
     command: &'static Subcommand,
-    /// How many operands were read.
+    /// The number of operands that were read.
     operands: usize,
-    /// Whether `--` was read, after which no word is an option.
+    /// True if `--` was read, after which no word is an option.
     has_ended: bool,
-    /// Whether the next word was read as a value.
+    /// True if the next word was read already, as a value.
     is_value: bool,
 }
 
 impl Reader {
-    /// Reads a word, before `next`; returns what it is, if it doesn't belong to another word.
+    /// Reads a word, before `next`. Returns its meaning, if it doesn't belong to another word.
     fn read<'w>(&mut self, word: &'w str, next: Option<&'w str>) -> Option<Word<'w>> {
         if self.is_value {
             self.is_value = false;
@@ -124,7 +124,7 @@ pub(crate) fn read_words<'w>(
     Ok(found)
 }
 
-/// Whether words give the argument of this name.
+/// Returns whether the words give the argument of this name.
 pub(crate) fn gives(found: &[Word<'_>], id: &str) -> bool {
     for word in found {
         if let Word::Given(argument, _) = *word

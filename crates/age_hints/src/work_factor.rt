@@ -4,7 +4,7 @@ use age_messages::Size;
 use age_options::FirstBytes;
 use std::fmt::{self, Formatter};
 
-/// How many characters the salt of that stanza has, and how many its body.
+/// The number of characters of the salt in a passphrase's stanza, and of its body.
 const SALT_LEN: usize = 22;
 
 const BODY_LEN: usize = 43;
@@ -12,9 +12,9 @@ const BODY_LEN: usize = 43;
 /// A work factor.
 #[derive(Clone, Copy)]
 pub(crate) enum WorkFactor {
-    /// One that some limit allows.
+    /// A work factor that some limit allows.
     Allowed(u8),
-    /// One above all limits.
+    /// A work factor above all limits.
     TooHigh,
 }
 
@@ -30,13 +30,14 @@ impl fmt::Display for WorkFactor {
     }
 }
 
-/// The work factor of a passphrase's stanza that comes first in a file that begins so, as it must.
+/// Returns the work factor in the first bytes of a file, of a passphrase's stanza that comes first.
 pub(crate) fn work_in(head: &FirstBytes) -> Option<WorkFactor> {
     let (_, rest) = scrypt(head)?;
     work_of(rest)
 }
 
-/// The same, for a header that a passphrase can open: its only stanza is that one.
+/// Returns the work factor in the first bytes of a file, if a passphrase can open it: its only
+/// stanza is that of a passphrase.
 pub(crate) fn work_alone(head: &FirstBytes) -> Option<WorkFactor> {
     let (salt, rest) = scrypt(head)?;
     let (_, body) = rest.split_once('\n')?;
@@ -48,15 +49,16 @@ pub(crate) fn work_alone(head: &FirstBytes) -> Option<WorkFactor> {
     }
 }
 
-/// The salt of a passphrase's stanza that comes first, and what follows it.
+/// Splits the first bytes of a file, if a passphrase's stanza comes first: returns its salt, and
+/// what follows that.
 fn scrypt(head: &FirstBytes) -> Option<(&str, &str)> {
     let kept = str::from_utf8(head.as_slice()).ok()?;
     let stanza = kept.strip_prefix("age-encryption.org/v1\n-> scrypt ")?;
     stanza.split_once(' ')
 }
 
-/// The work factor that a text begins with, to the end of its line. (One without that end has more
-/// digits than are kept.)
+/// Parses the work factor with which a text begins, to the end of its line. (A line without an end
+/// has more digits than are kept.)
 fn work_of(text: &str) -> Option<WorkFactor> {
     let digits = match text.split_once('\n') {
         Some((digits, _)) => digits,

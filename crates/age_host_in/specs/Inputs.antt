@@ -1,8 +1,9 @@
--- What contracts see of a file of the machine that is read.
+-- A file that is read, as contracts see it.
 use Rattle.std.specs.Prelude.{◌≡◌, ℕ, List, [], Bool, false, Option, None}
 use Rattle.age_io.specs.{SourceView}
 use Rattle.age_names.specs.declared.names.FileId.{FileId}
 
+-- A file that is read, or standard input, as contracts see it.
 pub record InputView : Type 0 where
   -- the name under which it was opened
   pub name : List ℕ
@@ -17,7 +18,7 @@ pub record InputView : Type 0 where
   -- what tells it from other files, if that is known
   pub id : Option FileId
 
--- it was opened under this name, and nothing was read from it yet
+-- The file was opened under this name, and nothing was read from it yet.
 pub record IsFresh (name : List ℕ) (source : InputView) : Type 0 where
   pub named : source.name ≡ name
   pub failed : source.failed ≡ 0
@@ -25,7 +26,7 @@ pub record IsFresh (name : List ℕ) (source : InputView) : Type 0 where
   pub given : source.given ≡ []
   pub is_at_end : source.is_at_end ≡ false
 
--- it is a source, which doesn't show what is to come
+-- The file as a source, which doesn't show what is to come.
 abbrev pub as_source : InputView → SourceView
 as_source source = record {
   supply = record {

@@ -1,4 +1,4 @@
-//! A file of the machine that is read.
+//! A file that is read, or standard input.
 
 ghost use Rattle.std.specs.Prelude.{◌≡◌, ◌≤◌, [], ◌∷◌, ◌++◌, IfOk, OnErr, false};
 ghost use Rattle.std.specs.Io.{ReadsAtMost};
@@ -18,23 +18,24 @@ use std::io::{self, Read, Seek, SeekFrom};
 use std::marker::Model;
 use std::rt::{HostRuntime, Stdin};
 
-/// The name of the machine's random bytes. What is read under it must not be a file that somebody
+/// The name of the system's random device. What is read under it must not be a file that somebody
 /// filled, since two runs would take the same keys from it.
 const RANDOM: &str = "/dev/urandom";
 
-/// What the bytes of an input are read from.
+/// The open file or stream behind an input.
 #[derive(Drop)]
 enum Handle {
     /// A file that was opened.
     File(File),
-    /// Standard input, from where it stands.
+    /// Standard input, from its current position.
     Input(Stdin),
     /// A file that doesn't exist.
     Nothing,
 }
 
 impl Handle {
-    /// Reads, and tries again if the machine says to.
+    /// Reads some bytes, and notes them. Retries a call that was interrupted, or whose descriptor
+    /// wasn't ready.
     fn read(
         &mut self,
         rt: &HostRuntime,
@@ -55,7 +56,7 @@ impl Handle {
         Err(too_many_tries())
     }
 
-    /// Reads, and notes what came. No proof sees the call.
+    /// Reads some bytes by one call, and notes them. Proofs assume nothing about the call.
     fn read_once(
         &mut self,
         into: &mut [u8],
@@ -77,8 +78,8 @@ impl Handle {
         Ok(n)
     }
 
-    /// Skips bytes of a file on a disk, and returns how many. A stream is read from where it
-    /// stands, and so is a file that can't seek.
+    /// Skips bytes of a file on a disk, and returns their number. Skips none of a stream, or of a
+    /// file that can't seek.
     fn skip(&mut self, most: u64) -> u64
         ensures { result ≤ most }
     {
@@ -89,8 +90,8 @@ impl Handle {
     }
 }
 
-/// Skips bytes of a file by one call, and returns how many, but not beyond the end that a regular
-/// file has now. A block device refuses to go beyond its end, and stays where it is.
+/// Skips bytes of a file by one call (`lseek`), and returns their number. Doesn't go beyond the end
+/// that a regular file has now. A block device refuses to go beyond its end, and stays where it is.
 fn skip_in(file: &mut File, most: u64) -> io::Result<u64>
     ensures { IfOk result (λ n. n ≤ most) }
 {
@@ -107,7 +108,7 @@ fn skip_in(file: &mut File, most: u64) -> io::Result<u64>
     Ok(n)
 }
 
-/// Whether a file is at its end, by its length.
+/// Returns whether a file is at its end, by its length.
 fn is_at_end(file: &mut File) -> bool {
     match (file.stream_position(), file.metadata()) {
         (Ok(at), Ok(now)) => at >= now.len(),
@@ -115,7 +116,7 @@ fn is_at_end(file: &mut File) -> bool {
     }
 }
 
-/// Fails if what was found can't be read, or isn't what the name promises.
+/// Fails if what was found is a folder, or isn't the random device although the name is.
 fn check_found(name: &str, found: &Metadata) -> io::Result<()> {
     if found.is_dir() {
         Err(io::Error::from(io::ErrorKind::IsADirectory))
@@ -126,7 +127,7 @@ fn check_found(name: &str, found: &Metadata) -> io::Result<()> {
     }
 }
 
-/// How many bytes a regular file has.
+/// Returns the length of a regular file, or `None` for another kind.
 fn length_of(metadata: &Metadata) -> Option<u64> {
     if metadata.is_file() {
         Some(metadata.len())
@@ -135,23 +136,25 @@ fn length_of(metadata: &Metadata) -> Option<u64> {
     }
 }
 
-/// A file of the machine that is read, or standard input, under its name on the command line. A
-/// contract sees the bytes that it gave or skipped, and none that are to come; how many pulls have
-/// failed, whether the last one did, and whether the last that did not found the end; and which file
-/// it is. What it gave and why it failed are kept for what people are told.
+/// A file that is read, or standard input, under its name on the command line. It keeps the number
+/// of bytes that it gave, the first of them, and the last error, for what people are told.
+///
+/// Contracts see the bytes that it gave or skipped, and none that are to come; how many reads have
+/// failed, whether the last one did, and whether the last that did not found the end; and which
+/// file it is.
 #[derive(Drop)]
 pub struct HostIn<'w> {
     rt: HostRuntime,
     name: &'w str,
     handle: Handle,
-    // How many bytes are still to come of a regular file.
+    // The number of bytes that a regular file still has to give.
     left: Option<u64>,
     failures: Failures,
     given: Tape,
     is_at_end: bool,
-    // Which file it is, if that is known.
+    // The identity of the file, if that is known.
     id: Option<FileId>,
-    // What it gave, and why a pull has failed, for what people are told.
+    // What people are told: how much the file gave, and why a read has failed.
     summary: ReadSummary<'w>,
     error: Option<io::Error>,
     typing: Option<Typing>,
@@ -175,7 +178,8 @@ impl<'w> Model for HostIn<'w> {
 }
 
 impl<'w> HostIn<'w> {
-    /// Opens what a name stands for. Standard output, standard error and folders can't be read.
+    /// Opens the file or stream to which a name leads. Standard output, standard error and folders
+    /// can't be read. A file that doesn't exist is read as an empty one, if `missing` says so.
     pub fn open(
         alloc: Global,
         rt: &HostRuntime,
@@ -223,21 +227,21 @@ impl<'w> HostIn<'w> {
         }
     }
 
-    /// Which file it is, if that is known.
+    /// Returns the identity of the file, if that is known.
     pub fn id(&self) -> Option<FileId>
         ensures { result ≡ self.now.id }
     {
         self.id
     }
 
-    /// How many bytes a regular file still has to give, by its length when it was opened.
+    /// Returns how many bytes a regular file still has to give, by its length when it was opened.
     pub fn length(&self) -> Option<u64>
         ensures { result ≡ self.now.size }
     {
         self.left
     }
 
-    /// Notes that its reading is over.
+    /// Notes in the log that the reading of the file is over, and what it gave.
     pub fn log_to(&self, log: &mut Log)
         ensures { log.new ≡ log.old ++ Gave (reading_of (as_source self.now)) ∷ [] }
     {
@@ -245,7 +249,7 @@ impl<'w> HostIn<'w> {
         log.note(Doing::Gave(&name, &self.given, self.is_at_end));
     }
 
-    /// What is to be told of it: how much it gave, or why a pull has failed.
+    /// Returns how much the file gave, or why a read has failed.
     pub fn context(&self) -> ErrorContext<'w> {
         match self.error {
             Some(error) => ErrorContext::Failed(Failure {
@@ -257,30 +261,31 @@ impl<'w> HostIn<'w> {
         }
     }
 
-    /// Its name.
+    /// Returns the name of the file, as the command line gives it.
     pub fn name(&self) -> &'w str {
         self.name
     }
 
-    /// Whether it became shorter while it was read.
+    /// Returns whether the file became shorter while it was read.
     pub fn is_cut_off(&self) -> bool {
         self.is_cut_off
     }
 
-    /// Looks from now on whether what it gives can be typed, as a passphrase.
+    /// Starts a check whether what the file gives can be typed, as a passphrase.
     pub fn watch_typing(&mut self)
         ensures { self.new ≡ self.old }
     {
         self.typing = Some(Typing::new());
     }
 
-    /// Whether it can, if that was looked at.
+    /// Returns the check that [`watch_typing`](HostIn::watch_typing) has started, if it was called.
     pub fn typing(&self) -> Option<Typing> {
         self.typing
     }
 
-    /// Keeps what a pull gave: how much is left, and that the file was truncated, if it is shorter
-    /// now than it was. Files that the system makes up may end before the length that they show.
+    /// Counts what a read gave, and notes if the file ended early because it was truncated. A file
+    /// that the system makes up, as in `/proc`, may end before the length that it shows, and isn't
+    /// noted.
     fn note_pulled(&mut self, pulled: &[u8])
         ensures { self.new ≡ record self.old { size = self.new.size } }
     {

@@ -1,7 +1,7 @@
-//! The machine's files that are read, and the standard streams.
+//! Files that are read, and the standard streams.
 //!
-//! Contracts see the bytes that a file gave or skipped, whether a pull found its end, and how many
-//! pulls have failed. `context` says what the machine answered then.
+//! Contracts see the bytes that a file gave or skipped, whether a read found its end, and how many
+//! reads have failed. [`HostIn::context`] has the error of the system.
 #![tactic(auto)]
 
 mod input;

@@ -1,9 +1,9 @@
-//! A standard stream, and what is to be said of it.
+//! A standard stream, and what people are told of it.
 
 use age_fileset::{Action, ErrorContext, Failure, ReadSummary};
 use std::io::{self, Read, Write};
 
-/// A standard stream, which a run has for itself, and how much it gave, or why it failed.
+/// A standard stream for a whole run, which counts the bytes that it gave, or keeps why it failed.
 #[derive(Drop)]
 pub struct Watched<T> {
     stream: T,
@@ -11,7 +11,7 @@ pub struct Watched<T> {
 }
 
 impl<T> Watched<T> {
-    /// Watches a stream.
+    /// Wraps a stream.
     pub fn new(stream: T) -> Watched<T> {
         Watched {
             stream,
@@ -19,7 +19,7 @@ impl<T> Watched<T> {
         }
     }
 
-    /// Returns how much it gave, or why it failed.
+    /// Returns how much the stream gave, or why it failed.
     pub fn context(&self) -> ErrorContext<'static> {
         self.context
     }

@@ -1,4 +1,4 @@
--- What contracts see of a file of the machine that is written.
+-- A file that is written, as contracts see it.
 use Rattle.std.specs.Prelude.{◌≡◌, ◌<◌, ◌^◌, ◌⊎◌, ℕ, List, [], Bool, true, false, Option, None, Some, is_none}
 use Rattle.age_io.specs.{SinkView}
 use Rattle.age_calls.specs.{OutFile}
@@ -7,6 +7,7 @@ use Rattle.age_names.specs.declared.names.FileId.{FileId}
 use Rattle.age_names.specs.declared.node.Node.{Node}
 use Rattle.age_names.specs.declared.names.FileId.TheVariants.{File}
 
+-- A file that is written, or a standard stream, as contracts see it.
 pub record OutputView : Type 0 where
   -- the name under which it was opened or made, and whether that is a link
   pub name : List ℕ
@@ -14,7 +15,7 @@ pub record OutputView : Type 0 where
   -- how many puts have failed, and whether the last call did
   pub failed : ℕ
   pub failing : Bool
-  -- the bytes that it took, and how many of them it had taken when the disk was last waited for
+  -- the bytes that it took, and how many of them it had taken at the last sync
   pub took : List ℕ
   pub settled : ℕ
   -- which regular file it is, if it is one
@@ -24,14 +25,14 @@ pub record OutputView : Type 0 where
   -- what tells it from other files, if that is known
   pub id : Option FileId
 
--- a regular file has the id of the node whose number its calls have
+-- The identity of a regular file is the device and inode that make the number of its calls.
 pub record HasNode (id : Option FileId) (file : OutFile) : Type 0 where
   pub node : Node
   pub fits : node.inode < 2 ^ 64
   pub known : id ≡ Some (File node)
   pub number : file.number ≡ number_of node
 
--- a sink of this name that took these bytes; it doesn't show what it holds
+-- A sink of this name that took these bytes, and doesn't show what its file holds.
 abbrev pub sink_of : (name : List ℕ) (failed : ℕ) (failing : Bool) (took : List ℕ) → SinkView
 sink_of name failed failing took = record {
   taken = record { bytes = took; contents = None; label = name };
@@ -40,29 +41,30 @@ sink_of name failed failing took = record {
   flushed = true;
 }
 
--- the file as a sink, which has sent nothing on before it was made
+-- The file as a sink, which has flushed nothing before its file is made.
 abbrev pub as_sink : OutputView → SinkView
 as_sink out = record (sink_of out.name out.failed out.failing out.took) { flushed = is_none out.unmade }
 
--- nothing was put into it yet
+-- Nothing was put into the file yet, and no put has failed.
 pub record IsNew (out : OutputView) : Type 0 where
   pub failed : out.failed ≡ 0
   pub failing : out.failing ≡ false
   pub took : out.took ≡ []
 
--- a regular file that was made at a path
+-- A regular file was made at this path.
 pub record IsMadeAt (path : List ℕ) (now : Option OutFile) : Type 0 where
   pub file : OutFile
   pub is : now ≡ Some file
   pub at : file.path ≡ path
   pub made : file.is_made ≡ true
 
--- It is the same file as before. One that didn't exist yet still doesn't, or was made at its path.
+-- The file is the same as before. One that didn't exist yet still doesn't, or was made at its path.
 abbrev pub Stays : (unmade later : Option (List ℕ)) (file now : Option OutFile) (id known : Option FileId)
     → Type 0
 Stays None later file now id known = (later ≡ None) × (now ≡ file) × (known ≡ id)
 Stays (Some path) later file now id known = ((later ≡ Some path) × (now ≡ file) × (known ≡ id))
     ⊎ ((later ≡ None) × IsMadeAt path now)
 
+-- The file of an output is the same as before, or was made, as `Stays` says.
 abbrev pub KeepsFile : (old new : OutputView) → Type 0
 KeepsFile old new = Stays old.unmade new.unmade old.file new.file old.id new.id

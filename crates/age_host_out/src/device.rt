@@ -1,4 +1,4 @@
-//! What is opened for writing and isn't a regular file.
+//! Devices and pipes that are open for writing.
 
 ghost use Rattle.std.specs.Prelude.{◌≡◌, Some};
 ghost use Rattle.age_names.specs.{number_of};
@@ -6,7 +6,7 @@ ghost use Rattle.age_host_out.specs.inner.Devices.{device_of};
 
 use age_machine::{HostFile, Machine};
 
-/// A device or a pipe, and the machine that opened it.
+/// A device or a pipe that is open for writing, and the machine that opened it.
 #[derive(Drop)]
 pub(crate) struct Device {
     pub(crate) file: HostFile,

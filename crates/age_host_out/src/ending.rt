@@ -1,4 +1,4 @@
-//! How a file of the machine is ended.
+//! The end of an output: its file is closed with what was written, or discarded.
 
 ghost use Rattle.std.specs.Prelude.{◌≡◌, ◌<◌, [], None, Some, false};
 ghost use Rattle.age_calls.specs.{Closes, Discards, TouchesItself};
@@ -15,7 +15,7 @@ use std::io;
 use std::marker::Model;
 use std::rt::HostRuntime;
 
-/// Which regular file was ended, for contracts alone.
+/// The identity of a regular file that was ended, for contracts.
 #[derive(Drop)]
 struct Which {
     path: Tape,
@@ -37,7 +37,7 @@ impl Model for Which {
 }
 
 impl Which {
-    /// The file of an output.
+    /// Returns the identity of an output's file.
     fn of(out: &Out) -> Which
         ensures { result ≡ out.now.file }
     {
@@ -50,14 +50,14 @@ impl Which {
     }
 }
 
-/// What was done to a file that was ended, for contracts alone.
+/// A record of what was done to a file that was ended, for contracts.
 #[derive(Drop)]
 pub struct HostEnded {
     took: Tape,
-    // Whether it was closed with what was written, and not discarded.
+    // Whether the file was closed with what was written, and not discarded.
     is_closed: bool,
     which: Option<Which>,
-    // If its name is a link.
+    // The system's answer that the name is a link, if it is one.
     link: Option<Link>,
     machine: Machine,
 }
@@ -79,20 +79,20 @@ impl Model for HostEnded {
 }
 
 impl HostEnded {
-    /// The bytes that its sink took, for contracts alone.
+    /// Returns the bytes that the sink took. Ghost: no bytes at run time.
     pub fn took(&self) -> &Tape
         ensures { result.now ≡ self.now.took }
     {
         &self.took
     }
 
-    /// Whether its file system has no way to wait until it has reached the disk.
+    /// Returns whether the file system was unable to sync the file.
     pub fn is_unwaited(&self) -> bool {
         self.machine.is_unwaited()
     }
 }
 
-/// What was put to a regular file that is to be ended, and under which name.
+/// The name of an output, the number of its failed puts, and what it took.
 #[derive(Drop)]
 pub(crate) struct OutTally {
     pub(crate) name: OutName,
@@ -100,7 +100,8 @@ pub(crate) struct OutTally {
     pub(crate) took: Tape,
 }
 
-/// Ends a regular file, and closes it.
+/// Ends a regular file with what was written, and closes it. Returns the record of that, and the
+/// result.
 pub(crate) fn end_file(
     out: Out,
     tally: OutTally,
@@ -121,7 +122,7 @@ pub(crate) fn end_file(
     (ended, end)
 }
 
-/// Ends a regular file unchanged, if nothing was written.
+/// Ends a regular file to which nothing was written, and leaves it unchanged.
 pub(crate) fn discard_file(out: Out, tally: OutTally, durability: Durability) -> HostEnded
     requires { WasWritten out tally }
     ensures { Discards (Some out.file) (tally_sink tally) result }
@@ -137,7 +138,8 @@ pub(crate) fn discard_file(out: Out, tally: OutTally, durability: Durability) ->
     }
 }
 
-/// Ends a regular file to which each put failed, by closing it unchanged.
+/// Ends a regular file to which each put failed, and leaves it unchanged. The record says that it
+/// was closed.
 pub(crate) fn close_untouched(
     out: Out,
     tally: OutTally,
@@ -152,7 +154,8 @@ pub(crate) fn close_untouched(
     (ended, Ok(()))
 }
 
-/// What was done to a device or a stream. No call is noted except the one that opened it.
+/// Returns the record of a device or a stream that was ended. At most the call that opened it is in
+/// the record.
 pub(crate) fn unseen(rt: &HostRuntime, target: &Target, took: Tape, is_closed: bool) -> HostEnded
     requires { regular_of target.now ≡ None }
     ensures is { result ≡ record {

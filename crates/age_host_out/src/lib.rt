@@ -1,8 +1,8 @@
-//! A file of the machine that is written: a regular file by the calls of a machine that notes them,
-//! a device, or a stream that the program was started with.
+//! Files that are written: a regular file by system calls that are noted, a device, or a standard
+//! stream.
 //!
-//! Contracts see which file it is, what was put, how much of that has reached the disk, and by which
-//! calls a regular file was made, written and ended.
+//! Contracts see which file it is, what was put, how much of that was synced, and by which calls a
+//! regular file was made, written and ended.
 #![tactic(auto)]
 
 mod device;

@@ -1,4 +1,4 @@
-//! A file of the machine that is written.
+//! A file that is written, or a standard stream.
 
 ghost use Rattle.std.specs.Prelude.{◌≡◌, ◌↔◌, ◌≤◌, ◌<◌, [], ◌∷◌, ◌++◌, None, Some, true, false, ℕ, List};
 ghost use Rattle.std.specs.Prelude.{length, is_some, is_ok, is_err, IfOk, IfSome, OnOk, OnErr, MatchResult};
@@ -29,20 +29,21 @@ use std::io::{self, IsTerminal};
 use std::marker::Model;
 use std::rt::HostRuntime;
 
-/// How much a file took, and when the disk is waited for.
+/// The number of bytes written and synced, and whether to sync while writing.
 #[derive(Clone, Copy)]
 struct Pace {
-    // How many bytes it took, and how many of them it had taken when the disk was last waited for.
+    // The number of bytes that were written, and that number at the last sync.
     taken: u64,
     settled: u64,
-    // Whether the disk is waited for while it is written.
+    // Whether to sync while writing.
     durability: Durability,
-    // How a wait for the disk failed. The system says so only once, so a later wait proves nothing.
+    // The error of a sync that failed. The system reports it only once, so a later sync proves
+    // nothing.
     lost: Option<io::Error>,
 }
 
 impl Pace {
-    /// Before anything is written.
+    /// Returns the state before the first write.
     fn new() -> Pace
         ensures { IsPaced result [] }
     {
@@ -54,7 +55,7 @@ impl Pace {
         }
     }
 
-    /// Waits until what was written has reached the disk. Once a wait has failed, each later one fails.
+    /// Syncs what was written. Once a sync has failed, each later one fails.
     fn reach_disk(&mut self, target: &mut Target) -> io::Result<()>
         ensures settled { OnOk result (self.new.settled ≡ self.new.taken) }
         ensures more { (took : List ℕ) → IsPaced self.old took → self.old.settled ≤ self.new.settled }
@@ -72,8 +73,8 @@ impl Pace {
         reached
     }
 
-    /// Whether all that was written has reached the disk, and the machine says so again when a copy
-    /// is closed.
+    /// Returns whether all that was written is stored: it is synced, if necessary now, and closing
+    /// a second descriptor reports no failure.
     fn is_stored(&mut self, rt: &HostRuntime, target: &mut Target) -> bool
         ensures stored { result ≡ true → self.new.taken ≤ self.new.settled }
         ensures more { (took : List ℕ) → IsPaced self.old took → self.old.settled ≤ self.new.settled }
@@ -86,7 +87,7 @@ impl Pace {
         target.close_copy(rt).is_ok()
     }
 
-    /// Waits for the disk before more is written, if it is time to.
+    /// Syncs what was written, if it is time to before more is written.
     fn wait(&mut self, target: &mut Target) -> io::Result<()>
         ensures goes { TargetGoes target.old target.new true [] }
         ensures paced { (took : List ℕ) → IsPaced self.old took → IsPaced self.new took }
@@ -98,7 +99,8 @@ impl Pace {
     }
 }
 
-/// Writes to a target, after the disk was waited for.
+/// Writes some bytes to a target, and returns their number. Syncs earlier ones first, if it is time
+/// to.
 fn write_paced(
     rt: &HostRuntime,
     target: &mut Target,
@@ -119,7 +121,7 @@ fn write_paced(
     Ok(n)
 }
 
-/// Keeps what a put took, or why it took nothing.
+/// Notes what a put took, or keeps its error.
 fn note_put(
     took: &mut Tape,
     error: &mut io::Error,
@@ -144,7 +146,7 @@ fn note_put(
     }
 }
 
-/// Writes to a target, which is made before the first byte.
+/// Writes some bytes to a target, and returns their number. Makes its file before the first byte.
 fn write_made(
     rt: &HostRuntime,
     name: &str,
@@ -176,23 +178,25 @@ fn write_made(
     write_paced(rt, target, pace, from, handed)
 }
 
-/// A file of the machine that is written, or standard output or error. A regular file keeps its
-/// bytes until a put takes some. One that doesn't exist yet is made then, or by the flush, so a run
-/// that stops before leaves nothing. A contract sees the bytes that it took, but not what it holds,
-/// how many puts have failed, and whether the last call did.
+/// A file that is written, or standard output or error. An existing regular file keeps its bytes
+/// until a put takes some. One that doesn't exist yet is made then, or by the flush, so a run that
+/// stops before leaves nothing.
+///
+/// Contracts see the bytes that it took, but not what it holds; how many puts have failed, and
+/// whether the last call did.
 #[derive(Drop)]
 pub struct HostOut {
     rt: HostRuntime,
     name: OutName,
     target: Target,
-    // Which file it is, if that is known.
+    // The identity of the file, if that is known.
     id: Option<FileId>,
     failures: Failures,
-    // What the machine answered to the last put that failed.
+    // The error of the last put that failed.
     error: io::Error,
     pace: Pace,
     took: Tape,
-    // What a device or a stream took, as it was written.
+    // The bytes that a device or a stream took, noted as they were written.
     handed: Tape,
 }
 
@@ -223,18 +227,19 @@ impl Model for HostOut {
         × IsAtOutName s.name (out_file_of s.target) (unmade_of s.target))))) };
 }
 
-/// The least and the most bytes that are written between two waits for the disk. In between, their
-/// number grows with what was written, so a stop seldom loses more than half of it.
+/// The least number of bytes that are written between two syncs. It grows with what was written, up
+/// to [`WAIT_MOST`], so that a stop seldom loses more than half of that.
 const WAIT_FIRST: u64 = 1 << 24;
 
+/// The largest number of bytes that are written between two syncs.
 const WAIT_MOST: u64 = 1 << 30;
 
-/// Whether the disk is to be waited for before more is written.
+/// Returns whether it is time for a sync before more is written.
 fn is_wait_due(taken: u64, settled: u64) -> bool {
     taken.saturating_sub(settled) >= settled.min(WAIT_MOST).max(WAIT_FIRST)
 }
 
-/// Ends a device or a stream, and closes it in any case.
+/// Ends a device or a stream: syncs it if `durability` asks for that, and closes it in any case.
 fn end_stream(
     rt: &HostRuntime,
     mut target: Target,
@@ -280,12 +285,12 @@ impl HostOut {
         }
     }
 
-    /// What the machine answered to the last put that failed.
+    /// Returns the error of the last put that failed.
     pub fn error(&self) -> io::Error {
         self.error
     }
 
-    /// Standard error, for the lines of faults. Puts fail if the program was started without it.
+    /// Returns standard error, for messages. Puts fail if the program was started without it.
     pub fn faults(rt: &HostRuntime) -> HostOut
         ensures { IsNew result }
     {
@@ -293,10 +298,10 @@ impl HostOut {
         HostOut::new(rt, OutName::own(String::new(rt.alloc())), target, None)
     }
 
-    /// Opens what a name stands for without emptying it; if nothing exists, a file is to be made.
-    /// Standard input can't be written. If the output is to be on the disk at the end, the disk is
-    /// waited for every 16 MiB to 1 GiB, so that a failure is seen early, and `settle` can tell
-    /// what is certain.
+    /// Opens the file or stream to which a name leads, without truncating it. A file that doesn't
+    /// exist is made later, by the first put or the flush. Fails for standard input. If
+    /// `durability` asks for a sync, the file is synced every 16 MiB to 1 GiB, so that a failure is
+    /// seen early, and [`settle`](HostOut::settle) can tell what is certain.
     pub fn open(
         alloc: Global,
         rt: &HostRuntime,
@@ -320,8 +325,8 @@ impl HostOut {
         Ok(out)
     }
 
-    /// A file that is to be made, if nothing has the name, not even a link. The disk is waited for as
-    /// by `open`.
+    /// Returns a file that is to be made. Fails if anything has the name, even a link. Syncs while
+    /// it is written as [`open`](HostOut::open) does.
     pub fn to_make(
         alloc: Global,
         rt: &HostRuntime,
@@ -355,7 +360,7 @@ impl HostOut {
         }
     }
 
-    /// A file that is to be made at a path that holds neither a file nor a link.
+    /// Returns a file that is to be made, at a path that holds neither a file nor a link.
     fn unmade_at(rt: &HostRuntime, name: OutName, path: String) -> io::Result<HostOut>
         requires { is_some name.link ≡ false → string_bytes path ≡ string_bytes name.text }
         ensures fresh { IfOk result IsNew }
@@ -366,7 +371,8 @@ impl HostOut {
         Ok(HostOut::new(rt, name, Target::Unmade(path), None))
     }
 
-    /// Takes what was opened for writing. What is written to a regular file replaces what it holds.
+    /// Creates an output of a file that was opened for writing. What is written to a regular file
+    /// replaces what it holds.
     fn of_opened(
         rt: &HostRuntime,
         machine: Machine,
@@ -396,7 +402,8 @@ impl HostOut {
         Ok(HostOut::new(rt, name, Target::File(out), id))
     }
 
-    /// A stream of this name that can be written, from where it stands.
+    /// Returns a standard stream, to be written from its current position. Fails for standard
+    /// input.
     pub fn of_stream(rt: &HostRuntime, name: String, stream: StandardStream) -> io::Result<HostOut>
         ensures fresh { IfOk result IsNew }
         ensures named { IfOk result (λ o. o.name ≡ string_bytes name) }
@@ -406,9 +413,8 @@ impl HostOut {
         Ok(HostOut::new(rt, OutName::own(name), target, id))
     }
 
-    /// Takes a regular file for this run alone, so that no two runs write to it. Fails if another
-    /// run has it, or if its name no longer leads to it, as when another run that had made it has
-    /// removed it.
+    /// Locks a regular file for this run. Fails if another run has the lock, or if the name no
+    /// longer leads to the file, as when another run that had made it has removed it.
     pub fn claim(self, rt: &HostRuntime) -> io::Result<HostOut>
         ensures { IfOk result (λ o. o ≡ self) }
     {
@@ -416,21 +422,21 @@ impl HostOut {
         Ok(HostOut { target, ..self })
     }
 
-    /// The name under which it was opened or made.
+    /// Returns the name under which the file was opened or made.
     pub fn name(&self) -> &str
         ensures { result.now ≡ self.now.name }
     {
         self.name.text.as_str()
     }
 
-    /// The bytes that it took, for contracts alone.
+    /// Returns the bytes that the file took. Ghost: no bytes at run time.
     pub fn took(&self) -> &Tape
         ensures { result.now ≡ self.now.took }
     {
         &self.took
     }
 
-    /// Which file it is, if that is known.
+    /// Returns the identity of the file, if that is known.
     pub fn id(&self) -> Option<FileId>
         ensures same { result ≡ self.now.id }
         ensures node { IfSome self.now.file (HasNode self.now.id) }
@@ -438,7 +444,7 @@ impl HostOut {
         self.id
     }
 
-    /// The path at which it is to be made, if it doesn't exist yet.
+    /// Returns the path at which the file is to be made, if it doesn't exist yet.
     pub fn unmade(&self) -> Option<&str>
         ensures { option_map (λ s. s.now) result ≡ self.now.unmade }
     {
@@ -448,7 +454,7 @@ impl HostOut {
         }
     }
 
-    /// Whether it is standard error, or the file to which that leads.
+    /// Returns whether this is standard error, or the file to which that leads.
     pub fn is_for_faults(&self, rt: &HostRuntime) -> bool {
         match &self.target {
             Target::Faults(..) => true,
@@ -456,7 +462,7 @@ impl HostOut {
         }
     }
 
-    /// Whether it is a terminal.
+    /// Returns whether the file is a terminal.
     pub fn is_terminal(&self) -> bool
         ensures { result ≡ true → self.now.file ≡ None }
     {
@@ -468,16 +474,17 @@ impl HostOut {
         }
     }
 
-    /// Whether it has taken no byte so far.
+    /// Returns whether the file has taken no byte so far.
     pub fn is_empty(&self) -> bool
         ensures { result ≡ true ↔ (self.now.took ≡ []) }
     {
         self.pace.taken == 0
     }
 
-    /// How many of the bytes that it took are certainly stored: on the disk, if they are to be and
-    /// the machine can wait for that. A file that was truncated or removed has fewer. What may
-    /// still be on its way through a pipe isn't counted.
+    /// Returns how many of the bytes that the file took are certainly stored: on the disk, if
+    /// `durability` asks for that and the file system can sync. Syncs if necessary. After a sync
+    /// that failed, only what earlier syncs covered is counted. A file that was truncated or
+    /// removed has fewer. The last bytes that went into a pipe aren't counted.
     pub fn settle(&mut self, rt: &HostRuntime, durability: Durability) -> u64
         ensures same { self.new ≡ record self.old { settled = self.new.settled } }
         ensures most { result ≤ length self.old.took }
@@ -494,8 +501,9 @@ impl HostOut {
         self.target.certain_of(rt, held)
     }
 
-    /// Like `settle`, but by what the waits so far have shown, without another one, which might take a
-    /// failure away that the end is to find. If the disk isn't waited for, nothing is certain.
+    /// Returns how many bytes are certainly stored, like [`settle`](HostOut::settle), but by what
+    /// earlier syncs have shown, and 0 if `durability` asks for none. Makes no sync, which might
+    /// take a failure away that `close` is to find.
     pub fn settled_so_far(&self, rt: &HostRuntime, durability: Durability) -> u64
         ensures most { result ≤ length self.now.took }
         ensures stored { result ≤ self.now.settled }
@@ -509,7 +517,8 @@ impl HostOut {
         }
     }
 
-    /// Whether puts were tried, and none took a byte.
+    /// Returns whether puts were tried, none took a byte, and the file is unchanged. Returns
+    /// `false` for a standard stream.
     fn has_only_failed(&self) -> bool
         ensures { result ≡ true
             → (0 < self.now.failed) × ((self.now.took ≡ []) × (self.now.unmade ≡ None)) }
@@ -524,8 +533,8 @@ impl HostOut {
         }
     }
 
-    /// Ends it with what was written, and closes it in any case. If each put failed, it is
-    /// unchanged. Fails if it wasn't made.
+    /// Ends the file with what was written, and closes it in any case. Returns the record of that,
+    /// and the result. If each put failed, the file is unchanged. Fails if the file wasn't made.
     pub fn close(self, rt: &HostRuntime, durability: Durability) -> (HostEnded, io::Result<()>)
         ensures closes { Closes durability self.file (as_sink self) result.1 result.0 }
         ensures made { OnOk result.1 (self.unmade ≡ None) }
@@ -559,7 +568,8 @@ impl HostOut {
         }
     }
 
-    /// Ends it unchanged, if nothing was written.
+    /// Ends the file unchanged, if nothing was written. Removes a file that a failed put has made,
+    /// if it is still empty. Returns the record of that.
     pub fn discard(self, rt: &HostRuntime, durability: Durability) -> HostEnded
         ensures discards { Discards self.file (as_sink self) result }
     {
@@ -582,7 +592,7 @@ impl HostOut {
     }
 }
 
-/// What the machine answered when it took no byte.
+/// Returns the error of a put that took no byte.
 fn error_of(put: io::Result<usize>) -> io::Error {
     match put {
         Ok(_) => io::Error::from(io::ErrorKind::WriteZero),
@@ -615,7 +625,7 @@ impl Sink for HostOut {
         self.failures.note(taken)
     }
 
-    /// Makes a file that doesn't exist yet. The program keeps no buffer for the machine's files.
+    /// Makes a file that doesn't exist yet. There is no buffer to write out.
     fn flush(&mut self) -> Result<(), Failed>
         ensures flushed { OnOk result ((as_sink self.new).flushed ≡ true) }
         ensures bytes { Keeps (as_sink self.old).taken (as_sink self.new).taken }

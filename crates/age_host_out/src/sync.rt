@@ -1,4 +1,4 @@
-//! Waits until files of the machine have reached the disk, and closes them.
+//! Syncing files that are written, and closing standard streams.
 
 use age_machine::calls::{close, open_there};
 use age_machine::{above_streams, sync};
@@ -7,7 +7,7 @@ use std::fs::File;
 use std::io;
 use std::rt::HostRuntime;
 
-/// Waits until a file has reached the disk, if it is of a kind that can and the machine can wait.
+/// Syncs a file, if its bytes are on a disk and its file system can sync.
 pub(crate) fn sync_file(file: &File) -> io::Result<()> {
     if is_on_disk(&file.metadata()?) {
         sync(file)?;
@@ -15,19 +15,20 @@ pub(crate) fn sync_file(file: &File) -> io::Result<()> {
     Ok(())
 }
 
-/// A second descriptor of the file to which a stream leads, by which the disk is waited for, since
-/// the kit can't wait by the one that was inherited. It is opened before anything is written, since
-/// the system reports a failed write to each descriptor that was open then, and to no later one.
+/// A second descriptor of the file behind a standard stream, by which the file is synced, since the
+/// kit can't sync by the descriptor that was inherited. It is opened before anything is written,
+/// since the system reports a failed write to each descriptor that was open then, and to no later
+/// one.
 #[derive(Drop)]
 pub(crate) struct Witness(Option<io::Result<File>>);
 
 impl Witness {
-    /// None, for what isn't a stream.
+    /// Returns no descriptor, for a stream that is never synced.
     pub(crate) fn none() -> Witness {
         Witness(None)
     }
 
-    /// The one of a stream, if that leads to a file that can be on a disk.
+    /// Opens a second descriptor of the file behind a stream, if its bytes may be on a disk.
     pub(crate) fn of(rt: &HostRuntime, stream: StandardStream) -> Witness {
         if stream.may_be_on_disk(rt) {
             Witness(Some(open_either_way(rt, stream.path())))
@@ -36,7 +37,7 @@ impl Witness {
         }
     }
 
-    /// Whether the file couldn't be opened, as when it is another user's.
+    /// Returns whether the file couldn't be opened, as when it is another user's.
     pub(crate) fn is_missing(&self) -> bool {
         match &self.0 {
             Some(Err(_)) => true,
@@ -44,8 +45,8 @@ impl Witness {
         }
     }
 
-    /// Waits until what went to the stream has reached the disk. Fails if the file couldn't be
-    /// opened.
+    /// Syncs what went to the stream, if there is a descriptor for that. Fails if the file couldn't
+    /// be opened.
     pub(crate) fn sync(&self) -> io::Result<()> {
         match &self.0 {
             Some(Ok(file)) => sync(file).map(|_| ()),
@@ -55,7 +56,7 @@ impl Witness {
     }
 }
 
-/// Opens a file for reading, or else for writing.
+/// Opens a file for reading, or for writing if it can't be read.
 fn open_either_way(rt: &HostRuntime, path: &str) -> io::Result<File> {
     match File::open(rt, path) {
         Ok(file) => above_streams(file),
@@ -63,8 +64,8 @@ fn open_either_way(rt: &HostRuntime, path: &str) -> io::Result<File> {
     }
 }
 
-/// Closes a second descriptor of a stream, if it leads to a file that can be on a disk. The first
-/// one stays open, since the next file to be opened would take its place.
+/// Closes a second descriptor of a stream, if its bytes may be on a disk. The first one stays open,
+/// since the next file to be opened would take its place.
 pub(crate) fn close_stream(rt: &HostRuntime, stream: StandardStream) -> io::Result<()> {
     if stream.may_be_on_disk(rt) {
         close(rt, stream.copy(rt)?)

@@ -1,4 +1,4 @@
-//! What the bytes of a written file go to.
+//! The target of an output: a regular file, a device or a standard stream.
 
 ghost use Rattle.std.specs.Prelude.{◌≡◌, ◌≤◌, ◌<◌, ◌++◌, [], None, true, IfOk, IfSome, OnOk, OnErr, is_ok};
 ghost use Rattle.std.specs.Prelude.{ℕ, List, string_bytes};
@@ -20,8 +20,8 @@ use std::os::fd::AsFd;
 use std::rt::{HostRuntime, Stderr, Stdout};
 use std::{fs, mem};
 
-/// How many bytes of what a pipe took aren't counted as certain, since the pipe and its reader may hold
-/// them: a network connection holds megabytes.
+/// The number of bytes that a pipe took and that aren't counted as certain, since the pipe and its
+/// reader may hold them: a network connection holds megabytes.
 const ON_THE_WAY: u64 = 4 << 20;
 
 /// The name of an output, and the system's answer if it is a link.
@@ -32,7 +32,7 @@ pub(crate) struct OutName {
 }
 
 impl OutName {
-    /// A name that is the path itself, since no link is followed from it.
+    /// Returns a name that is the path itself, since no link is followed from it.
     pub(crate) fn own(text: String) -> OutName
         ensures { (string_bytes result.text ≡ string_bytes text) × (result.link ≡ None) }
     {
@@ -40,22 +40,23 @@ impl OutName {
     }
 }
 
-/// Where the bytes of an output go.
+/// The target of an output's bytes.
 #[derive(Drop)]
 pub(crate) enum Target {
     /// A regular file that was opened or made.
     File(Out),
-    /// A file that is to be made at this path, once something is to be written.
+    /// A file that is to be made at this path, before the first byte is written.
     Unmade(String),
     /// A pipe or a device that was opened.
     Device(Device),
-    /// Standard output, from where it stands, and what its disk is waited for by.
+    /// Standard output, from its current position, and the descriptor by which it is synced.
     Output(Stdout, Witness),
-    /// Standard error, from where it stands.
+    /// Standard error, from its current position, and the descriptor by which it is synced.
     Faults(Stderr, Witness),
 }
 
-/// Writes to what isn't a regular file, and notes what it took. No proof sees the call.
+/// Writes some bytes, by one call, to what isn't a regular file, and notes what it took. Proofs
+/// assume nothing about the call.
 fn write_once<W: Write>(to: &mut W, from: &[u8], handed: &mut Tape) -> io::Result<usize>
     ensures bound { WritesAtMost result from.now }
     ensures notes { handed.new ≡ handed.old ++ part_of result from.now }
@@ -66,7 +67,8 @@ fn write_once<W: Write>(to: &mut W, from: &[u8], handed: &mut Tape) -> io::Resul
     Ok(n)
 }
 
-/// Writes, and tries again if the machine says to.
+/// Writes some bytes to what isn't a regular file, and returns their number. Retries a call that
+/// was interrupted, or whose descriptor wasn't ready.
 fn write_to<W: Write>(
     rt: &HostRuntime,
     to: &mut W,
@@ -86,7 +88,7 @@ fn write_to<W: Write>(
 }
 
 impl Target {
-    /// What is written to a stream, from where it stands. Standard input can't be written.
+    /// Returns a standard stream as a target, from its current position. Fails for standard input.
     pub(crate) fn of_stream(rt: &HostRuntime, stream: StandardStream) -> io::Result<Target>
         ensures { IfOk result (λ t. (regular_of t ≡ None) × (unmade_of t ≡ None)) }
     {
@@ -98,7 +100,7 @@ impl Target {
         }
     }
 
-    /// Writes some bytes, and notes what anything but a regular file took.
+    /// Writes some bytes, and returns their number. Notes what anything but a regular file took.
     pub(crate) fn write(
         &mut self,
         rt: &HostRuntime,
@@ -120,7 +122,7 @@ impl Target {
         }
     }
 
-    /// Waits until what was written has reached the disk.
+    /// Syncs what was written.
     pub(crate) fn reach_disk(&mut self) -> io::Result<()>
         ensures { TargetGoes self.old self.new true [] }
     {
@@ -133,8 +135,8 @@ impl Target {
         }
     }
 
-    /// Closes a second descriptor of it, if one can be made, since some file systems store a file
-    /// only when one is closed, and say only then that they can't.
+    /// Closes a second descriptor of the target, if one can be made, since some file systems store
+    /// a file only when one is closed, and say only then that they can't.
     pub(crate) fn close_copy(&self, rt: &HostRuntime) -> io::Result<()> {
         let copy = match self {
             Target::File(out) => out.file().file().as_fd().try_clone_to_owned(),
@@ -148,7 +150,7 @@ impl Target {
         }
     }
 
-    /// How long the file is to which its name leads; 0 if there is none.
+    /// Returns the length of the file to which the target's name leads, or 0 if there is none.
     pub(crate) fn length_by_name(&self, rt: &HostRuntime) -> u64 {
         let path = match self {
             Target::File(out) => out.path(),
@@ -163,8 +165,8 @@ impl Target {
         }
     }
 
-    /// How many of `held` bytes are certain. A file has no more than its length, and the last bytes
-    /// of a pipe may be on their way to whoever reads it.
+    /// Returns how many of `held` bytes the target holds for certain: at most the file's length,
+    /// and of a pipe all but the last [`ON_THE_WAY`], which may be on their way to its reader.
     pub(crate) fn certain_of(&self, rt: &HostRuntime, held: u64) -> u64
         ensures { result ≤ held }
     {
@@ -182,7 +184,8 @@ impl Target {
         }
     }
 
-    /// Whether the disk can be waited for. If it can't, that is said at the end, once all is written.
+    /// Returns whether the target can be synced. A target that can't is written in full before that
+    /// is reported.
     pub(crate) fn can_reach_disk(&self) -> bool {
         match self {
             Target::File(_) | Target::Unmade(_) | Target::Device(_) => true,
@@ -191,7 +194,7 @@ impl Target {
     }
 }
 
-/// Takes a regular file for this run alone, if its name leads to it.
+/// Locks a regular file for this run, and fails if its name doesn't lead to it then.
 fn take_alone(rt: &HostRuntime, out: &mut Out, id: Option<FileId>, name: &str) -> io::Result<()>
     ensures same { (out.new.file ≡ out.old.file) × (out.new.is_lost ≡ out.old.is_lost) }
     ensures text { text_of out.new.calls ≡ text_of out.old.calls }
@@ -205,7 +208,8 @@ fn take_alone(rt: &HostRuntime, out: &mut Out, id: Option<FileId>, name: &str) -
     }
 }
 
-/// A target whose regular file is taken for this run alone, if its name still leads to it.
+/// Returns the target, with its regular file locked for this run. Fails if the name no longer leads
+/// to that file.
 pub(crate) fn claimed(
     rt: &HostRuntime,
     target: Target,
@@ -226,8 +230,8 @@ pub(crate) fn claimed(
     }
 }
 
-/// Makes the file of a target that doesn't exist yet, and takes it for this run alone. Fails if
-/// something has appeared at its path, or if its name doesn't lead to it. A file that was made stays.
+/// Makes the file of a target that doesn't exist yet, and locks it for this run. Fails if something
+/// has appeared at its path, or if its name doesn't lead to it. A file that was made stays.
 pub(crate) fn make_first(
     rt: &HostRuntime,
     name: &str,

@@ -1,4 +1,4 @@
--- What holds of a file that is written in place, between the calls of its methods.
+-- An output between the calls of its methods.
 use Rattle.std.specs.Prelude.{◌≡◌, ◌⊎◌, ◌<◌, ℕ, List, [], ◌∷◌, length, take, Bool, true, false, Some}
 use Rattle.std.specs.Prelude.{Contains}
 use Rattle.age_calls.specs.Calls.{FileCall, Locked, Unlockable, Waited}
@@ -6,7 +6,7 @@ use Rattle.age_calls.specs.Disk.{Disk, after_calls}
 use Rattle.age_calls.specs.Saves.{AllAnswered}
 use Rattle.age_calls.specs.Outs.{text_of, has_changed, AllOn, IsClaimed, LocksFirst}
 
--- the file begins with what was written, on a disk
+-- On this disk, the path leads to the file, which begins with what was written.
 pub record HasWritten (path : List ℕ) (n : ℕ) (is_stale : Bool) (text : List ℕ) (disk : Disk)
     : Type 0 where
   pub file : disk.file path ≡ Some n
@@ -15,16 +15,17 @@ pub record HasWritten (path : List ℕ) (n : ℕ) (is_stale : Bool) (text : List
   pub whole : is_stale ≡ false → disk.bytes n ≡ text
   pub is_lost : disk.is_lost n ≡ false
 
+-- On each disk that answers, the path leads to the file, which begins with what was written.
 abbrev pub AlwaysHasWritten : List ℕ → ℕ → Bool → List ℕ → List FileCall → Type 0
 AlwaysHasWritten path n is_stale text calls = (disk : Disk) → AllAnswered path calls disk
     → HasWritten path n is_stale text (after_calls calls disk)
 
--- the file was opened, and perhaps claimed
+-- The file was opened, and perhaps locked, and nothing else was done.
 abbrev pub IsJustOpened : ℕ → FileCall → List FileCall → Type 0
 IsJustOpened n opening calls = (calls ≡ opening ∷ [])
     ⊎ Waited (Locked n) (Unlockable n) (opening ∷ []) calls
 
--- what holds between the calls of its methods
+-- The invariant of an output: what its fields say of the calls that were made.
 pub record IsOut (path : List ℕ) (n : ℕ) (opening : FileCall) (is_stale is_lost is_claimed : Bool)
     (count failed : ℕ) (calls : List FileCall) : Type 0 where
   -- (in any order: by `on` it is the first call)

@@ -1,4 +1,4 @@
-//! Files of the machine that are open for writing. No proof sees what the system shows of them.
+//! Files that are open for writing. Proofs assume nothing about what the system shows of them.
 
 ghost use Rattle.std.specs.Prelude.{◌≡◌, ◌<◌, length, true, false, IsOk, IfOk, IfErr};
 ghost use Rattle.std.specs.Io.{WritesAtMost};
@@ -31,8 +31,8 @@ pub fn above_streams(file: File) -> io::Result<File> {
     }
 }
 
-/// Moves a file that was made at a path to a descriptor above the standard streams. The file is
-/// removed if that fails, unless another file is there by then.
+/// Moves a file that was made at a path to a descriptor above 2, as [`above_streams`] does. Removes
+/// the file if that fails, unless another file is at the path by then.
 pub fn kept_above(rt: &HostRuntime, made: File, path: &str) -> io::Result<File> {
     if made.as_raw_fd() > STREAM_MAX {
         return Ok(made);
@@ -44,15 +44,15 @@ pub fn kept_above(rt: &HostRuntime, made: File, path: &str) -> io::Result<File> 
     moved
 }
 
-/// Waits until the names in the folder of a path have reached the disk; `false` if the machine has
-/// no way to wait. Fails if the folder can't be read.
+/// Syncs the folder of a path, so that its names are on the disk. Returns `false` if the file
+/// system can't sync it. Fails if the folder can't be opened.
 pub fn sync_folder(rt: &HostRuntime, path: &str) -> io::Result<bool> {
     sync(&File::open(rt, folder_of(path))?)
 }
 
-/// Opens a file for writing without emptying it; `None` if none exists. It is opened as if it might
-/// have to be made (`O_CREAT`), since only then does the system refuse somebody else's file or pipe
-/// in a sticky folder, if it protects these. A file that is removed just before is made.
+/// Opens a file for writing without truncating it, or returns `None` if it doesn't exist. A file
+/// that is removed just before is made again, since this opens with `O_CREAT`: only then does the
+/// system refuse somebody else's file or pipe in a sticky folder, if it protects these.
 fn open_to_write(rt: &HostRuntime, name: &str) -> io::Result<Option<File>> {
     match led_to(rt, name)? {
         Some(_) => Ok(Some(calls::open_or_make(rt, name, OUTPUT_MODE)?)),
@@ -60,14 +60,14 @@ fn open_to_write(rt: &HostRuntime, name: &str) -> io::Result<Option<File>> {
     }
 }
 
-/// Whether a file was made at another time than one that was found before, as far as the system
-/// shows that. Nodes don't tell, since the next file may get the node of a removed one.
+/// Returns whether two files were made at different times, as far as the system shows that. Inode
+/// numbers don't tell, since the next file may get the number of a removed one.
 fn was_made_later(before: &Metadata, now: &Metadata) -> bool {
     matches!((before.created(), now.created()), (Ok(before), Ok(now)) if before != now)
 }
 
-/// Whether opening a file has made it, since the one that was found before, which held something,
-/// is gone. Then it is empty, no other run has it, and its path leads to it.
+/// Returns whether opening a file has made it, since the file that was seen before is gone. That
+/// one held something; this one is empty, no other run has locked it, and its path leads to it.
 fn is_made_anew(rt: &HostRuntime, before: io::Result<Metadata>, file: &File, path: &str) -> bool {
     let (Ok(before), Ok(now)) = (before, file.metadata()) else {
         return false;
@@ -77,7 +77,7 @@ fn is_made_anew(rt: &HostRuntime, before: io::Result<Metadata>, file: &File, pat
     is_another && was_emptied && file.try_lock().is_ok() && is_at(rt, file, path)
 }
 
-/// Whether a folder can't be read, as far as the error says.
+/// Returns whether an error says that a folder can't be read.
 fn is_out_of_reach(error: &io::Error) -> bool {
     matches!(
         error.kind(),
@@ -85,7 +85,8 @@ fn is_out_of_reach(error: &io::Error) -> bool {
     )
 }
 
-/// Like `sync_folder`, but also `false` if the folder can't be read.
+/// Syncs the folder of a path like [`sync_folder`], but also returns `false` if the folder can't be
+/// read.
 pub(crate) fn sync_readable_folder(rt: &HostRuntime, path: &str) -> io::Result<bool> {
     match File::open(rt, folder_of(path)) {
         Ok(folder) => sync(&folder),
@@ -94,26 +95,30 @@ pub(crate) fn sync_readable_folder(rt: &HostRuntime, path: &str) -> io::Result<b
     }
 }
 
-/// What a file is now.
+/// The length of an open file, and whether it still has a name, as `fstat` tells.
 #[derive(Clone, Copy)]
 pub struct Sight {
-    /// Whether it has a name.
+    /// True if the file has a name.
     pub is_named: bool,
+    /// The length in bytes.
     pub len: u64,
 }
 
-/// What a file is to look like, unless another program has harmed it.
+/// The length that a file should have, and whether it should have a name. If it differs, another
+/// program has changed the file.
 #[derive(Clone, Copy)]
 pub struct Shape {
+    /// The length in bytes.
     pub len: u64,
-    /// Whether it may have more bytes than that.
+    /// True if the file may be longer than `len`.
     pub may_be_longer: bool,
-    /// Whether its length says how much was written to it.
+    /// True if the length shows how much was written to the file.
     pub has_length: bool,
+    /// True if the file should have a name.
     pub is_named: bool,
 }
 
-/// Returns what a file is now.
+/// Returns the length of a file, and whether it has a name (`fstat`).
 pub(crate) fn sight_of(file: &File) -> io::Result<Sight> {
     let now = file.metadata()?;
     Ok(Sight {
@@ -122,8 +127,9 @@ pub(crate) fn sight_of(file: &File) -> io::Result<Sight> {
     })
 }
 
-/// Fails if another program has removed a file or changed its length. A file system that takes
-/// bytes before there is room for them, as NFS does, says why a file is too short only at a wait.
+/// Fails if another program has removed a file or changed its length. Syncs a file of the wrong
+/// length first, since a file system that takes bytes before there is room for them, as NFS does,
+/// says why only then.
 pub(crate) fn check(file: &File, shape: &Shape) -> io::Result<()> {
     let now = sight_of(file)?;
     let is_right = now.len == shape.len || (shape.may_be_longer && now.len > shape.len);
@@ -137,11 +143,12 @@ pub(crate) fn check(file: &File, shape: &Shape) -> io::Result<()> {
     }
 }
 
-/// The number of the error `ENOLCK`, which says that no locks are available, and has no kind.
+/// The number of the error `ENOLCK` (no locks available), which has no kind in `std`.
 const NO_LOCKS: i32 = 37;
 
-/// Whether an error says that a file system has no locks. One whose locks fail, as when its server
-/// can't be reached, says something else, since another run may have the file there.
+/// Returns whether an error says that a file system has no locks. A file system whose locks fail,
+/// as when its server can't be reached, gives another error: another run may have locked the file
+/// there.
 fn has_no_locks(error: &io::Error) -> bool
     ensures { result ≡ true → SaysNoLocks error.now }
 {
@@ -151,8 +158,8 @@ fn has_no_locks(error: &io::Error) -> bool
     }
 }
 
-/// Whether the system gave a lock, by its answer; `false` if it has no locks for the file. Fails if
-/// another run has the lock.
+/// Returns whether the system gave a lock, by its answer, or `false` if it has no locks for the
+/// file. Fails if another run has the lock.
 fn is_locked(answer: Result<(), TryLockError>) -> io::Result<bool>
     ensures given { IfOk result (λ it. it ≡ true → IsOk answer) }
     ensures cant { IfOk result (λ it. it ≡ false → IfErr answer HasNoLocks) }
@@ -168,8 +175,8 @@ fn is_locked(answer: Result<(), TryLockError>) -> io::Result<bool>
     }
 }
 
-/// Takes a regular file for this run alone, while it is open; `false` if the file system has no
-/// locks, so that every run may have it. Fails if another run has it.
+/// Locks a regular file for this run while it is open. Returns `false` if it isn't a regular file
+/// or its file system has no locks. Fails if another run has the lock.
 pub fn lock(file: &File) -> io::Result<bool> {
     if !file.metadata()?.is_file() {
         return Ok(false);
@@ -177,22 +184,23 @@ pub fn lock(file: &File) -> io::Result<bool> {
     is_locked(file.try_lock())
 }
 
-/// Closes a second descriptor of a file.
+/// Closes a second descriptor of a file, so that the file system reports failed writes. The file
+/// stays open.
 pub fn close_copy(rt: &HostRuntime, file: &File) -> io::Result<()> {
     calls::close(rt, file.try_clone()?)
 }
 
-/// A file of the machine that is open for writing.
+/// A file that is open for writing, with its device and inode.
 #[derive(Drop)]
 pub struct HostFile {
     file: File,
     node: Node,
-    // Whether it had a name when it was opened.
+    // True if the file had a name when it was opened.
     is_named: bool,
 }
 
 impl HostFile {
-    /// Takes an open file, and says what kind it is.
+    /// Creates a `HostFile` of an open file, and returns the kind of the file too.
     pub(crate) fn of(file: File) -> io::Result<(HostFile, Kind)> {
         let found = file.metadata()?;
         let node = Node::of(&found);
@@ -210,7 +218,8 @@ impl HostFile {
         Ok((file, kind))
     }
 
-    /// Opens a file for writing without emptying it; `None` if it doesn't exist, or no longer does.
+    /// Opens a file for writing without truncating it, or returns `None` if it doesn't exist, or no
+    /// longer does. A file that opening has made is removed again, if that is noticed.
     pub(crate) fn open(
         rt: &HostRuntime,
         name: &str,
@@ -229,31 +238,32 @@ impl HostFile {
         }
     }
 
-    /// Which file it is, whatever its names. Calls about it go by this node.
+    /// Returns the file's device and inode, by which calls about it are noted.
     pub fn node(&self) -> Node
         ensures { result ≡ self.now.node }
     {
         self.node
     }
 
-    /// The file itself.
+    /// Returns the open file.
     pub fn file(&self) -> &File {
         &self.file
     }
 
-    /// Whether it had a name when it was opened.
+    /// Returns whether the file had a name when it was opened.
     pub fn is_named(&self) -> bool {
         self.is_named
     }
 
-    /// Returns the file itself, to be kept.
+    /// Converts this into the open file.
     pub fn into_file(self) -> File {
         let HostFile { file, .. } = self;
         file
     }
 }
 
-/// The file that was made at a path, if one was. It is removed if it can't be used.
+/// Returns the file that a call has made at a path, if it has. Removes the file if it can't be
+/// used.
 pub(crate) fn made_file(
     rt: &HostRuntime,
     made: io::Result<File>,
@@ -268,12 +278,13 @@ pub(crate) fn made_file(
     }
 }
 
-/// The error for a write that took nothing.
+/// Returns the error of a write that took no byte.
 fn no_byte() -> io::Error {
     io::Error::new(io::ErrorKind::WriteZero, "failed to write whole buffer")
 }
 
-/// Writes some bytes to a file, from an offset on, and tries again if the machine says to.
+/// Writes some bytes to a file at an offset, and returns their number: at least 1, unless there are
+/// none. Retries a call that was interrupted, or whose descriptor wasn't ready.
 pub fn write_at(rt: &HostRuntime, file: &File, at: u64, bytes: &[u8]) -> io::Result<usize>
     ensures bound { WritesAtMost result bytes.now }
     ensures some { IfOk result (λ n. 0 < length bytes.now → 0 < n) }

@@ -1,4 +1,4 @@
-//! A regular file that is written in place.
+//! Regular files that are written in place.
 
 ghost use Rattle.std.specs.Prelude.{◌≡◌, ◌≢◌, ◌⊎◌, ◌≤◌, ◌<◌, ◌+◌, ◌^◌, ◌∷◌, ◌++◌, [], ℕ, List, length, take};
 ghost use Rattle.std.specs.Prelude.{string_bytes, true, false, is_some, IfOk, OnOk, OnErr};
@@ -20,40 +20,43 @@ use age_options::Durability;
 use std::io;
 use std::marker::Model;
 
-/// How many bytes may be written before a file is looked at again. Each write to one that opening
-/// made goes to its end, so truncating it leaves no hole, and it is looked at less often.
+/// The number of bytes that may be written to an existing file between two checks of its length.
+/// Each write to a file that opening made goes to its end, so that truncating it leaves no hole,
+/// and its length is checked less often.
 const SIGHT_OF_FOUND: u64 = 1 << 24;
 
 const SIGHT_OF_MADE: u64 = 1 << 30;
 
-/// A regular file that is written in place, from its beginning on, by a machine of its own.
+/// A regular file that is written in place, from its beginning on, and the calls made for it.
 #[derive(Drop)]
 pub struct Out {
     machine: Machine,
     file: HostFile,
-    // Its path, at the end of all links.
+    // The path, at the end of all links.
     path: String,
     opening: Opening,
-    // Whether no other run has it, if the file system has locks.
+    // Whether this run has locked the file, or its file system has no locks.
     is_claimed: bool,
-    // Whether what it held still exists, beyond the bytes that were written.
+    // Whether the file may hold old bytes, beyond those that were written.
     is_stale: bool,
     written: u64,
-    // How much had been written when it was last seen to look as it should.
+    // The number of bytes that were written when the length was last checked.
     seen: u64,
-    // Whether its length is how much was written, as long as nobody else changes it. Files that the
-    // system makes up, as in /proc, have another length.
+    // Whether the length is the number of bytes that were written, as long as nobody else changes
+    // the file. Files that the system makes up, as in /proc, have another length.
     has_length: bool,
-    // Why what it holds can't be relied on: the wait for the disk or the truncation has failed, or
-    // another program has harmed it. The system says so only once, so a later wait proves nothing.
+    // The error after which the file may hold anything: a sync or the truncation has failed, or
+    // another program has changed the file. The system reports a failed sync only once, so a later
+    // sync proves nothing.
     lost: Option<io::Error>,
 }
 
-/// What became of a file that was written in place and ended.
+/// The result of ending a file that was written in place.
 #[derive(Drop)]
 pub struct Ended {
+    /// The error of the first call that failed, or `Ok`.
     pub end: io::Result<()>,
-    /// The machine after all calls.
+    /// The machine, with all calls that were made for the file.
     pub machine: Machine,
 }
 
@@ -81,7 +84,7 @@ impl Model for Out {
         o.is_claimed o.written (o.machine.failed) (o.machine.calls) };
 }
 
-/// Waits until what a file holds has reached the disk, if it is to be there.
+/// Syncs a file, if `durability` asks for that.
 fn settle(machine: &mut Machine, file: &HostFile, durability: Durability) -> io::Result<()>
     ensures either { OnOk result ((machine.new.calls ≡ machine.old.calls)
         ⊎ Waited (Synced (number_of file.now.node)) (Unwaited (number_of file.now.node)) (machine.old.calls)
@@ -100,7 +103,7 @@ fn settle(machine: &mut Machine, file: &HostFile, durability: Durability) -> io:
     }
 }
 
-/// Waits until the names in the folder of a path have reached the disk, if they are to be there.
+/// Syncs the folder of a path, if `durability` asks for that.
 fn settle_names(machine: &mut Machine, path: &str, durability: Durability) -> io::Result<()>
     ensures ok { OnOk result (durability ≡ wait.Synced → Waited (SyncedNames path.now)
         (UnwaitedNames path.now) (machine.old.calls) (machine.new.calls)) }
@@ -115,7 +118,7 @@ fn settle_names(machine: &mut Machine, path: &str, durability: Durability) -> io
     }
 }
 
-/// Truncates a file to the bytes that were written, if what it held may be beyond them.
+/// Truncates a file to the bytes that were written, if old ones may follow them.
 fn cut_stale(machine: &mut Machine, file: &HostFile, is_stale: bool, written: u64) -> io::Result<()>
     ensures held { (path : List ℕ) (opening : FileCall)
         → length (text_of (machine.old.calls)) ≤ written → StaysHeld path (number_of file.now.node)
@@ -133,8 +136,8 @@ fn cut_stale(machine: &mut Machine, file: &HostFile, is_stale: bool, written: u6
     machine.cut(file, written)
 }
 
-/// Truncates a file to what was written, and waits for the disk. Fails if another program has
-/// harmed the file.
+/// Truncates a file to what was written, syncs it if `durability` asks for that, and checks its
+/// length and name. Fails with the error in `lost`, if there is one, before any of that.
 fn finish(
     machine: &mut Machine,
     file: &HostFile,
@@ -166,8 +169,8 @@ fn finish(
     machine.check(file, shape)
 }
 
-/// Waits until the name of a file has reached the disk, if it is to be there. If another program
-/// made the name, this waits only if the folder can be read.
+/// Syncs the folder of a file, if `durability` asks for that. If opening didn't make the file, does
+/// so only if the path is known to lead to it and the folder can be read.
 fn settle_name(
     machine: &mut Machine,
     path: &str,
@@ -191,7 +194,7 @@ fn settle_name(
     }
 }
 
-/// Closes a file, and waits for its name.
+/// Closes a file, and syncs its folder if `durability` asks for that.
 fn close_named(
     machine: &mut Machine,
     file: &HostFile,
@@ -215,7 +218,7 @@ fn close_named(
     settle_name(machine, path, opening, durability)
 }
 
-/// Removes a file that opening made, if this run alone has it, and it is still empty.
+/// Removes a file that opening made, if no other run has locked it and it is still empty.
 fn take_back(
     machine: &mut Machine,
     file: &HostFile,
@@ -233,7 +236,7 @@ fn take_back(
     let _ = settle_names(machine, path, durability);
 }
 
-/// How many bytes may be written before a file is looked at again.
+/// Returns the number of bytes that may be written between two checks of a file's length.
 fn sight_of(opening: Opening) -> u64 {
     if opening.is_made() {
         SIGHT_OF_MADE
@@ -242,13 +245,14 @@ fn sight_of(opening: Opening) -> u64 {
     }
 }
 
-/// Whether a file has this many bytes, as far as that is known.
+/// Returns whether a file has `len` bytes, or `false` if it can't be looked at.
 fn is_as_long(machine: &Machine, file: &HostFile, len: u64) -> bool {
     matches!(machine.look(file), Ok(now) if now.len == len)
 }
 
 impl Out {
-    /// Takes a file that was opened for writing. What is written replaces what it holds.
+    /// Creates an output of a file that was opened for writing. What is written replaces what it
+    /// holds.
     pub fn new(machine: Machine, file: HostFile, path: String, opening: Opening) -> Out
         requires unfailed { machine.failed ≡ 0 }
         requires opened { machine.calls
@@ -278,7 +282,7 @@ impl Out {
         }
     }
 
-    /// Its path, the file itself, and whether opening made it.
+    /// Returns the path at the end of all links, the file, and whether opening made it.
     pub fn which(&self) -> (&str, &HostFile, bool)
         ensures path { result.0.now ≡ self.now.file.path }
         ensures number { number_of result.1.now.node ≡ self.now.file.number }
@@ -287,22 +291,22 @@ impl Out {
         (self.path.as_str(), &self.file, self.opening.is_made())
     }
 
-    /// Its path, at the end of all links.
+    /// Returns the path, at the end of all links.
     pub fn path(&self) -> &str
         ensures { result.now ≡ self.now.file.path }
     {
         self.path.as_str()
     }
 
-    /// The file itself.
+    /// Returns the open file.
     pub fn file(&self) -> &HostFile
         ensures { number_of result.now.node ≡ self.now.file.number }
     {
         &self.file
     }
 
-    /// Takes the file for this run alone until it is ended, so that no other run writes to it.
-    /// Fails if another run has it. If the file system has no locks, every run may have it.
+    /// Locks the file for this run until it is ended. Fails if another run has the lock. Succeeds
+    /// if the file system has no locks: then every run may write to the file.
     pub fn claim(&mut self) -> io::Result<()>
         ensures same { (self.new.file ≡ self.old.file) × (self.new.is_lost ≡ self.old.is_lost)
             × (text_of self.new.calls ≡ text_of self.old.calls) }
@@ -322,7 +326,7 @@ impl Out {
         locked
     }
 
-    /// What the file is to look like now.
+    /// Returns the length that the file should have now, and whether it should have a name.
     fn shape(&self, may_be_longer: bool) -> Shape
         ensures { result.len ≡ length (text_of self.now.calls) }
     {
@@ -334,9 +338,9 @@ impl Out {
         }
     }
 
-    /// Fails if the file can't be relied on, or if it is time to look and another program has
-    /// harmed it. While more is to be written, the file may be longer, since somebody else may
-    /// append to it, which is noticed when it is ended.
+    /// Checks, when it is due, that no other program has truncated or removed the file. Fails if
+    /// one has, or if an earlier call left the file unknown. The file may be longer than what was
+    /// written, since another program may append to it: that is noticed when it is ended.
     fn look(&mut self) -> io::Result<()>
         ensures same { (self.new.file ≡ self.old.file) × (self.new.calls ≡ self.old.calls) }
         ensures sound { OnOk result ((self.new.failed ≡ self.old.failed)
@@ -363,9 +367,9 @@ impl Out {
         }
     }
 
-    /// Truncates the file after the first bytes are written, and not before, so that a first write
-    /// that fails changes nothing. If it can't be truncated, the bytes count as written, and what
-    /// comes next fails.
+    /// Truncates the file after the first write, and not before, so that a first write that fails
+    /// changes nothing. If it can't be truncated, the bytes count as written, and the next call
+    /// fails.
     fn cut_first(&mut self, is_first: bool)
         requires { 0 < length (text_of self.old.calls) }
         ensures file { self.new.file ≡ self.old.file }
@@ -386,7 +390,8 @@ impl Out {
         }
     }
 
-    /// Writes some bytes after those that were written. The file is claimed before the first of them.
+    /// Writes some bytes after those that were written, and returns their number. Locks the file
+    /// before the first write.
     fn write(&mut self, from: &[u8]) -> io::Result<usize>
         requires { 0 < length from.now }
         ensures bound { IfOk result (λ n. (n ≤ length from.now) × (0 < n)) }
@@ -411,7 +416,7 @@ impl Out {
         Ok(n)
     }
 
-    /// Takes some bytes.
+    /// Writes some bytes, and returns their number: at least 1, unless there are none.
     pub fn put(&mut self, from: &[u8]) -> io::Result<usize>
         ensures bound { WritesAtMost result from.now }
         ensures some { IfOk result (λ n. 0 < length from.now → 0 < n) }
@@ -432,8 +437,8 @@ impl Out {
         self.write(from)
     }
 
-    /// Waits until what was written has reached the disk. Once a wait has failed, each later one
-    /// fails. What was written before a truncation that failed can still reach the disk.
+    /// Syncs what was written, if anything was. Once a sync has failed, each later one fails. After
+    /// a truncation that failed, what was written before it can still be synced.
     pub fn reach(&mut self) -> io::Result<()>
         ensures file { self.new.file ≡ self.old.file }
         ensures still { text_of self.old.calls ≡ [] → self.new ≡ self.old }
@@ -462,7 +467,8 @@ impl Out {
         }
     }
 
-    /// How many of the bytes that were written it can hold, by its length.
+    /// Returns how many of the written bytes the file can hold, by its length. Returns 0 if it was
+    /// removed or can't be looked at, and `u64::MAX` if its length doesn't show what was written.
     pub fn room(&self) -> u64 {
         match self.machine.look(&self.file) {
             Ok(_) if !self.has_length => u64::MAX,
@@ -472,7 +478,7 @@ impl Out {
         }
     }
 
-    /// Whether it is unchanged, or still empty if opening made it.
+    /// Returns whether the file is unchanged, or still empty if opening made it.
     pub fn is_untouched(&self) -> bool {
         if self.is_stale {
             self.written == 0
@@ -481,8 +487,9 @@ impl Out {
         }
     }
 
-    /// Ends it with what was written, and closes it in any case. If nothing was written, it is
-    /// claimed first, and stays unchanged if another run has it.
+    /// Ends the output with exactly what was written: truncates the file, syncs it if `durability`
+    /// asks for that, and closes it in any case. If nothing was written, locks the file first, and
+    /// leaves it unchanged if another run has the lock.
     pub fn end(mut self, durability: Durability) -> Ended
         ensures safe { durability ≡ wait.Synced → self.failed ≡ 0 → OnOk result.end
             (IsSafe self.file.path (text_of self.calls) (result.machine.calls)) }
@@ -526,8 +533,8 @@ impl Out {
         }
     }
 
-    /// Ends it unchanged, if nothing was written. One that opening made is removed, if this run
-    /// alone has it, and it is still empty.
+    /// Ends the output with the file unchanged, if nothing was written. Removes a file that opening
+    /// made, if no other run has locked it and it is still empty.
     pub fn discard(self, durability: Durability) -> Machine
         ensures kept { self.failed ≡ 0 → text_of self.calls ≡ []
             → SavesWhole self.file.path [] [] (result.calls) }

@@ -1,8 +1,8 @@
-//! What writes a file by system calls.
+//! Writing files by system calls, each of which is noted.
 //!
-//! A [`Machine`] makes the calls, and its contracts see only which ones it made, in order, and how
-//! many have failed. What they leave on a disk is defined in `age_calls`. So what is proved of a
-//! function that makes these calls holds on every disk that does what the definitions say of a call.
+//! A [`Machine`] makes the calls. Its contracts see only which ones it made, in order, and how many
+//! have failed; `age_calls` defines what they leave on a disk. So what is proved of a function that
+//! makes these calls holds on every disk that does what the definitions say of a call.
 #![tactic(auto)]
 
 pub mod calls;

@@ -1,4 +1,5 @@
-//! The system calls that write a file. Each is noted where it is made. No proof sees what they do.
+//! The system calls that write a file, each noted where it is made. Proofs assume nothing about
+//! what they do.
 
 ghost use Rattle.std.specs.Prelude.{◌≡◌, ◌+◌, ◌≤◌, ◌<◌, [], ◌∷◌, take, length, IfOk, OnOk, OnErr, MatchOption};
 ghost use Rattle.age_calls.specs.Calls.{Made, Opened, Wrote, Cut, Broke, Synced, Unwaited, Closed, Locked};
@@ -18,24 +19,24 @@ use age_names::is_at;
 use std::io;
 use std::rt::HostRuntime;
 
-/// The machine, and which of its calls were made for one file.
+/// A handle to make system calls for one file, which notes each of them.
 ///
 /// Contracts see which calls were made, and which file each one was about. A call that fails has
 /// changed nothing, or what it changes if it succeeds, and nobody can tell which.
 #[derive(Drop)]
 pub struct Machine {
     rt: HostRuntime,
-    // The calls that were made, the newest first, and how many have failed.
+    // The calls that were made, the newest first, and the number of those that failed.
     calls: Calls,
     failed: FailedCalls,
-    // Whether a file system had no way to wait for a file.
+    // Whether a file system was unable to sync a file.
     is_unwaited: bool,
 }
 
 impl Machine {
     ghost use Rattle.age_machine.specs.inner.{file_call_of};
 
-    /// Returns the machine before the first call.
+    /// Returns a machine that has made no call.
     pub fn new(rt: &HostRuntime) -> Machine
         ensures { (result.calls ≡ []) × (result.failed ≡ 0) }
     {
@@ -47,7 +48,7 @@ impl Machine {
         }
     }
 
-    /// Returns the same machine, after the same calls, none of which counts as failed.
+    /// Returns a copy with the same calls, none of which counts as failed.
     pub fn again(&self) -> Machine
         ensures { (result.calls ≡ self.now.calls) × (result.failed ≡ 0) }
     {
@@ -59,12 +60,12 @@ impl Machine {
         }
     }
 
-    /// Whether a file system had no way to wait until a file had reached the disk.
+    /// Returns whether a file system was unable to sync a file.
     pub fn is_unwaited(&self) -> bool {
         self.is_unwaited
     }
 
-    /// Counts a call that failed.
+    /// Counts a call that failed, and returns its error.
     fn fail(&mut self, error: io::Error) -> io::Error
         ensures calls { self.new.calls ≡ self.old.calls }
         ensures failed { self.new.failed ≡ self.old.failed + 1 }
@@ -73,7 +74,7 @@ impl Machine {
         error
     }
 
-    /// Counts a call after which nothing is known of a file.
+    /// Counts a failed call after which the file may hold anything, and returns its error.
     fn break_file(&mut self, file: &HostFile, error: io::Error) -> io::Error
         ensures calls { self.new.calls ≡ Broke (number_of file.now.node) ∷ self.old.calls }
         ensures failed { self.new.failed ≡ self.old.failed + 1 }
@@ -82,7 +83,8 @@ impl Machine {
         self.fail(error)
     }
 
-    /// Notes one call if the machine could make it, and another if it has no way to make it.
+    /// Notes the first call if it was made, and the second if the system has no way to make it.
+    /// Counts a failure.
     fn note_either(
         &mut self,
         made: &Word<'_>,
@@ -102,8 +104,8 @@ impl Machine {
         Ok(())
     }
 
-    /// Makes an empty output at a path where nothing exists, not even a link, and opens it. Each write
-    /// to it goes to its end.
+    /// Makes an empty output at a path where nothing exists, not even a link, and opens it. Each
+    /// write to it goes to its end.
     pub fn make_output(&mut self, path: &str) -> io::Result<HostFile>
         ensures ok { IfOk result (λ f. self.new.calls ≡ Made path.now (number_of f.node) ∷ self.old.calls) }
         ensures err { OnErr result (self.new.calls ≡ self.old.calls) }
@@ -119,8 +121,8 @@ impl Machine {
         }
     }
 
-    /// Opens what a name leads to, without emptying it, and says what it is; `None` if it leads to
-    /// nothing. The path is the one at the end of the name's links.
+    /// Opens the file to which a name leads, without truncating it, and returns its kind too, or
+    /// `None` if the name leads to nothing. `path` is the one at the end of the name's links.
     pub fn open(&mut self, name: &str, path: &str) -> io::Result<Option<(HostFile, Kind)>>
         ensures ok { IfOk result (λ found. MatchOption found (self.new.calls ≡ self.old.calls)
             (λ f. self.new.calls ≡ Opened path.now (number_of f.0.node) f.1 ∷ self.old.calls)) }
@@ -137,12 +139,12 @@ impl Machine {
         }
     }
 
-    /// Returns what a file is now.
+    /// Returns the length of a file, and whether it has a name (`fstat`).
     pub fn look(&self, file: &HostFile) -> io::Result<Sight> {
         sight_of(file.file())
     }
 
-    /// Fails if a file doesn't look as it should.
+    /// Fails if a file's length isn't as expected, or its name is gone.
     pub fn check(&mut self, file: &HostFile, shape: &Shape) -> io::Result<()>
         ensures same { self.new.calls ≡ self.old.calls }
         ensures counted { CountsFailure result self.old.failed self.new.failed }
@@ -153,8 +155,8 @@ impl Machine {
         }
     }
 
-    /// Takes a file for this run alone, until it is ended, if the system has locks. Fails if another
-    /// run has it.
+    /// Locks a file for this run until it is ended, if the file system has locks. Fails if another
+    /// run has the lock.
     pub fn lock(&mut self, file: &HostFile) -> io::Result<()>
         ensures ok { OnOk result (Waited (Locked (number_of file.now.node))
             (Unlockable (number_of file.now.node)) self.old.calls self.new.calls) }
@@ -165,12 +167,12 @@ impl Machine {
         self.note_either(&made, &cant, lock(file.file()))
     }
 
-    /// Takes a file for this run alone if that is possible, and says whether this run alone has it.
+    /// Tries to lock a file, and returns whether this run has the lock.
     pub fn is_alone(&self, file: &HostFile) -> bool {
         matches!(file.file().try_lock(), Ok(()))
     }
 
-    /// Writes some of these bytes to a file, from an offset on.
+    /// Writes some bytes to a file at an offset, and returns their number.
     pub fn write(&mut self, file: &HostFile, at: u64, bytes: &[u8]) -> io::Result<usize>
         ensures bound { IfOk result (λ n. n ≤ length bytes.now) }
         ensures some { IfOk result (λ n. 0 < length bytes.now → 0 < n) }
@@ -188,7 +190,7 @@ impl Machine {
         }
     }
 
-    /// Truncates a file to this many bytes.
+    /// Truncates a file to `len` bytes.
     pub fn cut(&mut self, file: &HostFile, len: u64) -> io::Result<()>
         ensures ok { OnOk result (self.new.calls ≡ Cut (number_of file.now.node) len ∷ self.old.calls) }
         ensures err { OnErr result (self.new.calls ≡ Broke (number_of file.now.node) ∷ self.old.calls) }
@@ -203,7 +205,7 @@ impl Machine {
         }
     }
 
-    /// Waits until what a file holds has reached the disk, if the system can.
+    /// Syncs a file, if its file system can.
     pub fn sync(&mut self, file: &HostFile) -> io::Result<()>
         ensures ok { OnOk result (Waited (Synced (number_of file.now.node))
             (Unwaited (number_of file.now.node)) self.old.calls self.new.calls) }
@@ -224,8 +226,8 @@ impl Machine {
         }
     }
 
-    /// Lets the system report whether what was written has failed, as it does when a file is
-    /// closed. The file stays open.
+    /// Closes a second descriptor of a file, at which the system reports failed writes as at any
+    /// close. The file stays open.
     pub fn close(&mut self, file: &HostFile) -> io::Result<()>
         ensures ok { OnOk result (self.new.calls ≡ Closed (number_of file.now.node) ∷ self.old.calls) }
         ensures err { OnErr result (self.new.calls ≡ Broke (number_of file.now.node) ∷ self.old.calls) }
@@ -240,7 +242,7 @@ impl Machine {
         }
     }
 
-    /// Waits until the names in the folder of a path have reached the disk, if the system can.
+    /// Syncs the folder of a path, so that its names are on the disk, if its file system can.
     pub fn sync_names(&mut self, path: &str) -> io::Result<()>
         ensures ok { OnOk result (Waited (SyncedNames path.now) (UnwaitedNames path.now)
             self.old.calls self.new.calls) }
@@ -251,8 +253,8 @@ impl Machine {
         self.note_either(&Word::SyncedNames(path), &Word::UnwaitedNames(path), synced)
     }
 
-    /// Like `sync_names`, for a name that another program made. If the folder can't be read, the
-    /// system can't wait.
+    /// Syncs the folder of a path like [`sync_names`](Machine::sync_names), for a name that another
+    /// program made. A folder that can't be read counts as one that can't be synced.
     pub fn sync_readable_names(&mut self, path: &str) -> io::Result<()>
         ensures ok { OnOk result (Waited (SyncedNames path.now) (UnwaitedNames path.now)
             self.old.calls self.new.calls) }

@@ -1,4 +1,4 @@
-//! Which calls were made and how many have failed, for contracts alone.
+//! Notes of the calls that were made, and of how many failed, for contracts.
 
 ghost use Rattle.std.specs.Prelude.{◌≡◌, ◌+◌, [], ◌∷◌, List, ℕ};
 ghost use Rattle.std.specs.Coded.{coded_list};
@@ -11,7 +11,7 @@ use age_io::{Seen, Shows, Tape};
 use age_names::Node;
 use std::marker::Model;
 
-/// A call, as the code notes it.
+/// A call to note.
 #[derive(Clone, Copy)]
 pub(crate) enum Word<'a> {
     Made(&'a str, Node),
@@ -29,7 +29,7 @@ pub(crate) enum Word<'a> {
     UnwaitedNames(&'a str),
 }
 
-/// No call so far, those of a cell, or one more than those.
+/// A list of calls to be kept: none, a known list, or that and one call more.
 #[derive(Clone, Copy)]
 enum Note<'a, 'b> {
     Nothing,
@@ -37,7 +37,7 @@ enum Note<'a, 'b> {
     More(&'a Seen<AllCalls>, Word<'b>),
 }
 
-/// A list of calls, as contracts see it. No code makes one.
+/// A list of calls, as contracts see it. No value of it exists.
 #[derive(Drop)]
 struct AllCalls {}
 
@@ -55,7 +55,7 @@ impl Shows<AllCalls> for Note<'_, '_> {
     ghost shows = { calls_of };
 }
 
-/// The calls that were made, the newest first, for contracts alone. It has no bytes at run time.
+/// The calls that were made, the newest first. Ghost: no bytes at run time.
 #[derive(Drop)]
 pub(crate) struct Calls {
     seen: Seen<AllCalls>,
@@ -72,7 +72,7 @@ impl Model for Calls {
 impl Calls {
     ghost use Rattle.age_machine.specs.inner.Notes.{file_call_of};
 
-    /// No call so far.
+    /// Returns an empty list.
     pub(crate) fn new() -> Calls
         ensures { result ≡ [] }
     {
@@ -81,7 +81,7 @@ impl Calls {
         }
     }
 
-    /// The same calls again, to continue from.
+    /// Returns a copy of the list, to continue from.
     pub(crate) fn again(&self) -> Calls
         ensures { result ≡ self.now }
     {
@@ -98,8 +98,7 @@ impl Calls {
     }
 }
 
-/// How many calls have failed, for contracts alone: a byte for each, on a tape that has none at run
-/// time.
+/// The number of calls that failed. Ghost: no bytes at run time.
 #[derive(Drop)]
 pub(crate) struct FailedCalls {
     tape: Tape,
@@ -114,14 +113,14 @@ impl Model for FailedCalls {
 }
 
 impl FailedCalls {
-    /// No failure so far.
+    /// Returns a count of 0.
     pub(crate) fn new() -> FailedCalls
         ensures { result ≡ 0 }
     {
         FailedCalls { tape: Tape::new() }
     }
 
-    /// Notes that one more call has failed.
+    /// Counts one more failed call.
     pub(crate) fn note(&mut self)
         ensures { self.new ≡ self.old + 1 }
     {

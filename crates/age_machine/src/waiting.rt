@@ -1,4 +1,4 @@
-//! Whether the system can wait until a file has reached the disk.
+//! The sync of a file, and whether its file system can sync.
 
 ghost use Rattle.std.specs.Prelude.{◌≡◌, None, Err, IsOk, IfOk, IfSome, true};
 ghost use Rattle.std_io.specs.IoError.{error_kind};
@@ -8,17 +8,17 @@ use crate::calls;
 use std::fs::File;
 use std::io;
 
-/// The answer of a system that has no way to wait here. Only the code that asked it makes one, so
-/// no call is noted as one that can't wait unless the system said so.
+/// The answer of a file system that can't sync a file. Only the code that asked it makes one, so no
+/// file is noted as one that can't be synced unless the system said so.
 #[derive(Drop)]
 pub(crate) struct CantWait {
     error: io::Error,
     ghost said: { is_of_no_wait (error_kind error) ≡ true },
 }
 
-/// Why the system hasn't waited, by its answer, if it has no way to wait here; `None` if it has
-/// waited. A file system that became read-only after a file was written says something else, namely
-/// that its disk failed.
+/// Returns `None` if a file was synced, by the system's answer, or that answer if the file system
+/// can't sync. Fails with any other error, as from a file system that became read-only after a file
+/// was written: its disk failed.
 fn why_unwaited(answer: io::Result<()>) -> io::Result<Option<CantWait>>
     ensures waited { IfOk result (λ it. it ≡ None → IsOk answer) }
     ensures cant { IfOk result (λ it. IfSome it (λ c. answer ≡ Err c.error)) }
@@ -34,12 +34,12 @@ fn why_unwaited(answer: io::Result<()>) -> io::Result<Option<CantWait>>
     }
 }
 
-/// Waits until a file has reached the disk, unless the machine has no way to wait here.
+/// Syncs a file, and returns the system's answer if the file system can't sync.
 pub(crate) fn wait_for(file: &File) -> io::Result<Option<CantWait>> {
     why_unwaited(calls::sync_whole(file))
 }
 
-/// Waits until a file has reached the disk; `false` if the machine has no way to wait here.
+/// Syncs a file. Returns `false` if its file system can't sync.
 pub fn sync(file: &File) -> io::Result<bool> {
     Ok(wait_for(file)?.is_none())
 }

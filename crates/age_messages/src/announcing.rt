@@ -1,5 +1,5 @@
-//! What people read if a command line says too little or can't be read, and while a run does
-//! something that may take long.
+//! Lines for people while a run does something that may take long, or if the command line isn't
+//! UTF-8.
 
 use crate::escaped::{Escaped, Leading};
 use crate::line::size_line;
@@ -8,14 +8,14 @@ use std::env::{Env, FillError};
 use std::io::{Eprint, IsTerminal};
 use std::rt::HostRuntime;
 
-/// How many bytes of a word are looked at.
+/// The number of bytes of a word that are looked at.
 const WORD_MAX: usize = 8192;
 
-/// From this many bytes on, handling them takes long.
+/// The number of bytes from which on handling them takes long.
 const LONG: u64 = 64 << 20;
 
-/// Says on standard error which word of the command line isn't UTF-8; it may be the program's own
-/// path. One that is longer than any path isn't shown.
+/// Prints on standard error which word of the command line isn't UTF-8; it may be the program's own
+/// path. A word that is longer than any path isn't shown.
 pub fn explain_words(rt: &HostRuntime) {
     let mut word = [0; WORD_MAX];
     for i in 0..=u16::MAX {
@@ -27,7 +27,7 @@ pub fn explain_words(rt: &HostRuntime) {
     }
 }
 
-/// Says that a word isn't UTF-8, if so.
+/// Prints that a word isn't UTF-8, if it isn't. Returns whether it did.
 fn show_unread(rt: &HostRuntime, word: &[u8]) -> bool {
     if str::from_utf8(word).is_ok() {
         return false;
@@ -37,7 +37,7 @@ fn show_unread(rt: &HostRuntime, word: &[u8]) -> bool {
     true
 }
 
-/// Says at a terminal that a header is read from there, and where to find help.
+/// Prints that a header is read from a terminal, if standard input is one, and where to find help.
 pub fn announce_reading(rt: &HostRuntime) {
     if rt.stdin().is_terminal() {
         let _ = eprintln!(rt;
@@ -46,7 +46,8 @@ pub fn announce_reading(rt: &HostRuntime) {
     }
 }
 
-/// Says that a passphrase is read from a terminal, which shows no prompt.
+/// Prints that a passphrase is read from a terminal, if `name` leads to one, since no prompt is
+/// shown.
 pub fn announce_passphrase(rt: &HostRuntime, name: &str) {
     let is_typed = match name {
         "/dev/tty" => true,
@@ -60,7 +61,7 @@ pub fn announce_passphrase(rt: &HostRuntime, name: &str) {
     }
 }
 
-/// Says that an earlier output is copied before more of the input is read, and how long it is, if
+/// Prints that an earlier output is copied before more of the input is read, and how long it is, if
 /// that takes long. (Progress counts what is read of the input.)
 pub fn announce_copying(rt: &HostRuntime, name: &str, length: Option<u64>) {
     let length = length.unwrap_or(0);
@@ -74,8 +75,8 @@ pub fn announce_copying(rt: &HostRuntime, name: &str, length: Option<u64>) {
     }
 }
 
-/// Says at a terminal that a run waits until what it wrote has reached the disk, if it read much,
-/// and so wrote about as much.
+/// Prints that a run waits for the disk, if standard error is a terminal and the run read much, and
+/// so wrote about as much.
 pub fn announce_sync(rt: &HostRuntime, last_read: ErrorContext<'_>) {
     if let ErrorContext::Read(summary) = last_read
         && summary.bytes >= LONG

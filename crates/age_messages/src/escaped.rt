@@ -1,12 +1,12 @@
-//! Words of the command line, as a line on a terminal may show them.
+//! Words of the command line, escaped so that a terminal may show them in a line.
 
 use std::fmt::{self, Formatter};
 
-/// How many characters of a word are shown, at most.
+/// The largest number of characters of a word that are shown.
 const SHOWN_MAX: usize = 1000;
 
-/// A word in which whatever isn't text, and whatever would begin a line or control a terminal, is
-/// shown by its code. A long word is truncated.
+/// A word, displayed so that whatever isn't text, and whatever would begin a line or control a
+/// terminal, is shown by its code. A long word is truncated.
 #[derive(Clone, Copy)]
 pub struct Escaped<'a>(pub &'a [u8]);
 
@@ -29,8 +29,9 @@ impl<'a> fmt::Display for Escaped<'a> {
     }
 }
 
-/// A word at the beginning of a line, as `Escaped` shows it. A name that begins with a digit of any
-/// script, or with a blank, gets `./`, so that no line that begins with a name looks like a fault's.
+/// A word at the beginning of a line, displayed like [`Escaped`]. A name that begins with a digit
+/// of any script, or with a blank, gets `./`, so that no line that begins with a name looks like a
+/// fault's.
 #[derive(Clone, Copy)]
 pub struct Leading<'a>(pub &'a [u8]);
 
@@ -45,8 +46,8 @@ impl<'a> fmt::Display for Leading<'a> {
     }
 }
 
-/// Shows as many characters of a text as are left; returns how many are left then, or `None` if it has
-/// more.
+/// Shows at most `left` characters of a text. Returns how many are left then, or `None` if the text
+/// has more.
 fn show_text<W: fmt::Write>(
     text: &str,
     left: usize,
@@ -63,7 +64,8 @@ fn show_text<W: fmt::Write>(
     Ok(Some(left))
 }
 
-/// Quotes are harmless, and a backslash must differ from the one that begins a code.
+/// Shows a character, by its code if necessary. Quotes are harmless, and a backslash must differ
+/// from the one that begins a code.
 fn show_char<W: fmt::Write>(c: char, f: &mut Formatter<W>) -> fmt::Result {
     match c {
         '\'' => f.write_str("'"),
@@ -72,7 +74,7 @@ fn show_char<W: fmt::Write>(c: char, f: &mut Formatter<W>) -> fmt::Result {
     }
 }
 
-/// Shows as many bytes that aren't text as are left; returns how many characters are left then, or
+/// Shows at most `left` bytes that aren't text. Returns how many characters are left then, or
 /// `None` if there are more bytes.
 fn show_bytes<W: fmt::Write>(
     bytes: &[u8],

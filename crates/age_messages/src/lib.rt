@@ -1,8 +1,9 @@
-//! What people read while a run lasts: the line on a terminal that shows how far it has come, and
-//! what takes long; how names look in lines; and what is kept for the lines that come after.
+//! Messages for people while a run lasts: progress, and what takes long; the form of names in
+//! lines; and notes for the lines that come after the run.
 //!
-//! A `ProgressLine` is a meter that shows how many bytes were read, on one line that it writes over
-//! and over into a sink, or in the lines of a log. `Notes` is what may surprise in the files of a run.
+//! A [`ProgressLine`] is a meter that shows how many bytes were read, on one line that it writes
+//! over and over into a sink, or in the lines of a log. [`Notes`] has what may surprise in the
+//! files of a run.
 #![tactic(auto)]
 
 mod announcing;

@@ -8,11 +8,11 @@ use arrayvec::ArrayVec;
 use itoa::Buffer;
 use std::fmt::{self, Formatter};
 
-/// A line on the stack, so that it allocates nothing and goes out in one put. It has room for numbers of
-/// any length that itoa writes.
+/// A buffer for one line on the stack, so that it allocates nothing and goes out in one write. It
+/// has room for numbers of any length that itoa writes.
 pub(crate) type Line = ArrayVec<u8, 512>;
 
-/// A unit of bytes.
+/// A unit of bytes: its size and its name.
 #[derive(Clone, Copy)]
 struct Measure {
     size: u128,
@@ -48,7 +48,7 @@ fn push_number(line: &mut Line, number: u128) {
     push(line, digits.format(number).as_bytes());
 }
 
-/// A number of bytes in units of this size, to the tenth below.
+/// Formats a number of bytes in units of this size, rounded down to a tenth.
 fn amount_in(size: u128, bytes: u128) -> Line
     requires some { 0 < size }
     requires small { size ≤ 2 ^ 40 }
@@ -84,7 +84,7 @@ fn push_two_digits(line: &mut Line, number: u8) {
     push(line, &[b'0' + number / 10, b'0' + number % 10]);
 }
 
-/// Seconds as hours, minutes and seconds.
+/// Formats seconds as hours, minutes and seconds.
 fn clock_text(seconds: u128) -> Line {
     let mut text = Line::new();
     push_number(&mut text, seconds / 3600);
@@ -95,7 +95,7 @@ fn clock_text(seconds: u128) -> Line {
     text
 }
 
-/// How many bytes came in a second, once the first second has passed.
+/// Returns the number of bytes a second, or 0 before the first second has passed.
 fn rate(count: u64, millis: u64) -> u128 {
     if millis < 1000 {
         return 0;
@@ -114,7 +114,7 @@ fn rate_text(rate: u128) -> Line {
     text
 }
 
-/// How long the rest of a length takes, if that is known.
+/// Formats the time that the rest takes, or nothing if the whole length or the rate isn't known.
 fn left_text(whole: Option<u64>, count: u64, rate: u128) -> Line {
     let mut text = Line::new();
     if let Some(whole) = whole
@@ -127,7 +127,8 @@ fn left_text(whole: Option<u64>, count: u64, rate: u128) -> Line {
     text
 }
 
-/// How fast a run is, with the spaces that cover a longer text before it.
+/// Formats the rate and the time that is left, with the spaces that cover a longer text before
+/// them.
 fn pace(whole: Option<u64>, count: u64, rate: u128) -> Line {
     let mut text = rate_text(rate);
     push(&mut text, left_text(whole, count, rate).as_slice());
@@ -136,7 +137,7 @@ fn pace(whole: Option<u64>, count: u64, rate: u128) -> Line {
     text
 }
 
-/// What ends a line; `cover` are spaces, if the line before it may be longer.
+/// Formats the end of a line. `cover` are spaces, if the line before it may be longer.
 fn line_end(style: LineStyle, whole: Option<u64>, count: u64, millis: u64, cover: &[u8]) -> Line {
     match style {
         LineStyle::Rewritten => {
@@ -155,7 +156,7 @@ fn line_feed() -> Line {
     text
 }
 
-/// The line for a count of bytes, with its end.
+/// Formats the line for a number of bytes, with its end.
 fn count_line(end: &[u8], count: u64) -> Line {
     let measure = measure_of(count as u128);
     let mut line = Line::new();
@@ -175,7 +176,7 @@ fn percentage(length: u64, count: u64) -> u64 {
     (count as u128 * 100 / length as u128).min(100) as u64
 }
 
-/// Shows a number of bytes with its unit.
+/// A number of bytes, displayed with its unit.
 #[derive(Clone, Copy)]
 pub struct Size(pub u64);
 
@@ -185,7 +186,7 @@ impl fmt::Display for Size {
     }
 }
 
-/// A number of bytes, with its unit.
+/// Formats a number of bytes with its unit.
 pub(crate) fn size_line(bytes: u64) -> Line {
     let measure = measure_of(bytes as u128);
     let mut line = amount_in(measure.size, bytes as u128);
@@ -193,7 +194,7 @@ pub(crate) fn size_line(bytes: u64) -> Line {
     line
 }
 
-/// Appends what is shown before a length, of which so much was read.
+/// Appends what stands before the whole length, of which `count` bytes were read.
 fn push_share(line: &mut Line, style: LineStyle, size: u128, count: u64)
     requires some { 0 < size }
     requires small { size ≤ 2 ^ 40 }
@@ -208,7 +209,7 @@ fn push_share(line: &mut Line, style: LineStyle, size: u128, count: u64)
     }
 }
 
-/// The line for a count of bytes out of this many.
+/// Formats the line for `count` bytes of `whole`.
 fn share_line(style: LineStyle, whole: u64, count: u64, millis: u64) -> Line {
     let measure = measure_of(whole as u128);
     let mut percent = Buffer::new();
@@ -225,7 +226,8 @@ fn share_line(style: LineStyle, whole: u64, count: u64, millis: u64) -> Line {
     line
 }
 
-/// The line for a count of bytes after so many milliseconds, of a length if that is known.
+/// Formats the line for `count` bytes after `millis` milliseconds, of the whole length if that is
+/// known.
 pub(crate) fn line_of(style: LineStyle, whole: Option<u64>, count: u64, millis: u64) -> Line {
     match whole {
         Some(whole) if count <= whole => share_line(style, whole, count, millis),
@@ -237,7 +239,7 @@ pub(crate) fn line_of(style: LineStyle, whole: Option<u64>, count: u64, millis: 
     }
 }
 
-/// Whether the line for a count was shown, if that of `last` came last.
+/// Returns whether the line for `count` bytes was shown, if that for `last` bytes came last.
 fn was_shown(last: Option<u64>, count: u64) -> bool {
     match last {
         Some(last) => last == count,
@@ -245,7 +247,7 @@ fn was_shown(last: Option<u64>, count: u64) -> bool {
     }
 }
 
-/// What ends a run, whose line for `last` bytes came last.
+/// Formats what ends a run, if the line for `last` bytes came last.
 pub(crate) fn last_of(
     style: LineStyle,
     length: Option<u64>,
@@ -269,7 +271,7 @@ fn run_end(style: LineStyle) -> &'static [u8] {
     }
 }
 
-/// How many steps were read: of 64 MiB, or of 10 GiB in a log.
+/// Returns the number of steps that were read: of 64 MiB, or of 10 GiB in a log.
 fn steps(style: LineStyle, count: u64) -> u64 {
     match style {
         LineStyle::Rewritten => count / (64 << 20),
@@ -277,8 +279,9 @@ fn steps(style: LineStyle, count: u64) -> u64 {
     }
 }
 
-/// How many shares of the length were read, each a hundredth of it, or a tenth in a log; or how many
-/// steps if no length is known, or after all shares if more than the length was read.
+/// Returns how many shares of the length were read, each a hundredth of it, or a tenth in a log.
+/// Returns the number of steps if no length is known, and counts these after all shares if more
+/// than the length was read.
 pub(crate) fn mark_of(style: LineStyle, length: Option<u64>, count: u64) -> u64 {
     match (length, style) {
         (Some(length), _) if count > length => steps(style, count).saturating_add(101),

@@ -1,10 +1,10 @@
-//! How lines of progress follow one another.
+//! The style of lines of progress.
 
-/// How lines of progress follow one another.
+/// The style of lines of progress: how one follows another.
 #[derive(Clone, Copy)]
 pub enum LineStyle {
-    /// Each is written over the one before it, as on a terminal.
+    /// Each line is written over the one before it, as on a terminal.
     Rewritten,
-    /// Each stands by itself, as in a log, and there are few of them.
+    /// Each line stands by itself, as in a log, and there are few of them.
     Separate,
 }

@@ -1,27 +1,28 @@
-//! What may surprise in the files of a run, and is no error.
+//! Notes on what may surprise in the files of a run, and is no error.
 
 use crate::typing::Typing;
 use age_options::ErrorContext;
 
-/// What may surprise in the files of a run, and is no error. The set of files gives it at the end.
+/// Notes on what may surprise in the files of a run, and is no error. The set of files returns them
+/// at the end.
 #[derive(Clone, Copy)]
 pub struct Notes<'w> {
-    /// Where a position was saved.
+    /// The file to which a position was saved.
     pub saved: Option<&'w str>,
-    /// A file that became shorter while it was read.
+    /// The file that became shorter while it was read.
     pub cut_off: Option<&'w str>,
-    /// A file that was written, if its name leads to another file now, or to none.
+    /// The file that was written, if its name leads to another file now, or to none.
     pub moved: Option<&'w str>,
-    /// A file that was written, if its file system can't wait for the disk.
+    /// The file that was written, if its file system can't sync.
     pub unwaited: Option<&'w str>,
-    /// What was read of the file whose reading ended last.
+    /// The number of bytes read of the file whose reading ended last, or why a read failed.
     pub last_read: ErrorContext<'w>,
-    /// Whether the passphrase can be typed.
+    /// The check whether the passphrase can be typed.
     pub typing: Typing,
 }
 
 impl<'w> Notes<'w> {
-    /// Nothing so far.
+    /// Returns no notes.
     pub fn new() -> Notes<'w> {
         Notes {
             saved: None,

@@ -30,7 +30,7 @@ pub struct ProgressLine<O: Sink, C: Clock + Drop> {
 }
 
 impl<O: Sink, C: Clock + Drop> ProgressLine<O, C> {
-    /// Lines in this sink, for a run whose length isn't known before it begins.
+    /// Creates a meter that writes its lines to `sink`.
     pub fn new(sink: O, style: LineStyle, clock: C) -> ProgressLine<O, C>
         ensures { result.sink ≡ sink }
     {
@@ -48,7 +48,7 @@ impl<O: Sink, C: Clock + Drop> ProgressLine<O, C> {
         }
     }
 
-    /// The sink, with what was shown.
+    /// Returns the sink, with what was shown.
     pub fn into_sink(self) -> O
         ensures { result ≡ self.sink }
     {
@@ -57,7 +57,7 @@ impl<O: Sink, C: Clock + Drop> ProgressLine<O, C> {
     }
 }
 
-/// How many milliseconds have passed, by a clock; none if it can't be read.
+/// Returns how many milliseconds have passed, or 0 if the clock can't be read.
 fn millis_since<C: Clock>(begun: Option<Instant>, clock: &C) -> u64 {
     match (begun, Instant::now(clock)) {
         (Some(begun), Ok(now)) => {
@@ -69,7 +69,7 @@ fn millis_since<C: Clock>(begun: Option<Instant>, clock: &C) -> u64 {
 }
 
 impl<O: Sink, C: Clock + Drop> Meter for ProgressLine<O, C> {
-    /// Writes nothing.
+    /// Begins a run, and writes nothing.
     fn begin(&mut self, length: Option<u64>) {
         self.length = length;
         self.count = 0;
@@ -82,7 +82,7 @@ impl<O: Sink, C: Clock + Drop> Meter for ProgressLine<O, C> {
         };
     }
 
-    /// Writes a line, if one is due.
+    /// Counts bytes that were read, and writes a line if one is due.
     fn advance(&mut self, bytes: u64) {
         self.count = self.count.saturating_add(bytes);
         let mark = mark_of(self.style, self.length, self.count);
@@ -95,7 +95,7 @@ impl<O: Sink, C: Clock + Drop> Meter for ProgressLine<O, C> {
         }
     }
 
-    /// Writes the last line, unless it was, and a line feed on a terminal.
+    /// Ends the run: writes the last line, unless it was shown, and a line feed on a terminal.
     fn end(&mut self) {
         if self.is_open {
             self.is_open = false;

@@ -2,7 +2,7 @@
 
 use age_io::{Failed, Sink};
 
-/// Writes a text, in one put if the sink takes it so, and flushes it.
+/// Writes a text, by one put if the sink takes all of it, and flushes the sink.
 fn put_all<O: Sink>(sink: &mut O, text: &[u8]) -> Result<(), Failed> {
     let mut at = 0;
     while at < text.len() {
@@ -11,7 +11,7 @@ fn put_all<O: Sink>(sink: &mut O, text: &[u8]) -> Result<(), Failed> {
     sink.flush()
 }
 
-/// Writes a text and flushes it; a failure is ignored.
+/// Writes a text, and flushes the sink. Ignores a failure.
 pub(crate) fn show<O: Sink>(sink: &mut O, text: &[u8]) {
     let _ = put_all(sink, text);
 }

@@ -1,12 +1,12 @@
-//! Whether a passphrase can be typed where `age` asks for it.
+//! A check whether a passphrase can be typed where `age` asks for it.
 
-/// How many bytes of a line a terminal takes.
+/// The largest number of bytes of a line that a terminal takes.
 const LINE_MAX: u32 = 4095;
 
-/// What no keyboard types where text is UTF-8.
+/// The reason for bytes that no keyboard types where text is UTF-8.
 const NO_TEXT: &str = "bytes that are no UTF-8";
 
-/// What is left of a character: so many bytes, the next of which is in this range.
+/// The rest of a UTF-8 character: the number of its bytes, and the range of the next one.
 #[derive(Clone, Copy)]
 pub struct Rest {
     more: u8,
@@ -15,7 +15,7 @@ pub struct Rest {
 }
 
 impl Rest {
-    /// So many bytes of any value that isn't the first of a character.
+    /// Returns a rest of `more` bytes, each of any value that isn't the first byte of a character.
     fn of(more: u8) -> Rest {
         Rest {
             more,
@@ -24,7 +24,7 @@ impl Rest {
         }
     }
 
-    /// After its next byte, if that may come next.
+    /// Returns the rest after its next byte, or `None` if that byte can't come next.
     fn after(self, byte: u8) -> Option<Rest> {
         if self.from <= byte && byte <= self.to {
             Some(Rest::of(self.more.saturating_sub(1)))
@@ -33,7 +33,8 @@ impl Rest {
         }
     }
 
-    /// What is left of a character that begins with a byte beyond ASCII, if one does.
+    /// Returns the rest of a character that begins with a byte beyond ASCII, or `None` if none
+    /// does.
     fn begun(byte: u8) -> Option<Rest> {
         match byte {
             0xc2..=0xdf => Some(Rest::of(1)),
@@ -64,26 +65,26 @@ impl Rest {
     }
 }
 
-/// How far a passphrase was read, as a line that is typed.
+/// A check whether a passphrase can be typed, as far as the passphrase was read.
 #[derive(Clone, Copy)]
 pub enum Typing {
-    /// So many bytes of a byte order mark, and nothing else.
+    /// The number of bytes of a byte order mark that were read, and nothing else.
     Mark(u8),
-    /// So many bytes of the line, and what is left of its last character.
+    /// The number of bytes of the line that were read, and the rest of its last character.
     Line(u32, Rest),
-    /// The newline that ends it.
+    /// The newline that ends the line was read.
     Ended,
-    /// What can't be typed.
+    /// The passphrase can't be typed, for this reason.
     Untypable(&'static str),
 }
 
 impl Typing {
-    /// Not begun yet.
+    /// Creates a check of a passphrase of which nothing was read.
     pub fn new() -> Typing {
         Typing::Mark(0)
     }
 
-    /// After more bytes.
+    /// Returns the check after more bytes of the passphrase.
     pub fn after(self, bytes: &[u8]) -> Typing {
         let mut typing = self;
         for byte in bytes {
@@ -107,7 +108,7 @@ impl Typing {
         }
     }
 
-    /// What can't be typed, if there is something.
+    /// Returns what can't be typed, if there is something.
     pub fn untypable(self) -> Option<&'static str> {
         match self {
             Typing::Untypable(what) => Some(what),
@@ -118,7 +119,7 @@ impl Typing {
     }
 }
 
-/// After a byte of the line, of which so many came before.
+/// Returns the check after a byte of the line, with `len` bytes before it.
 fn after_line(len: u32, rest: Rest, byte: u8) -> Typing {
     let rest = if rest.more > 0 {
         rest.after(byte)

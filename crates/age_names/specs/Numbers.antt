@@ -1,8 +1,8 @@
--- Which file has which number.
+-- The number of a file.
 use Rattle.std.specs.Prelude.{◌≡◌, ◌<◌, ℕ, ◌+◌, ◌*◌, ◌^◌}
 use Rattle.age_names.specs.declared.node.Node.{Node}
 
--- the device and inode of a node, as one number
+-- The device and inode of a file, as one number.
 abbrev pub number_of : Node → ℕ
 number_of node = node.device * 2 ^ 64 + node.inode
 

@@ -1,10 +1,10 @@
--- Which path a name stands for.
+-- The path of a name.
 use Rattle.std.specs.Prelude.{◌≡◌, ℕ, List}
 use Rattle.std.specs.Path.{path_buf_bytes}
 use Rattle.age_names.specs.declared.names.Resolved.{Resolved}
 use Rattle.age_names.specs.declared.names.Resolved.TheVariants as to
 
--- a stream, or the path that the name itself is
+-- The target is a standard stream, or the path that the name itself is.
 abbrev pub IsItself : (name : List ℕ) → Resolved → Type 0
 IsItself name (to.Stream stream) = Unit {0}
 IsItself name (to.Path path) = path_buf_bytes path ≡ name

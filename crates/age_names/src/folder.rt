@@ -5,7 +5,7 @@ use std::path::{Path, PathBuf};
 use std::rt::HostRuntime;
 use std::{fs, io};
 
-/// The folder of a path.
+/// Returns the path of the folder that holds a path's file: `.` if the path names none.
 pub fn folder_of(path: &str) -> &str {
     match Path::new(path).parent() {
         Some(folder) if !folder.as_str().is_empty() => folder.as_str(),
@@ -13,17 +13,18 @@ pub fn folder_of(path: &str) -> &str {
     }
 }
 
-/// A folder that a path leads into.
+/// The identity of a folder.
 #[derive(Drop)]
 pub enum Folder {
-    /// Its path, without links.
+    /// The folder's path, without links.
     Path(PathBuf),
-    /// Its node, if it has no such path, as when the path is longer than the system takes.
+    /// The folder's device and inode, if it has no such path, as when the path is longer than the
+    /// system takes.
     Node(Node),
 }
 
 impl Folder {
-    /// The folder that a path leads into. Fails if that isn't known.
+    /// Returns the folder that a path leads into. Fails if that isn't known.
     pub fn of(rt: &HostRuntime, path: &str) -> io::Result<Folder> {
         match fs::canonicalize(rt, folder_of(path)) {
             Ok(folder) => Ok(Folder::Path(folder)),
@@ -52,7 +53,8 @@ pub fn check_same(before: Option<&Folder>, now: io::Result<Option<Folder>>) -> i
     }
 }
 
-/// Fails if no file can be made at a path, since it has no name or its folder doesn't exist.
+/// Fails if no file can be made at a path, since it ends without a file name or its folder doesn't
+/// exist.
 pub fn check_place(rt: &HostRuntime, path: &str) -> io::Result<()> {
     if path.is_empty() || path.ends_with('/') {
         return Err(io::Error::from(io::ErrorKind::IsADirectory));

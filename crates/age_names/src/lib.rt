@@ -1,7 +1,7 @@
-//! What the machine's names lead to: a stream that the program was started with, or a file, whatever
-//! links lead to it, and the folder that holds it.
+//! The resolution of names: to a standard stream, or to a file over all links, with the folder that
+//! holds it.
 //!
-//! No proof sees what the system shows of a name. So where a name leads is only tested.
+//! Proofs assume nothing about what the system shows of a name, so this is only tested.
 #![tactic(auto)]
 
 mod folder;

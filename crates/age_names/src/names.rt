@@ -1,4 +1,4 @@
-//! What the machine's names stand for: an inherited stream, or a file, whatever links lead to it.
+//! The resolution of a name: to a standard stream, or to a file over all links.
 
 ghost use Rattle.std.specs.Prelude.{◌≡◌, ◌<◌, ◌^◌, IfOk, is_some, false};
 ghost use Rattle.age_names.specs.Places.{IsItself};
@@ -26,7 +26,7 @@ pub enum StandardStream {
 }
 
 impl StandardStream {
-    /// The stream of this name.
+    /// Returns the stream that a name such as `/dev/stdin` means, or `None` for any other name.
     fn named(name: &str) -> Option<StandardStream> {
         match name {
             "/dev/stdin" | "/dev/fd/0" | "/proc/self/fd/0" => Some(StandardStream::Input),
@@ -36,7 +36,7 @@ impl StandardStream {
         }
     }
 
-    /// The path at which the system shows what the stream is connected to.
+    /// Returns the path at which the system shows the file behind the stream.
     pub fn path(self) -> &'static str {
         match self {
             StandardStream::Input => "/proc/self/fd/0",
@@ -45,7 +45,8 @@ impl StandardStream {
         }
     }
 
-    /// A second descriptor of the stream. Fails if the program was started without this stream.
+    /// Returns a second descriptor of the stream. Fails if the program was started without this
+    /// stream.
     pub fn copy(self, rt: &HostRuntime) -> io::Result<OwnedFd> {
         match self {
             StandardStream::Input => rt.stdin().as_fd().try_clone_to_owned(),
@@ -54,8 +55,8 @@ impl StandardStream {
         }
     }
 
-    /// Fails if the program was started without this stream. A copy is made only if it has to be,
-    /// since closing one tells some file systems that all is written.
+    /// Fails if the program was started without this stream. Duplicates the descriptor only if
+    /// necessary, since closing a duplicate tells some file systems that all is written.
     pub fn check(self, rt: &HostRuntime) -> io::Result<()> {
         if !matches!(led_to(rt, self.path()), Ok(Some(_))) {
             self.copy(rt)?;
@@ -63,7 +64,8 @@ impl StandardStream {
         Ok(())
     }
 
-    /// Whether the stream leads to a file that holds bytes on a disk, as far as the system shows that.
+    /// Returns whether the stream leads to a file whose bytes are on a disk. Returns `true` if the
+    /// system doesn't show that.
     pub fn may_be_on_disk(self, rt: &HostRuntime) -> bool {
         match led_to(rt, self.path()) {
             Ok(Some(metadata)) => is_on_disk(&metadata),
@@ -72,7 +74,7 @@ impl StandardStream {
     }
 }
 
-/// What a name stands for.
+/// The target of a name.
 #[derive(Drop)]
 pub enum Resolved {
     /// A stream that the program was started with.
@@ -81,26 +83,28 @@ pub enum Resolved {
     Path(PathBuf),
 }
 
-/// The answer of a system that a name is a link. Only [`Led::of`], which asks, makes one, so no other
-/// path is taken for that of a name unless the system said so.
+/// The answer of the system that a name is a link. Only [`Led::of`], which asks, makes one, so the
+/// path of a name differs from the name only if the system said so.
 #[derive(Clone, Copy)]
 pub struct Link(());
 
-/// A name, and what it stands for.
+/// A name and its target.
 #[derive(Drop)]
 pub struct Led<'w> {
+    /// The name, as it was given.
     pub name: &'w str,
+    /// The target, at the end of all links.
     pub to: Resolved,
-    /// If the name is a link.
+    /// The answer of the system that the name is a link, if it is one.
     pub link: Option<Link>,
 }
 
-/// How many links are followed, which is as many as the system follows.
+/// The largest number of links that are followed, which is that of the system.
 const LINKS_MAX: usize = 40;
 
 impl<'w> Led<'w> {
-    /// Looks up what a name stands for, at the end of its links, and notes it. No proof sees what is a
-    /// link, nor where one leads.
+    /// Follows the links of a name to its target. Proofs assume nothing about which names are
+    /// links, nor where these lead.
     pub fn of(alloc: Global, rt: &HostRuntime, name: &'w str) -> io::Result<Led<'w>>
         ensures named { IfOk result (λ l. l.name.now ≡ name.now) }
         ensures at { IfOk result (λ l. is_some l.link ≡ false → IsItself name.now l.to) }
@@ -129,12 +133,12 @@ impl<'w> Led<'w> {
     }
 }
 
-/// What a name stands for, at the end of its links.
+/// Follows a name's links to a standard stream or a path.
 pub fn resolve(alloc: Global, rt: &HostRuntime, name: &str) -> io::Result<Resolved> {
     Ok(Led::of(alloc, rt, name)?.to)
 }
 
-/// Where a link leads; `None` for what isn't a link.
+/// Returns the target of a link, or `None` for what isn't a link.
 fn target_of(alloc: Global, rt: &HostRuntime, path: &PathBuf) -> io::Result<Option<PathBuf>> {
     match fs::read_link(rt, path.as_str()) {
         Ok(target) => match path.parent() {
@@ -146,18 +150,19 @@ fn target_of(alloc: Global, rt: &HostRuntime, path: &PathBuf) -> io::Result<Opti
     }
 }
 
-/// Identifies a file, whatever its names.
+/// The identity of a file, whatever its names.
 #[derive(Clone, Copy, PartialEq, Eq)]
 pub enum FileId {
-    /// A regular file or a pipe.
+    /// A regular file or a pipe, by its device and inode.
     File(Node),
     /// A block device, by its number.
     Block(u64),
 }
 
 impl FileId {
-    /// Identifies a file by its metadata; `None` for a terminal or another character device, and
-    /// for a socket, since what is written to one is never read from it again.
+    /// Returns the identity of the file with this metadata, or `None` for a terminal or another
+    /// character device, and for a socket, since what is written to one is never read from it
+    /// again.
     pub fn of(metadata: &Metadata) -> Option<FileId> {
         let kind = metadata.file_type();
         if kind.is_block_device() {
@@ -169,7 +174,7 @@ impl FileId {
         }
     }
 
-    /// The id of a regular file or a pipe.
+    /// Returns the identity of a regular file or a pipe.
     pub fn of_node(node: Node) -> FileId
         ensures known { result ≡ File node }
         ensures fits { node.inode < 2 ^ 64 }
@@ -177,8 +182,8 @@ impl FileId {
         FileId::File(node)
     }
 
-    /// The id of the file to which a name leads; `None` if it leads to none. Fails if the system
-    /// can't look at it, since nobody knows then which file it is.
+    /// Returns the identity of the file to which a name leads, or `None` if it leads to none. Fails
+    /// if the stat fails, since nobody knows then which file it is.
     pub fn seen_at(rt: &HostRuntime, name: &str) -> io::Result<Option<FileId>> {
         match led_to(rt, name)? {
             Some(found) => Ok(FileId::of(&found)),
@@ -186,13 +191,14 @@ impl FileId {
         }
     }
 
-    /// Like `seen_at`, but a file that can't be looked at counts as none.
+    /// Returns the identity of a file like [`seen_at`](FileId::seen_at), but `None` if the stat
+    /// fails.
     pub fn at(rt: &HostRuntime, name: &str) -> Option<FileId> {
         FileId::seen_at(rt, name).unwrap_or(None)
     }
 
-    /// The id of the file to which an open stream leads. Fails if the system doesn't show that, as
-    /// when /proc doesn't exist, since what is read could be overwritten.
+    /// Returns the identity of the file to which an open stream leads. Fails if the system doesn't
+    /// show that, as when `/proc` doesn't exist, since what is read could be overwritten.
     pub fn of_open_stream(rt: &HostRuntime, stream: StandardStream) -> io::Result<Option<FileId>> {
         match led_to(rt, stream.path())? {
             Some(found) => Ok(FileId::of(&found)),
@@ -201,28 +207,29 @@ impl FileId {
     }
 }
 
-/// Whether this is the file to which standard error leads.
+/// Returns whether `id` is the file to which standard error leads.
 pub fn is_for_faults(rt: &HostRuntime, id: Option<FileId>) -> bool {
     id.is_some() && id == FileId::at(rt, StandardStream::Faults.path())
 }
 
-/// Identifies what gives each of its bytes once, whatever its names.
+/// The identity of a stream, which gives each of its bytes once, whatever its names.
 #[derive(Clone, Copy, PartialEq, Eq)]
 pub enum StreamId {
-    /// Standard input, if it is a file that others can open. It is read from where it stands.
+    /// Standard input, from its current position, if it leads to what others can open too, such as
+    /// a regular file.
     Input,
     /// A terminal, or another device that is read byte by byte, by its number.
     Device(u64),
-    /// A pipe, a socket or another file of their kind.
+    /// A pipe, a socket or another file of their kind, by its device and inode.
     Pipe(Node),
 }
 
-/// The number of `/dev/tty`, which is the same terminal as another device.
+/// The number of `/dev/tty`, a second name of the terminal of this program.
 const CONTROLLING_TERMINAL: u64 = 0x500;
 
 impl StreamId {
-    /// The stream to which a name leads, before it is opened; `None` for what can be read twice.
-    /// Fails if memory runs out.
+    /// Returns the stream to which a name leads, before it is opened, or `None` for what can be
+    /// read twice. Fails if memory runs out.
     pub fn at(alloc: Global, rt: &HostRuntime, name: &str) -> io::Result<Option<StreamId>> {
         match resolve(alloc, rt, name) {
             Ok(Resolved::Path(_)) => Ok(StreamId::found(rt, name)),
@@ -232,7 +239,7 @@ impl StreamId {
         }
     }
 
-    /// The stream that standard input is.
+    /// Returns the stream behind standard input.
     fn of_input(rt: &HostRuntime) -> StreamId {
         match StreamId::found(rt, StandardStream::Input.path()) {
             Some(id) => id,
@@ -240,7 +247,8 @@ impl StreamId {
         }
     }
 
-    /// The stream that is found at a path.
+    /// Returns the stream at a path, or `None` if what is there can be read twice or can't be
+    /// looked at.
     fn found(rt: &HostRuntime, path: &str) -> Option<StreamId> {
         match led_to(rt, path) {
             Ok(Some(found)) => StreamId::of(&found),
@@ -259,8 +267,8 @@ impl StreamId {
         }
     }
 
-    /// The stream of a device; `None` for those without an end or a state: `/dev/null`, `zero`,
-    /// `full`, `random` and `urandom`.
+    /// Returns the stream of a character device, or `None` for one without an end or a state:
+    /// `/dev/null`, `zero`, `full`, `random` and `urandom`.
     fn of_device(number: u64) -> Option<StreamId> {
         match number {
             0x103 | 0x105 | 0x107 | 0x108 | 0x109 => None,
@@ -268,7 +276,7 @@ impl StreamId {
         }
     }
 
-    /// Whether two are one stream, as far as the system shows.
+    /// Returns whether two streams are one, as far as the system shows.
     pub fn is_same(self, other: StreamId) -> bool {
         match (self, other) {
             (StreamId::Device(CONTROLLING_TERMINAL), StreamId::Device(device))
@@ -282,24 +290,25 @@ impl StreamId {
     }
 }
 
-/// Whether a file holds bytes that can reach a disk.
+/// Returns whether the bytes of a file are on a disk: those of a regular file or a block device.
 pub fn is_on_disk(metadata: &Metadata) -> bool {
     let kind = metadata.file_type();
     kind.is_file() || kind.is_block_device()
 }
 
-/// Whether a file is a pipe or a socket, so that nobody knows who has what is written to it.
+/// Returns whether a file is a pipe or a socket, so that nobody knows who has what is written to
+/// it.
 pub fn is_handed_on(metadata: &Metadata) -> bool {
     let kind = metadata.file_type();
     kind.is_fifo() || kind.is_socket()
 }
 
-/// Whether a file is the machine's generator of random bytes.
+/// Returns whether a file is the system's random device, `/dev/random` or `/dev/urandom`.
 pub fn is_random(metadata: &Metadata) -> bool {
     metadata.file_type().is_char_device() && matches!(metadata.rdev(), 0x108 | 0x109)
 }
 
-/// These bytes, for contracts alone.
+/// Returns a tape of these bytes, for contracts. Ghost: no bytes at run time.
 pub fn tape_of(bytes: &[u8]) -> Tape
     ensures { result ≡ bytes.now }
 {

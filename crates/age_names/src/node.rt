@@ -1,4 +1,4 @@
-//! Which file is which.
+//! The identity of a file of any kind.
 
 ghost use Rattle.age_names.specs.Numbers.{NumbersAreApart};
 
@@ -7,15 +7,17 @@ use std::io;
 use std::os::unix::fs::MetadataExt;
 use std::rt::HostRuntime;
 
-/// Identifies a file of any kind, as long as it exists.
+/// The device and inode of a file, which identify it as long as it exists.
 #[derive(Clone, Copy, PartialEq, Eq)]
 pub struct Node {
+    /// The number of the device that holds the file.
     pub device: u64,
+    /// The number of the file on that device.
     pub inode: u64,
 }
 
 impl Node {
-    /// The file that has this metadata.
+    /// Returns the device and inode in a file's metadata.
     pub fn of(metadata: &Metadata) -> Node {
         Node {
             device: metadata.dev(),
@@ -24,7 +26,8 @@ impl Node {
     }
 }
 
-/// The metadata of what is at a path, even if that is a link; `None` if nothing is there.
+/// Returns the metadata of what is at a path, without following a link, or `None` if nothing is
+/// there (`lstat`).
 pub fn found_at(rt: &HostRuntime, path: &str) -> io::Result<Option<Metadata>> {
     match fs::symlink_metadata(rt, path) {
         Ok(found) => Ok(Some(found)),
@@ -33,7 +36,7 @@ pub fn found_at(rt: &HostRuntime, path: &str) -> io::Result<Option<Metadata>> {
     }
 }
 
-/// The metadata of the file to which a name leads, over links; `None` if it leads to none.
+/// Returns the metadata of a file, following links, or `None` if there is none (`stat`).
 pub fn led_to(rt: &HostRuntime, name: &str) -> io::Result<Option<Metadata>> {
     match fs::metadata(rt, name) {
         Ok(found) => Ok(Some(found)),
@@ -42,7 +45,8 @@ pub fn led_to(rt: &HostRuntime, name: &str) -> io::Result<Option<Metadata>> {
     }
 }
 
-/// Whether a file is the one at a path, without following a link.
+/// Returns whether an open file is the one at a path, without following a link. Returns `false` if
+/// either can't be looked at.
 pub fn is_at(rt: &HostRuntime, file: &File, path: &str) -> bool {
     match (file.metadata(), found_at(rt, path)) {
         (Ok(own), Ok(Some(there))) => Node::of(&own) == Node::of(&there),
@@ -50,7 +54,7 @@ pub fn is_at(rt: &HostRuntime, file: &File, path: &str) -> bool {
     }
 }
 
-/// Two files have the same number only if they are one file.
+/// States that two files have the same number only if they are one file.
 pub fn numbers_are_apart()
     ensures { NumbersAreApart }
 {}

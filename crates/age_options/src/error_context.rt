@@ -1,38 +1,42 @@
-//! Which file a fault is about, what was to be done with it, and what the system answered.
+//! The context of a fault: the file, the action that failed, and the error of the system.
 
 use std::io;
 
-/// What was to be done with a file.
+/// An action on a file that failed.
 #[derive(Clone, Copy, PartialEq, Eq)]
 pub enum Action {
-    /// To open it for reading.
+    /// Opening a file for reading.
     Open,
-    /// To read it.
+    /// Reading a file.
     Read,
-    /// To create it.
+    /// Creating a file.
     Create,
-    /// To create it only if it doesn't exist, as the user asked. It does.
+    /// Creating a file that must not exist yet, as the user asked, although one does.
     CreateNew,
-    /// The same; the file that exists is empty.
+    /// Creating a file that must not exist yet, as the user asked, although an empty one does.
     CreateNewOverEmpty,
-    /// To open it for writing, or to write it.
+    /// Opening a file for writing, or writing to it.
     Write,
-    /// To end it once it has reached the disk.
+    /// Syncing a file and closing it.
     Sync,
-    /// To put a position into it.
+    /// Saving a position to a file.
     Save,
 }
 
-/// What couldn't be done with which file, and what the system answered.
+/// A failed action on a file, with the error of the system.
 #[derive(Clone, Copy)]
 pub struct Failure<'w> {
+    /// The action that failed.
     pub action: Action,
+    /// The name of the file, as people know it.
     pub name: &'w str,
+    /// The error of the system.
     pub error: io::Error,
 }
 
-/// How many of the first bytes of a file are kept: the first line, the stanza of a passphrase with a
-/// work factor of up to three digits, and the beginning of the last line.
+/// The number of first bytes of a file that are kept. They hold the first line, the stanza of a
+/// passphrase with a work factor of up to three digits, and the beginning of the header's last
+/// line.
 const KEPT_MAX: usize = 108;
 
 /// The first bytes of a file.
@@ -43,7 +47,7 @@ pub struct FirstBytes {
 }
 
 impl FirstBytes {
-    /// Returns none.
+    /// Creates an empty buffer for first bytes.
     pub fn new() -> FirstBytes {
         FirstBytes {
             kept: [0; KEPT_MAX],
@@ -51,7 +55,7 @@ impl FirstBytes {
         }
     }
 
-    /// Appends what was read after the others, as far as there is room.
+    /// Appends the next bytes of the file, as far as there is room.
     pub fn extend(&mut self, read: &[u8]) {
         let left = KEPT_MAX.saturating_sub(self.len);
         for byte in &read[..read.len().min(left)] {
@@ -62,22 +66,25 @@ impl FirstBytes {
         }
     }
 
-    /// Returns these bytes.
+    /// Returns the first bytes as a slice.
     pub fn as_slice(&self) -> &[u8] {
         &self.kept[..self.len.min(KEPT_MAX)]
     }
 }
 
-/// How many bytes were read of a file, and the first of them.
+/// The number of bytes that were read of a file, and the first of them.
 #[derive(Clone, Copy)]
 pub struct ReadSummary<'w> {
+    /// The name of the file; empty for standard input.
     pub name: &'w str,
+    /// The number of bytes that were read, at most `u64::MAX`.
     pub bytes: u64,
+    /// The first bytes that were read.
     pub head: FirstBytes,
 }
 
 impl<'w> ReadSummary<'w> {
-    /// Returns that of a file of which nothing was read. Standard input has no name.
+    /// Creates the summary of a file of which nothing was read. `name` is empty for standard input.
     pub fn none(name: &'w str) -> ReadSummary<'w> {
         ReadSummary {
             name,
@@ -86,24 +93,24 @@ impl<'w> ReadSummary<'w> {
         }
     }
 
-    /// Counts bytes that were read.
+    /// Counts the next bytes that were read, and keeps the first ones.
     pub fn count(&mut self, read: &[u8]) {
         self.bytes = self.bytes.saturating_add(read.len() as u64);
         self.head.extend(read);
     }
 }
 
-/// What a fault or a bad command line is about.
+/// The context of a fault or of a bad command line.
 #[derive(Clone, Copy)]
 pub enum ErrorContext<'w> {
-    /// No file, or one that the command line alone names.
+    /// No file, or only one that the command line names already.
     Nothing,
-    /// Something couldn't be done with a file.
+    /// A failed action on a file.
     Failed(Failure<'w>),
-    /// A file of which this was read.
+    /// A file that was read, and how many bytes it gave.
     Read(ReadSummary<'w>),
-    /// A file that holds so many bytes; `None` if they are too many.
+    /// A file and the number of its bytes, or `None` if they are too many.
     Holds(&'w str, Option<usize>),
-    /// Two names of one file or stream; only one, if the other isn't known.
+    /// Two names of one file or stream, or one name if the other isn't known.
     Twice(&'w str, Option<&'w str>),
 }

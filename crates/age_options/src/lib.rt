@@ -1,25 +1,26 @@
-//! What is asked of a file that is written: when it reaches the disk, and whether it may take an
-//! existing one's place; and what is said of a file with which something failed.
+//! Options of files that are written (when they are synced, and whether they may replace others),
+//! and the context of a failure.
 #![tactic(auto)]
 
 mod error_context;
 
 pub use error_context::{Action, ErrorContext, Failure, FirstBytes, ReadSummary};
 
-/// When a file that was written reaches the disk.
+/// The time at which a written file reaches the disk.
 #[derive(Clone, Copy, PartialEq, Eq)]
 pub enum Durability {
-    /// Before the call that ends it returns, so that a power failure undoes none of it.
+    /// The file is synced before the call that closes it returns, so a power failure undoes none of
+    /// it.
     Synced,
-    /// When the system writes it, some seconds later.
+    /// The system writes the file to the disk when it likes, some seconds later.
     Buffered,
 }
 
-/// What becomes of an existing file.
+/// The treatment of an existing file.
 #[derive(Clone, Copy, PartialEq, Eq)]
 pub enum ClobberOption {
-    /// It is overwritten.
+    /// An existing file is overwritten.
     Allowed,
-    /// It is refused, and is unchanged.
+    /// An existing file is refused, and stays unchanged.
     Refused,
 }

@@ -1,4 +1,4 @@
--- What a command does with files, done or not.
+-- A command and its files, done or not.
 use Rattle.std.specs.Prelude.{◌≡◌, ℕ, Result, Ok, Err, List, [], ◌∷◌, Option, Some, None, OnOk, IfErr, ◌⊎◌}
 use Rattle.std.specs.Prelude.{IfSome, ◌≤◌, ◌*◌}
 use Rattle.clap.specs.Words.{Text}
@@ -20,24 +20,24 @@ use Rattle.age_outputs.specs.declared.interruption.Unfinished.TheVariants.{Ended
 
 -- ---- What becomes of the position to save, by how its save went.
 
--- The position that is due to be put to the file of this name: the one to save. But one of chunk 0, which
--- says nothing that `decrypt` doesn't do, is if the set of files said that nothing has the name, and isn't
--- if it said that something has, or may have it.
+-- The position is due to be saved to the file of this name. One at chunk 0, from which `resume`
+-- does what `decrypt` does, is due only if the set of files said that nothing has the name, and not
+-- if it said that something has it, or may have it.
 abbrev pub IsDue : (Came : Outcome → Type 0) → (position : Option Position) → Option Text
     → (due : Option Position) → Type 0
 IsDue Came (Some p) (Some name) due = ((due ≡ Some p) × (p.index ≡ 0 → Came (Absent name)))
     ⊎ ((due ≡ None) × (p.index ≡ 0) × Came (Present name))
 IsDue Came position name due = due ≡ position
 
--- A position is put to the file of a name, if there are both, and only if so much of OUT is certain; or
--- nothing is.
+-- The position was put to the file of a name, if there are both, and only if so much of OUT is
+-- certain; or nothing was put.
 abbrev pub IsSaved : (settled : ℕ) → Option Position → Option Text → (save : Result (Unit {0}) FileFault)
     → (puts : List Entry) → Type 0
 IsSaved settled (Some p) (Some name) (Ok done) puts =
     (p.index * chunk_length ≤ settled) × (puts ≡ entry name (position_text p) ∷ [])
 IsSaved settled position name save puts = puts ≡ []
 
--- the position was saved or not, and the ending says how saving it went
+-- The position was saved or not, and the ending tells how saving it went.
 pub record PutsRest (save : Option Text) (fault : FileFault) (place : Reached)
     (old new : FilesView) (ending : Ending) : Type 0 where
   pub how : Result (Unit {0}) FileFault
@@ -48,12 +48,12 @@ pub record PutsRest (save : Option Text) (fault : FileFault) (place : Reached)
   pub is_due : IsDue (CameSince old new) place.position save due
   pub saved : IsSaved place.settled due save how rest
 
--- the position of this stop was saved or not, and nothing else was done
+-- The position of this stop was saved or not, and nothing else was done.
 pub record IsConcluded (s : Stop) (old new : FilesView) (ending : Ending) : Type 0 where
   pub unended : new.ended ≡ old.ended
   pub put : PutsRest (option_text s.save) s.fault s.place old new ending
 
--- an unfinished command was concluded, with this ending
+-- An unfinished command was concluded, with this ending.
 abbrev pub Concluding : Unfinished → (old new : FilesView) → Ending → Type 0
 Concluding (Ended e) old new ending = (ending ≡ e) × (new ≡ old)
 Concluding (StoppedAt s) old new ending = IsConcluded s old new ending
@@ -68,8 +68,8 @@ pub record Finally (P : FilesView → Result (Unit {0}) Ending → Type 0) (file
 
 -- ---- What holds before and after a command.
 
--- It is done: OUT is what was asked for, of what the named files gave before anything was put. Or it isn't:
--- no output is touched, or OUT is left with a beginning of that.
+-- The command is done, and OUT is what was requested, of what the named files gave before anything
+-- was put. Or it isn't done, and no output is touched, or OUT is left with a beginning of that.
 pub record Acts (asked : Request) (before after : FilesView) (ended : Result (Unit {0}) Ending) : Type 0 where
   pub done : OnOk ended (let First = CameFirst before after in
       LeavesFor (HasGivenAll First) (HasGiven First) (OutHolds before after) asked)

@@ -12,8 +12,8 @@ use Rattle.age_command.specs.{random_name, IsPassphraseIn}
 
 -- ---- What was read of a file.
 
--- A file of this name was found, or an empty one if a missing one counts so, and its reading is over. Its
--- source was this one at first, of which nothing was read so far, and that one at the end.
+-- A file of this name was opened, or an empty one if a missing one counts so, and its reading is
+-- over. Its source was `first` before anything was read of it, and `last` at the end.
 pub record WasRead (Came : Outcome → Type 0) (missing : Missing) (name : Text) (first last : SourceView)
     : Type 0 where
   pub unread : first.supply.given ≡ []
@@ -25,9 +25,9 @@ pub record WasRead (Came : Outcome → Type 0) (missing : Missing) (name : Text)
 
 -- ---- What `encrypt` makes a file of.
 
--- The work factor that is asked for and two files make the secret: all that the file of the passphrase
--- gave; and what that of the random bytes gave, which begins with 48 of them: the file key, the stanza's
--- salt and the payload nonce.
+-- The secret of an encryption. Its passphrase is all that the passphrase file gave, without one
+-- line feed; its work factor is the one that was given; and the file of random bytes begins with
+-- its file key, the stanza's salt and the payload nonce.
 pub record MakesSecret (GaveAll Gave : Text → List ℕ → Type 0) (asked : Encrypting) (s : SecretView)
     : Type 0 where
   pub pass : IsPassphraseIn (GaveAll asked.pass.now) s.pass

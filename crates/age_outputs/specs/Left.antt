@@ -34,7 +34,7 @@ use Rattle.age_outputs.specs.Done.{CameFirst}
 
 -- ---- How a command ended that isn't done.
 
--- a stop with this fault, by how the save of its position went: if that failed, both are reported
+-- The ending of a stop with this fault. If saving its position failed, both faults are reported.
 abbrev pub stop_ending : FileFault → (saved : Result (Unit {0}) FileFault) → Ending
 stop_ending fault (Ok done) = Fault fault
 stop_ending fault (Err second) = Unsaved fault second
@@ -45,20 +45,20 @@ pub record Spares (to : Text) (before after : FilesView) : Type 0 where
       ⊎ IsSomeAnd after.ended (λ out. IsAtName to out × TouchesItself out × (out.took ≡ []) × IsUntouched 0 out)
   pub none : PutsOnly [] before after
 
--- what its sink took is at its path, and on the disk, if that was to be waited for; or a call for it has
--- failed
+-- What the sink took is at its path, and on the disk if it was to be synced; or a call for it has
+-- failed.
 abbrev pub IsThereUnlessFailed : Durability → EndedFile → Type 0
 IsThereUnlessFailed durability out = (IsThere out × (durability ≡ Synced → IsOnDisk out))
     ⊎ IfSome out.file (λ f. 0 < out.failed)
 
--- the position that it goes on from
+-- The position at which a decryption begins, if not at the start of its file.
 abbrev pub start_of : Option (Position × Text) → Option Position
 start_of earlier = option_map (λ e. e.0) earlier
 
 -- ---- What was written by a command that isn't done.
 
--- the file of this name gave the header of an age file, which the identity opens, its nonce, and these bytes
--- after that
+-- The file of this name gave the header of an age file, which the identity opens, its nonce, and
+-- these bytes after that.
 pub record GivesFile (Gave : Text → List ℕ → Type 0) (identity : Identity) (from : Text) (file : OpenedFile)
     (rest : List ℕ) : Type 0 where
   pub head : HeadText file.header file.header_bytes
@@ -66,16 +66,16 @@ pub record GivesFile (Gave : Text → List ℕ → Type 0) (identity : Identity)
   pub size : length file.nonce ≡ 16
   pub gave : Gave from ((file.header_bytes ++ file.nonce) ++ rest)
 
--- It came to no payload: nothing was written; or, of the earlier output, no more than is before the position,
--- which belongs to the file.
+-- The decryption came to no payload. It wrote nothing; or, of the earlier output, no more than is
+-- before the position, which belongs to the file.
 abbrev pub IsBeforeRun : (Gave : Text → List ℕ → Type 0) → Identity → (from : Text)
     → (start : Option (Position × Text)) → (took : List ℕ) → Type 0
 IsBeforeRun Gave identity from start took = (took ≡ []) ⊎ IsSomeAnd start (λ e.
     (length took ≤ e.0.index * chunk_length) × (more : List ℕ) × Gave e.1 (took ++ more)
     × (file : OpenedFile) × (rest : List ℕ) × GivesFile Gave identity from file rest × BelongsTo e.0 file)
 
--- A run of the file's payload: from its start, or from a position, after the text that the position was
--- made for. It wrote that and a beginning of what was opened.
+-- A run over the file's payload: from its start, or from a position, after the text for which the
+-- position was made. It wrote that text and a beginning of what was decrypted.
 pub record IsRunOf (Gave : Text → List ℕ → Type 0) (identity : Identity) (from : Text)
     (start : Option Position) (took : List ℕ) (r : Run) : Type 0 where
   pub file : GivesFile Gave identity from r.file (r.skipped ++ r.bytes)
@@ -85,8 +85,8 @@ pub record IsRunOf (Gave : Text → List ℕ → Type 0) (identity : Identity) (
   pub wrote : took ≡ held r
   pub prefix : IsPrefixOf r.out (run_text r)
 
--- A position that was saved: so much of OUT is certain, as the set of files said, and the position isn't
--- beyond that. It is where the command started, or one of the run and not before that.
+-- A position that was saved. It isn't beyond the bytes of OUT that are certain, as the set of files
+-- said. It is where the command started, or one of the run and not before that.
 pub record IsSavedBy (Came : Outcome → Type 0) (p : Paths) (start : Option Position) (run : Option Run)
     (took : List ℕ) (saved : Position) : Type 0 where
   pub settled : ℕ
@@ -97,7 +97,7 @@ pub record IsSavedBy (Came : Outcome → Type 0) (p : Paths) (start : Option Pos
 
 -- `First` is what came before anything was put, and `Came` what came at all.
 module _ (First Came : Outcome → Type 0) where
-  -- a decryption that isn't done wrote this, and saved this position
+  -- A decryption that isn't done wrote this, and saved this position.
   pub record Stops (d : Decrypting) (start : Option (Position × Text)) (took : List ℕ)
       (saved : Option Position) : Type 0 where
     pub identity : Identity
@@ -108,7 +108,8 @@ module _ (First Came : Outcome → Type 0) where
         (IsRunOf (HasGiven First) identity from (start_of start) took)
     pub saves : IfSome saved (IsSavedBy Came d.paths (start_of start) run took)
 
-  -- an encryption wrote a beginning of an age file of what IN gave
+  -- A command that isn't done wrote this, and saved this position. An encryption wrote a beginning
+  -- of an age file of what IN gave.
   abbrev pub StopsOf : Request → (took : List ℕ) → (saved : Option Position) → Type 0
   StopsOf (Encrypt e) took saved =
       (secret : SecretView) × MakesSecret (HasGivenAll First) (HasGiven First) e secret
@@ -119,20 +120,21 @@ module _ (First Came : Outcome → Type 0) where
       × Stops r.decrypting (Some (p, r.old.now)) took saved
   StopsOf other took saved = Unit {0}
 
--- the file of `--save`, if what is asked has one
+-- The name of the file of `--save`, if a request has one.
 abbrev pub save_of : Request → Option Text
 save_of (Decrypt d) = option_text d.save
 save_of (Resume r) = option_text r.decrypting.save
 save_of other = None
 
--- the position was put to its file, if both are there
+-- The position was put to its file, if there are both.
 abbrev pub SavesOf : Option Text → Option Position → List Entry → Type 0
 SavesOf (Some name) (Some p) puts = puts ≡ entry name (position_text p) ∷ []
 SavesOf save position puts = puts ≡ []
 
--- How OUT was left, which was touched alone, at its name: unchanged if it took nothing, unless a call for it
--- failed, and else closed. It was put with what it took, or wasn't, and then a position was saved, or wasn't;
--- nothing else was put. If one was saved, what OUT took is there, unless a put (27) or a call for it failed.
+-- A command that isn't done left OUT so. OUT alone was touched, at its name: unchanged if it took
+-- nothing, unless a call for it failed, and else closed. It was put with what it took, or wasn't,
+-- and then a position was saved, or wasn't; nothing else was put. If a position was saved, what OUT
+-- took is there, unless a put (27) or a call for it failed.
 pub record Left (asked : Request) (p : Paths) (before after : FilesView) (ending : Ending) : Type 0 where
   pub fault : FileFault
   pub how : Result (Unit {0}) FileFault

@@ -1,4 +1,4 @@
-//! How a decryption ends, and where it can continue.
+//! The end of a decryption, and the position at which it can continue.
 
 ghost use Rattle.std.specs.Prelude.{◌≡◌, ◌⊎◌, ◌≤◌, ◌<◌, Some, IfSome, option_map};
 ghost use Rattle.age_fileset.specs.{CameSince, Does, Gave, reading_of};
@@ -16,7 +16,7 @@ use age_opening::{Done, Marks, Stopped};
 use age_position::{Position, PositionPolicy};
 use std::alloc::Global;
 
-/// Positions are kept if one is to be saved.
+/// Returns the policy: positions are kept if one is to be saved.
 pub(crate) fn positions_for(save: Option<&str>) -> PositionPolicy
     ensures { result ≡ kept_for (option_text save.entry) }
 {
@@ -26,7 +26,7 @@ pub(crate) fn positions_for(save: Option<&str>) -> PositionPolicy
     }
 }
 
-/// The position that a decryption continues from, if any.
+/// Returns the position at which a decryption begins, if not at the start of the file.
 pub(crate) fn start_of<S: Source>(earlier: &Option<OldText<'_, S>>) -> Option<Position>
     ensures { result ≡ start_of (option_map earlier_of earlier.now) }
 {
@@ -36,7 +36,7 @@ pub(crate) fn start_of<S: Source>(earlier: &Option<OldText<'_, S>>) -> Option<Po
     }
 }
 
-/// The later one of a position and of where its run started.
+/// Returns the later of a position and the one at which its run started.
 fn not_before(place: Position, start: Option<Position>) -> Position
     ensures { (result ≡ place × IfSome start (λ s. s.index ≤ result.index))
         ⊎ ((start ≡ Some result) × (place.index < result.index)) }
@@ -53,7 +53,7 @@ fn not_before(place: Position, start: Option<Position>) -> Position
     }
 }
 
-/// The position of a stop, if it has one.
+/// Returns the position of a stopped run, if it has one.
 fn own_position(end: &Result<Done, Stopped>) -> Option<Position>
     ensures { result ≡ own_of end.now }
 {
@@ -63,9 +63,10 @@ fn own_position(end: &Result<Done, Stopped>) -> Option<Position>
     }
 }
 
-/// Where a decryption that ended so can continue, if so many bytes of its output are certain: by
-/// its marks at the last position within these, but not before where the run started, since that
-/// would replace a better one; or at its own, if it has no marks.
+/// Returns the position at which a decryption that ended so can continue, if `settled` bytes of its
+/// output are certain. With marks this is the last position within these bytes, but none before the
+/// start of the run, since that would replace a better one. Without marks it is the run's own
+/// position.
 pub(crate) fn place_of(
     end: &Result<Done, Stopped>,
     marks: &Option<Marks>,
@@ -87,7 +88,7 @@ pub(crate) fn place_of(
     }
 }
 
-/// How a decryption ended, without what it wrote.
+/// Returns the result of a decryption, without the number of bytes that it wrote.
 pub(crate) fn end_of(end: &Result<Done, Stopped>) -> Result<(), FileFault>
     ensures { result ≡ end_of end.now }
 {
@@ -97,8 +98,8 @@ pub(crate) fn end_of(end: &Result<Done, Stopped>) -> Result<(), FileFault>
     }
 }
 
-/// Returns how an engine ended, its fault with a context: that of the output, if it couldn't be
-/// written; else that of the earlier output, if it couldn't be read, or of the input.
+/// Adds a context to the fault of an engine: that of the output, if it couldn't be written; that of
+/// the earlier output, if it couldn't be read; or else that of the input.
 pub(crate) fn attach_context<'w>(
     end: Result<(), FileFault>,
     out: ErrorContext<'w>,
@@ -117,7 +118,7 @@ pub(crate) fn attach_context<'w>(
     }
 }
 
-/// Ends the reading of the earlier output, if there is one.
+/// Ends the reading of the earlier output, if there is one, and returns its context.
 pub(crate) fn close_old<'w, F: FileSet<'w>>(
     files: &mut F,
     earlier: Option<OldText<'w, F::In>>,

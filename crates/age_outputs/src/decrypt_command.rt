@@ -1,4 +1,4 @@
-//! How a file is decrypted, from its start or from a position, and the command that begins at its start.
+//! Decryption, from the start of a file or from a position, and the command `decrypt`.
 
 ghost use Rattle.std.specs.Prelude.{◌≡◌, [], IfSome, option_map};
 ghost use Rattle.age_opening.specs.{DecryptsMarked, from_either};
@@ -23,8 +23,8 @@ use age_opening::{Done, Marks, Stopped, decrypt_marked, resume_marked};
 use age_position::{Position, PositionPolicy};
 use std::alloc::Global;
 
-/// What opens the input, by the options and the file that they name. Before it reads that file, it
-/// refuses two names that must differ and are one file, and two names of inputs that stand for one
+/// Reads the file that the identity option names, and returns the identity that opens the input.
+/// Before that, fails if two names that must differ lead to one file, or two names of inputs to one
 /// stream.
 pub(crate) fn identify<'w, F: FileSet<'w>>(
     alloc: Global,
@@ -41,7 +41,7 @@ pub(crate) fn identify<'w, F: FileSet<'w>>(
     Ok(choice.identity(secret)?)
 }
 
-/// Where a decryption continues: at a position, after the earlier output of this name.
+/// The earlier output, after which a decryption continues, and the position where it does.
 #[derive(Drop)]
 pub(crate) struct OldText<'w, S: Source> {
     pub(crate) position: Position,
@@ -49,14 +49,14 @@ pub(crate) struct OldText<'w, S: Source> {
     pub(crate) source: S,
 }
 
-/// The outputs of a decryption: the earlier one, if it continues after one, and the new one.
+/// The outputs of a decryption: the new one, and the earlier one, if it continues after one.
 #[derive(Drop)]
 pub(crate) struct Outputs<'w, S: Source, O: Sink> {
     pub(crate) earlier: Option<OldText<'w, S>>,
     pub(crate) out: O,
 }
 
-/// What a decryption is made with: what opens the input, and the files.
+/// An identity, an open input and open outputs: all that a decryption needs.
 #[derive(Drop)]
 pub(crate) struct Ready<'w, S: Source, O: Sink> {
     pub(crate) identity: Identity,
@@ -64,7 +64,7 @@ pub(crate) struct Ready<'w, S: Source, O: Sink> {
     pub(crate) outputs: Outputs<'w, S, O>,
 }
 
-/// How a decryption ended, with its marks, if it came to its payload and positions are kept.
+/// The result of a decryption, and its marks, if it came to its payload and positions are kept.
 type Run = (Result<Done, Stopped>, Option<Marks>);
 
 /// Decrypts a source into the output, from its start or after an earlier output.
@@ -92,7 +92,8 @@ fn run_engine<S: Source, L: Source, O: Sink>(
     }
 }
 
-/// Decrypts the input into the output.
+/// Decrypts the input into the output, and shows progress if asked for. Returns the result, the
+/// input and the outputs.
 fn decrypt_text<'w, F: FileSet<'w>, P: Meter>(
     alloc: Global,
     files: &F,
@@ -123,8 +124,9 @@ fn decrypt_text<'w, F: FileSet<'w>, P: Meter>(
     (run, source, outputs)
 }
 
-/// Decrypts the input into the output, and ends both. If it stops, or the output can't be ended, its
-/// position is at no more than what the output holds for certain.
+/// Decrypts the input into the output, and closes all files. If the decryption stops, or the output
+/// can't be closed, the position of the stop lies within the bytes that the output holds for
+/// certain.
 pub(crate) fn decrypt_ready<'w, F: FileSet<'w>, P: Meter>(
     alloc: Global,
     files: &mut F,
@@ -155,8 +157,8 @@ pub(crate) fn decrypt_ready<'w, F: FileSet<'w>, P: Meter>(
     end_output(files, out, writing, place, engine)
 }
 
-/// Decrypts a file as asked. If it isn't done, `conclude` reports why, and saves the position of a
-/// stop.
+/// Runs the command `decrypt`. If it isn't done, pass the result to [`conclude`](crate::conclude),
+/// which reports why and saves the position of a stop.
 pub fn decrypt_file<'w, F: FileSet<'w>, P: Meter>(
     alloc: Global,
     files: &mut F,

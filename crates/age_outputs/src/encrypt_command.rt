@@ -1,4 +1,4 @@
-//! The command that encrypts a file.
+//! The command `encrypt`.
 
 ghost use Rattle.std.specs.Prelude.{◌≡◌, ℕ, List, IfOk, IfErr, IfSome};
 ghost use Rattle.age_fileset.specs.{CameSince, HasGiven};
@@ -29,10 +29,11 @@ use age_keys::{FileRandom, RANDOM_LEN};
 use age_sealing::{Front, Secret, Written, encrypt_after};
 use std::alloc::Global;
 
-/// Where random bytes come from if no file is named.
+/// The source of random bytes, if no file is named.
 const RANDOM: &str = "/dev/urandom";
 
-/// The random parts in the first bytes, if there are enough.
+/// Splits random bytes into a file key, a salt and a payload nonce. Returns `None` if they are too
+/// few.
 fn random_of(bytes: &[u8]) -> Option<FileRandom>
     ensures { IfSome result (λ r. IsRandom bytes.now r) }
 {
@@ -40,7 +41,8 @@ fn random_of(bytes: &[u8]) -> Option<FileRandom>
     Some(FileRandom::of(front))
 }
 
-/// The random parts, from the first 48 bytes of a file.
+/// Reads a file key, a salt and a payload nonce: the first 48 bytes of a file. Fails if it has
+/// fewer.
 fn read_random<'w, F: FileSet<'w>>(
     alloc: Global,
     files: &mut F,
@@ -66,7 +68,7 @@ fn read_random<'w, F: FileSet<'w>>(
     }
 }
 
-/// The passphrase in its file. Refuses a file that holds none for this work factor.
+/// Reads the passphrase file. Fails if it holds no passphrase for this work factor.
 fn read_pass<'w, F: FileSet<'w>>(
     alloc: Global,
     files: &mut F,
@@ -84,14 +86,14 @@ fn read_pass<'w, F: FileSet<'w>>(
     }
 }
 
-/// What a secret is made of: the passphrase with the work factor, and the random parts.
+/// The passphrase with the work factor, and the random bytes, of which a secret is made.
 #[derive(Drop)]
 struct Material {
     pass: OwnPassphrase,
     random: FileRandom,
 }
 
-/// The name of the file of random bytes.
+/// Returns the name of the file of random bytes.
 fn random_name<'a>(asked: &Encrypting<'a>) -> &'a str
     ensures { result.now ≡ random_name (option_text asked.now.random) }
 {
@@ -101,8 +103,8 @@ fn random_name<'a>(asked: &Encrypting<'a>) -> &'a str
     }
 }
 
-/// What the secret is made of, from the files of the passphrase and of random bytes. They aren't
-/// read if the output is one of the files that are read, or if a stream would be read twice.
+/// Reads the files of the passphrase and of random bytes. Fails before that, if the output is one
+/// of the files that are read, or if a stream would be read twice.
 fn read_material<'w, F: FileSet<'w>>(
     alloc: Global,
     files: &mut F,
@@ -120,7 +122,8 @@ fn read_material<'w, F: FileSet<'w>>(
     Ok(Material { pass, random })
 }
 
-/// What the age file begins with. Then the passphrase, which is never too long, is overwritten.
+/// Returns the header and the payload nonce of an age file. Derives the key from the passphrase,
+/// and then overwrites the passphrase, which is never too long.
 fn front_of(alloc: Global, material: Material) -> Result<Front, FileFault>
     ensures { IfOk result (IsFrontOf (secret_of material)) }
 {
@@ -140,7 +143,7 @@ fn front_of(alloc: Global, material: Material) -> Result<Front, FileFault>
 
 /// Opens the input, derives the key, and only then opens the output: a run that is killed meanwhile
 /// leaves no empty file, and one that runs out of memory hasn't made one. An output that must be
-/// new is refused before that.
+/// new, and isn't, is refused before the key is derived.
 fn open_sealing<'w, F: FileSet<'w>>(
     alloc: Global,
     files: &mut F,
@@ -164,7 +167,8 @@ fn open_sealing<'w, F: FileSet<'w>>(
     Ok((source, out, front))
 }
 
-/// Encrypts the input into the output. Returns how it ended, with the input.
+/// Encrypts the input into the output, and shows progress if asked for. Returns the result and the
+/// input.
 fn seal_text<'w, F: FileSet<'w>, P: Meter>(
     files: &F,
     asked: &Encrypting<'w>,
@@ -189,7 +193,8 @@ fn seal_text<'w, F: FileSet<'w>, P: Meter>(
     (end, source)
 }
 
-/// Encrypts a file as asked. If it isn't done, `conclude` reports why.
+/// Runs the command `encrypt`. If it isn't done, pass the result to [`conclude`](crate::conclude),
+/// which reports why.
 pub fn encrypt_file<'w, F: FileSet<'w>, P: Meter>(
     alloc: Global,
     files: &mut F,

@@ -1,4 +1,4 @@
-//! How a command that writes OUT stops, and where its position goes then.
+//! The end of a command that stops, and its position, which is saved then.
 
 ghost use Rattle.std.specs.Prelude.{◌≡◌};
 ghost use Rattle.age_fileset.specs.{CameSince, Does};
@@ -17,17 +17,17 @@ use age_position::Position;
 use age_sealing::Written;
 use std::alloc::Global;
 
-/// How far a command that stopped had come.
+/// The position of a command that stopped, and how many bytes of OUT are certain.
 #[derive(Clone, Copy)]
 pub(crate) struct Reached {
-    /// The position to save.
+    /// The position to save, if there is one.
     pub(crate) position: Option<Position>,
-    /// How many bytes OUT certainly holds, if a position is to be saved.
+    /// The number of bytes that OUT holds for certain, if a position is to be saved.
     pub(crate) settled: u64,
 }
 
 impl Reached {
-    /// Nowhere, since an encryption has no position.
+    /// Returns no position, for an encryption.
     pub(crate) fn nowhere() -> Reached
         ensures { result ≡ record { position = None; settled = 0 } }
     {
@@ -38,7 +38,7 @@ impl Reached {
     }
 }
 
-/// How an encryption ended, without what it wrote.
+/// Returns the result of an encryption, without the number of bytes that it wrote.
 pub(crate) fn sealing_end(sealed: Result<Written, FileFault>) -> Result<(), FileFault>
     ensures { result ≡ sealing_end sealed }
 {
@@ -48,8 +48,8 @@ pub(crate) fn sealing_end(sealed: Result<Written, FileFault>) -> Result<(), File
     }
 }
 
-/// The position of a stop, to be written to the file of this name. A position at chunk 0 says
-/// nothing that `decrypt` doesn't do, so it replaces nothing.
+/// Returns the position of a stopped run, if it should be saved. A position at chunk 0 is saved
+/// only to a name that has no file, since `resume` from there does what `decrypt` does.
 fn due_position<'w, F: FileSet<'w>>(
     files: &mut F,
     name: Option<&'w str>,
@@ -68,8 +68,8 @@ fn due_position<'w, F: FileSet<'w>>(
     if files.is_absent(to) { position } else { None }
 }
 
-/// Saves a position, if there is one and a file for it. A position beyond the `settled` bytes that
-/// OUT certainly holds isn't saved (27).
+/// Saves a position, if there is one and a file for it. Fails with `Write` (27) if the position
+/// lies beyond the `settled` bytes that OUT holds for certain.
 pub(crate) fn save<'w, F: FileSet<'w>>(
     alloc: Global,
     files: &mut F,
@@ -93,22 +93,22 @@ pub(crate) fn save<'w, F: FileSet<'w>>(
 /// A command that stopped, and whose position is still to be saved.
 #[derive(Drop)]
 pub struct Stop<'w> {
-    /// Why.
+    /// The fault.
     pub(crate) fault: FileError<'w>,
-    /// How far it came.
+    /// The position, and how many bytes of OUT are certain.
     pub(crate) place: Reached,
-    /// The file of its position.
+    /// The name to which the position is saved, if any.
     pub(crate) save: Option<&'w str>,
-    /// Whether that file is to be on the disk.
+    /// The choice whether that file is synced.
     pub(crate) durability: Durability,
 }
 
-/// Why a command isn't done.
+/// The reason why a command isn't done, before it is reported.
 #[derive(Drop)]
 pub enum Unfinished<'w> {
-    /// It ended with this.
+    /// The command ended, and has nothing left to do.
     Ended(Ending<'w>),
-    /// It stopped.
+    /// The command stopped, and its position is still to be saved.
     Stopped(Stop<'w>),
 }
 
@@ -120,7 +120,7 @@ impl<'w> From<Ending<'w>> for Unfinished<'w> {
     }
 }
 
-/// Saves the position of a stop.
+/// Saves the position of a stopped command.
 fn save_stop<'w, F: FileSet<'w>>(
     alloc: Global,
     files: &mut F,
@@ -137,7 +137,7 @@ fn save_stop<'w, F: FileSet<'w>>(
     }
 }
 
-/// Reports a stop, and saves its position only after that, since the file that it goes to may block.
+/// Reports a fault, and only then saves the position, since writing the position's file may block.
 fn conclude_stop<'w, F: FileSet<'w>, E: Sink>(
     alloc: Global,
     files: &mut F,
@@ -159,8 +159,9 @@ fn conclude_stop<'w, F: FileSet<'w>, E: Sink>(
     }
 }
 
-/// Reports to `faults` why a command isn't done. If it stopped, its position is saved after that, if it
-/// has one and a file for it, and isn't beyond what OUT certainly holds. Returns how the command ended.
+/// Reports to `faults` why a command isn't done, and returns its ending. If the command stopped,
+/// saves its position after that, if it has one and a file for it, and the position isn't beyond
+/// what OUT holds for certain.
 pub fn conclude<'w, F: FileSet<'w>, E: Sink>(
     alloc: Global,
     files: &mut F,

@@ -1,12 +1,13 @@
 //! The commands that write OUT: `encrypt`, `decrypt` and `resume`, and how they end.
 //!
-//! `encrypt_file`, `decrypt_file` and `resume_file` do what one command asks for, once its words
-//! are read. Each finds what opens or seals the input, opens the files in a fixed order, runs its
+//! [`encrypt_file`], [`decrypt_file`] and [`resume_file`] run one command each, once its arguments
+//! are parsed. Each makes the identity or the secret, opens the files in a fixed order, runs its
 //! engine, and leaves the output, and the position if it is to be saved, as its contract says,
-//! whether it succeeds or stops. If it isn't done, `conclude` reports why, and an `Ending` says it.
+//! whether it succeeds or stops. If it isn't done, [`conclude`] reports why, and returns an
+//! `Ending`.
 //!
-//! Its definitions say what each command does with files, done or stopped. `age_cli` picks one by
-//! the arguments. Nothing of a drill is here, so `age_drill` is proved beside it.
+//! The definitions of this crate say what each command does with files, done or stopped. `age_cli`
+//! picks one by the arguments. Nothing of a drill is here, so `age_drill` is proved beside it.
 #![tactic(auto)]
 
 mod conclusion;

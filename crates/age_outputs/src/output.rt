@@ -1,4 +1,4 @@
-//! How the input and the output of a command are opened, and how the output is ended.
+//! The input and the output of a command: how they are opened, and how the output is ended.
 
 ghost use Rattle.std.specs.Prelude.{◌≡◌, [], true, is_some};
 ghost use Rattle.age_fileset.specs.{Found, Absent, Settled, Does, CameSince};
@@ -16,7 +16,7 @@ use age_io::Meter;
 use age_options::{ClobberOption, Durability};
 use std::alloc::Global;
 
-/// What an output holds.
+/// The contents of an output.
 #[derive(Clone, Copy)]
 pub(crate) enum Content {
     /// The decrypted plaintext, which may go to a terminal.
@@ -25,27 +25,28 @@ pub(crate) enum Content {
     AgeFile,
 }
 
-/// What a command that writes is to read and to write. The order of the command says which of its
-/// names must differ.
+/// The files of a command that writes one. Some of their names must differ: [`check_names`] says
+/// which.
 #[derive(Clone, Copy)]
 pub(crate) struct Writing<'a> {
-    /// The first file by which the arguments are judged: that of the passphrase.
+    /// The first file that is read before the input: that of the passphrase.
     pub(crate) first: Option<&'a str>,
-    /// The second: that of the shared secret, or of the random bytes.
+    /// The second file that is read before the input: that of the shared secret, or of the random
+    /// bytes.
     pub(crate) second: Option<&'a str>,
-    /// The file of the position at which it begins, which may be the file of `save`.
+    /// The file of the position at which the command begins, which may be the file of `save`.
     pub(crate) position: Option<&'a str>,
     /// The earlier output.
     pub(crate) old: Option<&'a str>,
-    /// Where the position goes if the command stops.
+    /// The name to which the position is saved if the command stops.
     pub(crate) save: Option<&'a str>,
     /// The input and the output.
     pub(crate) paths: Paths<'a>,
-    /// What the output is to hold.
+    /// The contents that the output is to hold.
     pub(crate) content: Content,
 }
 
-/// Whether two names are given, and stand for one file.
+/// Returns whether two names are given, and stand for one file.
 fn are_one<'w, F: FileSet<'w>>(files: &mut F, one: Option<&'w str>, other: Option<&'w str>) -> bool
     ensures { F.view files.new ≡ F.view files.old }
 {
@@ -58,7 +59,7 @@ fn are_one<'w, F: FileSet<'w>>(files: &mut F, one: Option<&'w str>, other: Optio
     }
 }
 
-/// Whether a name is given, and stands for the same file as one of others that are given: both then.
+/// Returns a name and one of the others, if both are given and stand for one file.
 fn is_one_of<'w, F: FileSet<'w>>(
     files: &mut F,
     name: Option<&'w str>,
@@ -74,9 +75,9 @@ fn is_one_of<'w, F: FileSet<'w>>(
     None
 }
 
-/// Two names that must differ and stand for one file: the output's and an input's; that of `save`,
-/// and the output's or that of an input other than the position; or the earlier output's and the
-/// input's.
+/// Returns two names that must differ and stand for one file: the output's and an input's; that of
+/// `save`, and the output's or that of an input other than the position; or the earlier output's
+/// and the input's.
 fn named_twice<'w, F: FileSet<'w>>(
     files: &mut F,
     asked: &Writing<'w>,
@@ -103,7 +104,7 @@ fn named_twice<'w, F: FileSet<'w>>(
     is_one_of(files, old, &[from])
 }
 
-/// Whether an output is a terminal that can't show what it is to hold.
+/// Returns whether an output is a terminal that can't show what it is to hold.
 fn is_unshown<'w, F: FileSet<'w>>(files: &mut F, out: &F::Out, content: Content) -> bool
     ensures { F.view files.new ≡ F.view files.old }
 {
@@ -113,8 +114,8 @@ fn is_unshown<'w, F: FileSet<'w>>(files: &mut F, out: &F::Out, content: Content)
     }
 }
 
-/// Why what was opened can't be the output: it is a terminal, which is no place for an age file, or
-/// progress and faults go there.
+/// Returns the error if what was opened can't be the output: it is a terminal, which can't show an
+/// age file, or it is that of standard error, which gets progress and faults.
 fn refusal_of<'w, F: FileSet<'w>>(
     files: &mut F,
     out: &F::Out,
@@ -132,8 +133,7 @@ fn refusal_of<'w, F: FileSet<'w>>(
     None
 }
 
-/// Refuses names that must differ and stand for one file, and two names of inputs that stand for
-/// one stream.
+/// Fails if two names that must differ stand for one file, or two names of inputs for one stream.
 pub(crate) fn check_names<'w, F: FileSet<'w>>(
     alloc: Global,
     files: &mut F,
@@ -158,7 +158,7 @@ pub(crate) fn check_names<'w, F: FileSet<'w>>(
     )?)
 }
 
-/// Returns the meter, if progress is to be shown.
+/// Returns the meter if progress is to be shown, or `None`.
 pub(crate) fn meter_for<'m, M: Meter>(paths: &Paths<'_>, meter: &'m mut M) -> Option<&'m mut M> {
     match paths.progress {
         ProgressOption::Silent => None,
@@ -181,7 +181,7 @@ pub(crate) fn open_in<'w, F: FileSet<'w>>(
     Ok(files.open(alloc, name, missing, purpose)?)
 }
 
-/// Refuses an existing output, if it must be new.
+/// Fails if the output exists and must be new.
 pub(crate) fn check_new<'w, F: FileSet<'w>>(
     files: &mut F,
     paths: &Paths<'w>,
@@ -194,8 +194,8 @@ pub(crate) fn check_new<'w, F: FileSet<'w>>(
     }
 }
 
-/// Opens the output, unless it turns out to be an input or the file of `save`, or can't be the
-/// output for another reason.
+/// Opens the output. Fails if it is an input or the file of `save`, or can't be the output for
+/// another reason.
 pub(crate) fn create_out<'w, F: FileSet<'w>>(
     alloc: Global,
     files: &mut F,
@@ -218,8 +218,8 @@ pub(crate) fn create_out<'w, F: FileSet<'w>>(
     }
 }
 
-/// Prepares the file of `save`, if there is one, unless it turns out to be an input other than the
-/// file of the position.
+/// Prepares the file of `save`, if there is one. Fails if it is an input other than the file of the
+/// position.
 fn prepare_save<'w, F: FileSet<'w>>(
     alloc: Global,
     files: &mut F,
@@ -242,7 +242,8 @@ fn prepare_save<'w, F: FileSet<'w>>(
     }
 }
 
-/// Opens the input, and then what is to be written, unless that turns out to be an input.
+/// Opens the input, and then prepares the file of `save` and opens the output. Fails if one of
+/// these is an input.
 pub(crate) fn open_both<'w, F: FileSet<'w>>(
     alloc: Global,
     files: &mut F,
@@ -264,7 +265,7 @@ pub(crate) fn open_both<'w, F: FileSet<'w>>(
     Ok((source, out))
 }
 
-/// Ends the output of an engine that stopped: with what was written, or unchanged if nothing was.
+/// Closes the output of an engine that stopped: with what was written, or unchanged if nothing was.
 pub(crate) fn leave<'w, F: FileSet<'w>>(files: &mut F, out: F::Out, durability: Durability)
     ensures { LeavesOut (F.Out.view out) (IsLeft durability (F.Out.view out))
         (F.view files.old) (F.view files.new) }
@@ -278,8 +279,8 @@ pub(crate) fn leave<'w, F: FileSet<'w>>(files: &mut F, out: F::Out, durability: 
     }
 }
 
-/// How many bytes an output certainly holds, if a position is to be saved. If the engine ended,
-/// this is asked without a wait, so that the end of the output finds each failure.
+/// Returns how many bytes the output holds for certain, or 0 if no position is wanted. Waits for a
+/// sync only if the engine stopped, so that otherwise closing the output finds each failure.
 pub(crate) fn settle_end<'w, F: FileSet<'w>>(
     files: &mut F,
     out: &mut F::Out,
@@ -302,8 +303,8 @@ pub(crate) fn settle_end<'w, F: FileSet<'w>>(
     }
 }
 
-/// Ends the output once the engine has returned: complete, or as its stop leaves it. Returns why
-/// the command stops, if it does: the engine did, or the output couldn't be ended.
+/// Closes the output after the engine: complete, or as its stop leaves it. Returns the error of the
+/// engine, or of closing the output.
 fn end_out<'w, F: FileSet<'w>>(
     files: &mut F,
     out: F::Out,
@@ -321,8 +322,8 @@ fn end_out<'w, F: FileSet<'w>>(
     }
 }
 
-/// Ends the output. If the engine stopped, or the output couldn't be ended, what `conclude` does
-/// remains: the position isn't saved yet.
+/// Closes the output after the engine. If either failed, returns a stop, whose position `conclude`
+/// is to save.
 pub(crate) fn end_output<'w, F: FileSet<'w>>(
     files: &mut F,
     out: F::Out,

@@ -1,4 +1,4 @@
-//! The command that continues a decryption.
+//! The command `resume`, which continues a decryption.
 
 ghost use Rattle.std.specs.Prelude.{◌≡◌};
 ghost use Rattle.age_fileset.specs.{CameSince, HasGivenAll};
@@ -19,10 +19,10 @@ use age_io::Meter;
 use age_position::Position;
 use std::alloc::Global;
 
-/// A position's file has at most this many bytes.
+/// The greatest length of a position's file.
 const POSITION_FILE_MAX: usize = 256;
 
-/// The position in a file.
+/// Reads a position from a file.
 fn read_position<'w, F: FileSet<'w>>(
     alloc: Global,
     files: &mut F,
@@ -39,8 +39,8 @@ fn read_position<'w, F: FileSet<'w>>(
     }
 }
 
-/// If a position has no chunk before it, a missing earlier output counts as empty, since a run that
-/// stops before its first chunk makes none.
+/// Returns the treatment of a missing earlier output. It counts as empty if the position has no
+/// chunk before it, since a run that stops before its first chunk makes no output.
 fn missing_at(position: &Position) -> Missing
     ensures { result ≡ missing_at position.now }
 {
@@ -51,7 +51,7 @@ fn missing_at(position: &Position) -> Missing
     }
 }
 
-/// Returns what the earlier output is for: it is copied, which is shown if progress is.
+/// Returns the purpose of the earlier output: a copy that is shown, if progress is.
 fn copy_purpose(paths: &Paths<'_>) -> Purpose {
     match paths.progress {
         ProgressOption::Silent => Purpose::Input,
@@ -59,7 +59,7 @@ fn copy_purpose(paths: &Paths<'_>) -> Purpose {
     }
 }
 
-/// The position, and then the earlier output, opened.
+/// Reads the position, and then opens the earlier output.
 fn open_earlier<'w, F: FileSet<'w>>(
     alloc: Global,
     files: &mut F,
@@ -81,8 +81,8 @@ fn open_earlier<'w, F: FileSet<'w>>(
     })
 }
 
-/// Continues a decryption as asked. If it isn't done, `conclude` reports why, and saves the position
-/// of a stop.
+/// Runs the command `resume`. If it isn't done, pass the result to [`conclude`](crate::conclude),
+/// which reports why and saves the position of a stop.
 pub fn resume_file<'w, F: FileSet<'w>, P: Meter>(
     alloc: Global,
     files: &mut F,

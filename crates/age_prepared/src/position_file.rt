@@ -17,21 +17,21 @@ use std::rt::HostRuntime;
 /// The bit of a folder's mode by which only the owners of files may rename or remove them.
 const STICKY: u32 = 0o1000;
 
-/// Where the name of a position's file leads. Nothing is made or changed yet.
+/// The target of a position's name. Nothing is made or changed yet.
 #[derive(Drop)]
 pub struct Location<'w> {
     name: &'w str,
-    // Its path, at the end of all links, and that of the temporary file beside it.
+    // The path at the end of all links, and that of the temporary file beside it.
     path: PathBuf,
     beside: String,
-    // The file that is there.
+    // The file that is at the path.
     found: Option<File>,
     id: Option<FileId>,
 }
 
 impl<'w> Location<'w> {
-    /// Finds out where a name leads. Fails unless that is a regular file that can be written, or
-    /// nothing, in a folder.
+    /// Follows a name's links to the file of a position. Fails unless they lead to a regular file
+    /// that can be written, or to nothing in an existing folder.
     pub fn of(alloc: Global, rt: &HostRuntime, name: &'w str) -> io::Result<Location<'w>> {
         let Resolved::Path(path) = resolve(alloc, rt, name)? else {
             return Err(no_regular_file());
@@ -52,17 +52,17 @@ impl<'w> Location<'w> {
         })
     }
 
-    /// The name.
+    /// Returns the name of the position's file, as it was given.
     pub fn name(&self) -> &'w str {
         self.name
     }
 
-    /// Which file is there; `None` if none is.
+    /// Returns the identity of the position's file, or `None` if none exists.
     pub fn id(&self) -> Option<FileId> {
         self.id
     }
 
-    /// Whether a file is there that isn't empty.
+    /// Returns whether the position's file exists and isn't empty.
     pub fn holds_bytes(&self) -> io::Result<bool> {
         match &self.found {
             Some(file) => Ok(file.metadata()?.len() > 0),
@@ -70,13 +70,15 @@ impl<'w> Location<'w> {
         }
     }
 
-    /// Which file is where the temporary one is to be; `None` if none is.
+    /// Returns the identity of the file at the path of the temporary file, or `None` if none is
+    /// there.
     pub fn beside_id(&self, rt: &HostRuntime) -> Option<FileId> {
         FileId::at(rt, self.beside.as_str())
     }
 
-    /// Takes the file that is there for this run alone, and makes the temporary file beside it. Fails
-    /// if another run has one of them, or if it can be seen that a rename would be refused.
+    /// Locks the position's file for this run, if one exists, and makes the temporary file beside
+    /// it. Fails if another run has locked one of them, or if it can be seen that a rename would be
+    /// refused.
     pub fn prepare(
         self,
         alloc: Global,
@@ -103,14 +105,14 @@ impl<'w> Location<'w> {
     }
 }
 
-/// The error for what can't be replaced by a rename.
+/// Returns the error for what can't be replaced by a rename.
 fn no_regular_file() -> io::Error {
     io::Error::other("it is no regular file; name a file in a folder of your own")
 }
 
-/// Opens the regular file to which a name and its path lead; `None` if they lead to nothing, and a
-/// file can be made there. It is opened for reading too, so that opening doesn't wait for the reader
-/// of a pipe that has come to its place.
+/// Opens the regular file to which a name and its path lead, or returns `None` if they lead to
+/// nothing and a file can be made there. Opens it for reading too, so that opening doesn't block on
+/// a pipe that has come to its place.
 fn open_regular(rt: &HostRuntime, name: &str, path: &str) -> io::Result<Option<File>> {
     match (led_to(rt, name)?, found_at(rt, path)?) {
         (None, None) => {
@@ -124,8 +126,8 @@ fn open_regular(rt: &HostRuntime, name: &str, path: &str) -> io::Result<Option<F
     }
 }
 
-/// Takes a file for this run alone. Fails if another run has it, or put a file of its own in its
-/// place before it was locked: this lock wouldn't hold that one.
+/// Locks a file for this run. Fails if another run has the lock, or has put a file of its own in
+/// its place before this lock, which wouldn't cover that one.
 fn claim(rt: &HostRuntime, file: &File, path: &str) -> io::Result<()> {
     lock(file)?;
     if file.metadata()?.is_file() && is_at(rt, file, path) {
@@ -135,8 +137,8 @@ fn claim(rt: &HostRuntime, file: &File, path: &str) -> io::Result<()> {
     }
 }
 
-/// Fails if it can be seen that a temporary file can't be renamed over a file: that is a mount point,
-/// or another user's in a folder where only the owners of files may rename them.
+/// Fails if it can be seen that a temporary file can't be renamed over a file: that is a mount
+/// point, or another user's in a folder where only the owners of files may rename them.
 fn check_replaceable(rt: &HostRuntime, file: &File, temp: &File, path: &str) -> io::Result<()> {
     let (found, own) = (file.metadata()?, temp.metadata()?);
     if found.dev() != own.dev() {
@@ -152,8 +154,8 @@ fn check_replaceable(rt: &HostRuntime, file: &File, temp: &File, path: &str) -> 
     Ok(())
 }
 
-/// The file of a position, with a temporary file beside it that is to take its place. No other run
-/// has them as long as this is kept.
+/// The file of a position, with a temporary file beside it that is to be renamed over it. Both are
+/// locked for this run as long as this exists.
 #[derive(Drop)]
 pub struct PositionFile<'w> {
     rt: HostRuntime,
@@ -163,17 +165,17 @@ pub struct PositionFile<'w> {
 }
 
 impl<'w> PositionFile<'w> {
-    /// The name under which it was prepared.
+    /// Returns the name under which the position's file was prepared.
     pub fn name(&self) -> &'w str {
         self.location.name
     }
 
-    /// Whether this is the file that was found, or the temporary one.
+    /// Returns whether `id` is the position's file as it was found, or the temporary one.
     pub fn is(&self, id: Option<FileId>) -> bool {
         id.is_some() && (self.location.id == id || self.temp_id() == id)
     }
 
-    /// Which file the temporary one is; `None` if the system can't look at it.
+    /// Returns the identity of the temporary file, or `None` if its stat fails.
     pub fn temp_id(&self) -> Option<FileId> {
         match self.temp.file().metadata() {
             Ok(found) => FileId::of(&found),
@@ -181,7 +183,8 @@ impl<'w> PositionFile<'w> {
         }
     }
 
-    /// Whether its path is this one, since both have the same name and folder.
+    /// Returns whether `path` is the path of the position's file: both have the same file name and
+    /// lead into the same folder.
     pub fn is_at(&self, path: &str) -> io::Result<bool> {
         if self.location.path.file_name() != Path::new(path).file_name() {
             return Ok(false);
@@ -193,9 +196,9 @@ impl<'w> PositionFile<'w> {
         }
     }
 
-    /// Replaces the file by one of these bytes, and waits until that has reached the disk, if it is to
-    /// be there. The file stays unchanged until the new one is complete, and if this fails before the
-    /// rename. Fails if another file has come meanwhile, or its path leads into another folder.
+    /// Replaces the file by one of these bytes, and syncs it if `durability` asks for that. The
+    /// file stays unchanged until the new one is complete, and if this fails before the rename.
+    /// Fails if another file has come meanwhile, or if the path leads into another folder now.
     pub fn save(&self, alloc: Global, bytes: &[u8], durability: Durability) -> io::Result<()> {
         self.check_folder()?;
         if self.temp.is_there() {
@@ -206,7 +209,7 @@ impl<'w> PositionFile<'w> {
         self.put(&again, bytes, durability)
     }
 
-    /// Fills a temporary file, and puts it in the file's place.
+    /// Writes a temporary file, and renames it over the file.
     fn put(&self, temp: &TempFile, bytes: &[u8], durability: Durability) -> io::Result<()> {
         let path = self.location.path.as_str();
         temp.fill(bytes, durability)?;
@@ -222,7 +225,7 @@ impl<'w> PositionFile<'w> {
         Ok(())
     }
 
-    /// Fails if its path no longer leads into the same folder.
+    /// Fails if the file's path no longer leads into the same folder.
     fn check_folder(&self) -> io::Result<()> {
         let now = Folder::of(&self.rt, self.location.path.as_str());
         check_same(Some(&self.folder), now.map(Some))

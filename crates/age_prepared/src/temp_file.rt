@@ -1,4 +1,4 @@
-//! A temporary file, which is to take the place of the file beside it.
+//! A temporary file, which is renamed over the file beside it.
 
 use age_machine::{above_streams, calls, close_copy, kept_above, lock, sync, write_at};
 use age_names::{found_at, is_at};
@@ -9,15 +9,15 @@ use std::io;
 use std::os::unix::fs::{FileExt, MetadataExt};
 use std::rt::HostRuntime;
 
-/// The mode of a position. Only its owner may use it, since it holds digests of the plaintext, against
-/// which guesses can be tried.
+/// The mode of a position. Only its owner may use it, since it holds digests of the plaintext,
+/// against which guesses can be tried.
 const MODE: u32 = 0o600;
 
-/// What the file holds until it is written: at least as many bytes as the longest position has, so
+/// The first contents of a temporary file: at least as many bytes as the longest position has, so
 /// that a full disk can't refuse these.
 const BLANKS: [u8; 256] = [b' '; 256];
 
-/// A temporary file. It is removed in the end, unless it was renamed.
+/// A temporary file. It is removed when it is dropped, unless it was renamed.
 pub(crate) struct TempFile {
     rt: HostRuntime,
     path: String,
@@ -34,9 +34,9 @@ impl Drop for TempFile {
 }
 
 impl TempFile {
-    /// Makes the file at a path where nothing is, or takes over the one that a killed run left there.
-    /// It holds blanks then, and only its owner may use it. Fails if anything else is there, or another
-    /// run has it.
+    /// Makes the temporary file at a path where nothing is, or takes over the one that a killed run
+    /// left there. The file holds blanks then, is locked, and only its owner may use it. Fails if
+    /// anything else is there, or if another run has locked it.
     pub(crate) fn make(
         alloc: Global,
         rt: &HostRuntime,
@@ -64,8 +64,8 @@ impl TempFile {
         }
     }
 
-    /// Makes these bytes what the file holds, and waits until they have reached the disk, if they are
-    /// to be there. The system answers as if the file was closed.
+    /// Replaces the file's contents by these bytes, and syncs it if `durability` asks for that.
+    /// Closes a second descriptor too, so that the file system reports failed writes.
     pub(crate) fn fill(&self, bytes: &[u8], durability: Durability) -> io::Result<()> {
         write_all(&self.rt, &self.file, bytes)?;
         calls::cut(&self.file, bytes.len() as u64)?;
@@ -80,8 +80,8 @@ impl TempFile {
         calls::rename(&self.rt, self.path.as_str(), path)
     }
 
-    /// Renames the file to a path where nothing is. A second name for it (a hard link) never takes a
-    /// file's place. If the file system has no hard links, this looks first.
+    /// Renames the file to a path where nothing is, by a hard link, which never takes a file's
+    /// place. On a file system without hard links, looks whether the path is free and then renames.
     pub(crate) fn publish(&self, path: &str) -> io::Result<()> {
         if calls::link(&self.rt, self.path.as_str(), path).is_ok() {
             return calls::remove(&self.rt, self.path.as_str());
@@ -92,28 +92,29 @@ impl TempFile {
         }
     }
 
-    /// Whether the file is still at its path.
+    /// Returns whether the file is still at its path.
     pub(crate) fn is_there(&self) -> bool {
         is_at(&self.rt, &self.file, self.path.as_str())
     }
 
-    /// The file itself.
+    /// Returns the open file.
     pub(crate) fn file(&self) -> &File {
         &self.file
     }
 }
 
-/// The error for a file that appeared where another was, or none. Another run may have saved it.
+/// Returns the error for a file that appeared where another was, or none. Another run may have
+/// saved it.
 pub(crate) fn came_meanwhile() -> io::Error {
     io::Error::other("another program made it meanwhile")
 }
 
-/// The error for what isn't known to be a file that a killed run left.
+/// Returns the error for what isn't known to be a file that a killed run left.
 fn in_the_way() -> io::Error {
     io::Error::other("the .new file beside it exists; remove or rename it")
 }
 
-/// Writes all of these bytes over what a file holds.
+/// Writes all of these bytes, from the beginning of a file.
 fn write_all(rt: &HostRuntime, file: &File, bytes: &[u8]) -> io::Result<()> {
     let mut at = 0;
     'parts: while at < bytes.len() {
@@ -123,8 +124,8 @@ fn write_all(rt: &HostRuntime, file: &File, bytes: &[u8]) -> io::Result<()> {
     Ok(())
 }
 
-/// Opens the file that a killed run left at a path, and takes it for this run alone. A run locks it
-/// before it is full, so one that is full and that nobody has locked is no other run's.
+/// Opens the temporary file that a killed run left at a path, and locks it. A run locks it before
+/// it is full, so one that is full and that nobody has locked is no other run's.
 fn take_left(rt: &HostRuntime, path: &str) -> io::Result<File> {
     match found_at(rt, path)? {
         Some(found) if may_be_left(rt, &found) => {}
@@ -142,14 +143,14 @@ fn take_left(rt: &HostRuntime, path: &str) -> io::Result<File> {
     }
 }
 
-/// Whether a killed run may have left a file, by what the system shows: a regular file of this user,
+/// Returns whether a killed run may have left a file, by its metadata: a regular file of this user,
 /// as long as the blanks, with one name.
 fn may_be_left(rt: &HostRuntime, found: &Metadata) -> bool {
     let is_own = matches!(fs::metadata(rt, "/proc/self"), Ok(own) if own.uid() == found.uid());
     is_own && found.is_file() && found.nlink() == 1 && found.len() == BLANKS.len() as u64
 }
 
-/// Whether a file begins with the blanks.
+/// Returns whether a file begins with the blanks.
 fn holds_blanks(file: &File) -> io::Result<bool> {
     let mut held = [0; 256];
     let n = file.read_at(&mut held, 0)?;

@@ -1,6 +1,8 @@
-//! Reads and writes age files: passes its arguments, the machine's files and its standard streams
-//! to `age_cli::run_words`, says what people should know of how that ended, and exits with its
-//! status. It answers `help N` and `help NAME`, about a fault, itself.
+//! The program `age_tool`, which reads and writes age files.
+//!
+//! It passes its arguments, the files of the system and its standard streams to
+//! [`age_cli::run_words`], prints what people should know of the result, and exits with its status.
+//! It answers `help N` and `help NAME`, about a fault, itself.
 #![tactic(auto)]
 
 use age_cli::{RunError, read_words, run_words, status};
@@ -16,12 +18,12 @@ use std::alloc::Global;
 use std::io::{self, Eprint, IsTerminal};
 use std::process::ExitCode;
 
-/// The words of the command line. Fails if memory runs out, or if some word isn't UTF-8.
+/// Returns the arguments of the program. Fails if memory runs out, or if one of them isn't UTF-8.
 fn args_of(rt: &HostRuntime) -> io::Result<Vec<String>> {
     Ok(std::env::args(rt)?.collect(rt.alloc())?)
 }
 
-/// The words after the program's name.
+/// Returns the arguments after the program's name.
 fn words_of<'a>(alloc: Global, args: &'a [String]) -> io::Result<Vec<&'a str>> {
     let mut words = Vec::new(alloc);
     for arg in args.iter().skip(1) {
@@ -30,13 +32,13 @@ fn words_of<'a>(alloc: Global, args: &'a [String]) -> io::Result<Vec<&'a str>> {
     Ok(words)
 }
 
-/// Reports that memory ran out.
+/// Reports that memory ran out, and returns status 1.
 fn out_of_memory(rt: &HostRuntime) -> ExitCode {
     let _ = eprintln!(rt; "age_tool: 28 Memory");
     ExitCode::from(1)
 }
 
-/// Reports that the command line can't be read.
+/// Reports that the command line can't be read, and returns the status.
 fn unread(rt: &HostRuntime, error: &io::Error) -> ExitCode {
     if error.kind() == io::ErrorKind::OutOfMemory {
         return out_of_memory(rt);
@@ -46,7 +48,7 @@ fn unread(rt: &HostRuntime, error: &io::Error) -> ExitCode {
     ExitCode::from(2)
 }
 
-/// Progress is shown on one line of a terminal, and in a few lines of a log.
+/// Returns the style of progress: one line of a terminal, or a few lines of a log.
 fn progress_style(rt: &HostRuntime) -> LineStyle {
     if rt.stderr().is_terminal() {
         LineStyle::Rewritten
@@ -55,7 +57,7 @@ fn progress_style(rt: &HostRuntime) -> LineStyle {
     }
 }
 
-/// Prints what a fault means.
+/// Prints what a fault means, and returns the status.
 fn print_row(rt: &HostRuntime, row: &str) -> ExitCode {
     match println!(rt; "{row}") {
         Ok(()) => ExitCode::SUCCESS,
@@ -66,7 +68,7 @@ fn print_row(rt: &HostRuntime, row: &str) -> ExitCode {
     }
 }
 
-/// What the words ask for, if they ask for it; of other words nothing is done with files.
+/// Returns the request of the arguments. If they make none, returns one that names no file.
 fn asked_by<'w>(read: &Result<Option<Request<'w>>, Error>) -> Request<'w> {
     match read {
         Ok(Some(asked)) => *asked,
@@ -74,7 +76,7 @@ fn asked_by<'w>(read: &Result<Option<Request<'w>>, Error>) -> Request<'w> {
     }
 }
 
-/// Says why the parser of command lines refuses the words.
+/// Reports why the parser of command lines refuses the words, and returns the status.
 fn refuse(rt: &HostRuntime, words: &[&str], error: &Error) -> ExitCode {
     match explain_refusal(rt, words, error) {
         Ok(()) => ExitCode::from(2),
@@ -82,8 +84,8 @@ fn refuse(rt: &HostRuntime, words: &[&str], error: &Error) -> ExitCode {
     }
 }
 
-/// Does what the words after the program's name ask for, over the machine's files and the standard
-/// streams, and says what people should know of how it ended.
+/// Runs the command that the words ask for, over the files of the system and the standard streams,
+/// prints what people should know of the result, and returns the status.
 fn obey<'w>(rt: &HostRuntime, words: &'w [&'w str]) -> ExitCode {
     if words.is_empty() {
         announce_reading(rt);
@@ -121,6 +123,7 @@ fn obey<'w>(rt: &HostRuntime, words: &'w [&'w str]) -> ExitCode {
     ExitCode::from(status(&ended))
 }
 
+/// Runs the program, and returns its exit status.
 fn main(rt: HostRuntime) -> ExitCode {
     let args = match args_of(&rt) {
         Ok(args) => args,
