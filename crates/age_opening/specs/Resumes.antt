@@ -30,8 +30,8 @@ pub record BeginsWith (p : Position) (old_coming : Supply) (text : List ℕ) : T
   pub within : p.index * chunk_length ≤ length text
   pub begins : IsPrefixOf (take (p.index * chunk_length) text) all
 
--- the position has the hash chain over the first chunks of a plaintext, and other bytes than these
--- have another hash chain
+-- the position has the hash chain over the first chunks of a plaintext, and the bytes that were
+-- copied have another hash chain if they are other bytes
 pub record IsBoundTo (p : Position) (copied text : List ℕ) : Type 0 where
   pub carries : CarriesText text p
   pub distinct : chain_over p.index copied ≡ chain_over p.index text

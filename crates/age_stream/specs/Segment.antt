@@ -74,7 +74,7 @@ is_cut b = nat_lt (length b.block) tag_length
 abbrev pub is_empty_last : Frontier → Bool
 is_empty_last b = not b.whole && (length b.block == tag_length && nat_lt 0 b.index)
 
--- the next block is tried as the last: none of these cases applies
+-- the next block is tried as the last: it is complete or ended, not cut, and no empty last chunk
 abbrev pub is_tried : Frontier → Bool
 is_tried b = not (is_waiting b || (is_cut b || is_empty_last b))
 
