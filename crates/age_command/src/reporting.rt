@@ -1,7 +1,6 @@
 //! Reports why a command isn't done.
 
-ghost use Rattle.std.specs.Prelude.{true};
-ghost use Rattle.age_io.specs.{holds};
+ghost use Rattle.std.specs.Prelude.{Some, [], true};
 
 use crate::ending::{Ending, Usage};
 use crate::put::put_bytes;
@@ -29,7 +28,7 @@ impl FaultLine {
 
 impl Sink for FaultLine {
     ghost view = { λ line. record {
-      taken = holds line.bytes.items;
+      taken = record { bytes = line.bytes.items; contents = Some line.bytes.items; label = [] };
       failed = line.failures.count;
       failing = line.failures.last;
       flushed = true;
