@@ -33,7 +33,7 @@ use Rattle.age_outputs.specs.Commands.{MakesSecret}
 use Rattle.age_outputs.specs.Done.{CameFirst, paths_of, OutHolds, LeavesFor}
 use Rattle.age_outputs.specs.Left.{Left, SavesOf, save_of, Spares}
 use Rattle.age_cli.proofs.RunLemmas.{failed_by}
-use Rattle.age_cli_memory.proofs.WordLemmas.{differs, not_help, rows_of, same_identity, same_names, same_text}
+use Rattle.age_cli.proofs.WordLemmas.{differs, not_help, rows_of, same_identity, same_names, same_text}
 use Rattle.age_cli_memory.specs.{FileBegins, FileHolds, ReportsEntry}
 use Rattle.age_cli.specs.{PrintsReport, Reports, ReportsFor}
 use Rattle.age_cli.specs.{World, PutsFor, status_by}

@@ -15,8 +15,7 @@ use Rattle.age_cli_args.specs.declared.request.Request.TheVariants.{Inspect, Enc
 use Rattle.age_command.specs.{MakesBy}
 use Rattle.age_command.specs.declared.identity.Identity.{Identity}
 use Rattle.age_outputs.specs.Left.{save_of}
-use Rattle.age_cli.specs.{IsMadeBy}
-use Rattle.age_cli_memory.specs.{out_of}
+use Rattle.age_cli.specs.{IsMadeBy, out_of}
 
 -- what the words ask for is asked for by their one command, with its arguments
 same_rows : (words : List Text) (asked : Request) (name : Text) (rows : List Row) → Asks words name rows → Requests words asked
