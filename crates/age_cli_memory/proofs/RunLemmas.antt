@@ -33,14 +33,36 @@ use Rattle.age_outputs.specs.Commands.{MakesSecret}
 use Rattle.age_outputs.specs.Done.{CameFirst, paths_of, OutHolds, LeavesFor}
 use Rattle.age_outputs.specs.Left.{Left, SavesOf, save_of, Spares}
 use Rattle.age_cli.proofs.RunLemmas.{failed_by}
-use Rattle.age_cli.proofs.WordLemmas.{differs, not_help, rows_of, same_identity, same_names, same_text}
+use Rattle.age_cli.proofs.WordLemmas.{differs, not_help, rows_of, same_text}
 use Rattle.age_cli_memory.specs.{FileBegins, FileHolds, ReportsEntry}
 use Rattle.age_cli.specs.{PrintsReport, Reports, ReportsFor}
 use Rattle.age_cli.specs.{World, PutsFor, status_by}
 use Rattle.age_cli_memory.specs.{out_of}
+use Rattle.age_cli_args.specs.{IsIdentityOptions}
+use Rattle.age_cli_args.specs.declared.request.IdentityOptions.{IdentityOptions}
+use Rattle.age_command.specs.{MakesBy}
+use Rattle.age_command.specs.declared.identity.Identity.{Identity}
 use Rattle.age_cli.specs.Runs.{Prints, Runs, WritesNone}
 use Rattle.age_cli.specs.declared.error.RunError.{RunError}
 use Rattle.age_cli.specs.declared.error.RunError.TheVariants as run
+
+-- ---- What two requests of the same words have in common.
+
+same_identity : (GaveAll : Text → List ℕ → Type 0) (rows : List Row) (u v : IdentityOptions) → IsIdentityOptions rows u → IsIdentityOptions rows v
+    → (identity : Identity) → MakesBy GaveAll u identity → MakesBy GaveAll v identity
+same_identity GaveAll rows u v a b identity makes =
+    rw (b.pass ∙ sym a.pass, b.file_key ∙ sym a.file_key, b.shared ∙ sym a.shared, one_number 22 _ v.max_log u.max_log b.max_log a.max_log) makes
+
+-- OUT and the file of `--save` are those of the rows
+same_names : (name : Text) (rows : List Row) (a b : Request) → IsRequest name rows a → IsRequest name rows b
+    → (out_of a ≡ out_of b) × (save_of a ≡ save_of b)
+same_names name rows (Encrypt a) (Encrypt b) x y = (x.1.paths.to ∙ sym y.1.paths.to, refl)
+same_names name rows (Decrypt a) (Decrypt b) x y = (x.1.paths.to ∙ sym y.1.paths.to, x.1.save ∙ sym y.1.save)
+same_names name rows (Resume a) (Resume b) x y =
+    (x.1.decrypting.paths.to ∙ sym y.1.decrypting.paths.to, x.1.decrypting.save ∙ sym y.1.decrypting.save)
+same_names name rows (Inspect a) (Inspect b) x y = (refl, refl)
+same_names name rows (Drill a) (Drill b) x y = (refl, refl)
+same_names name rows a b x y = absurd (differs _ _ name x.0 y.0 refl refl)
 
 -- ---- What a command leaves, said of other files or of another request of the same words.
 
