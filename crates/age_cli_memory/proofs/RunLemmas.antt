@@ -10,7 +10,7 @@ use Rattle.age_position.specs.{position_text}
 use Rattle.age_position.specs.declared.position.Position.{Position}
 use Rattle.age_sealing.specs.{SecretView}
 use Rattle.age_inspection.specs.{IsReport}
-use Rattle.age_cli_memory.proofs.{AreOthers, others_then, same_since, put_since, found_was, gave_all_was}
+use Rattle.age_cli_memory.proofs.ShelfLemmas.{AreOthers, others_then, same_since, put_since, found_was, gave_all_was}
 use Rattle.age_fileset.proofs.{all_as, grows_by}
 use Rattle.age_cli_memory.specs.{Files, entry_of}
 use Rattle.age_fileset.specs.{Entry, entry, Outcome, Found, PutsOnly, CameSince, HasGiven}

@@ -3,7 +3,7 @@ use Rattle.std.specs.Borrow.{Bor}
 use Rattle.std.specs.Prelude.{◌≡◌, ℕ, List, ◌++◌, Option, Some, option_map, Result}
 use Rattle.clap.specs.Words.{Text}
 use Rattle.age_inspection.specs.{IsReport}
-use Rattle.age_cli_memory.specs.{Files, Shelf, entry_of, seen_in}
+use Rattle.age_cli_memory.specs.InMemory.{Files, Shelf, entry_of, seen_in}
 use Rattle.age_cli_args.specs.Requests.{Requests}
 use Rattle.age_cli_args.specs.declared.request.Request.{Request}
 use Rattle.age_cli_args.specs.declared.request.Request.TheVariants.{Inspect}
