@@ -1,5 +1,5 @@
 """The longest chain of proofs of the program, each of which waits for the one before it, and a plan of all of them on some processors:
-no build is shorter than either. The seconds of a crate are those of CONTRIBUTING's table, and what it waits for is in crates.txt.
+no build is shorter than either. The seconds of a crate are those of bench/proof-seconds.txt, and what it waits for is in crates.txt.
 
 usage: python3 -m tools.chain [PROCESSORS]     (4, if left out)
 """
@@ -10,14 +10,14 @@ import sys
 from tools.workspace import TOP, crates, uses, with_used
 
 PROGRAM = "age_tool"
-ROW = re.compile(r"^\| `(\w+)` \| ([\d,]+) s \|", re.M)
+SECONDS = TOP / "bench" / "proof-seconds.txt"
+ROW = re.compile(r"^(\w+) (\d+)$", re.M)
 
 
 @functools.cache
 def seconds():
-    """How long the proof of each crate of the table takes, by its name."""
-    table = (TOP / "CONTRIBUTING.md").read_text()
-    return {crate: int(number.replace(",", "")) for crate, number in ROW.findall(table)}
+    """How long the proof of each crate takes, by its name."""
+    return {crate: int(number) for crate, number in ROW.findall(SECONDS.read_text())}
 
 
 def length(chain):
@@ -55,7 +55,7 @@ def plan(processors):
 
 def main(processors=4):
     if missing := [it for it in crates() if it not in seconds()]:
-        sys.exit(f"CONTRIBUTING.md has no seconds of {', '.join(missing)}")
+        sys.exit(f"bench/proof-seconds.txt has no seconds of {', '.join(missing)}")
     needed, chain = with_used(PROGRAM), chain_to(PROGRAM)
     print(f"longest chain: {length(chain):,} s: {' > '.join(f'{it} {seconds()[it]}' for it in chain)}")
     planned = plan(int(processors))
