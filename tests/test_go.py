@@ -93,7 +93,7 @@ class GoTest(ModulesCase):
         """The module's path is go.mod's: nothing spells another one."""
         own = go_module()
         spelled = re.compile(r"[\w.]+\.\w+/agefile\b(?!-)")
-        for file in [*MODULE.rglob("*.go"), *MODULE.rglob("go.mod"), MODULE / "README.md", TOP / "bindings" / "README.md"]:
+        for file in [*MODULE.rglob("*.go"), *MODULE.rglob("go.mod"), MODULE / "README.md"]:
             others = {it for it in spelled.findall(file.read_text()) if it != own}
             self.see(f"{file.name} names {own} alone", not others, others)
 

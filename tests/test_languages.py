@@ -1,5 +1,5 @@
-"""Builds the Rust crates and the programs in bindings/README.md, runs their tests, and compares what their programs say of files with what
-age_tool says."""
+"""Builds the Rust crates and the first program on the page of each language, runs their tests, and compares what their programs say of files
+with what age_tool says."""
 import os
 import pathlib
 import re
@@ -13,7 +13,7 @@ from tests.test_bindings import MEANINGS, STRICT, ProgramsCase
 from tools.workspace import LIBRARY, TOP
 
 
-def sample_of(language, number=1, page="bindings/README.md"):
+def sample_of(language, number=1, page="bindings/c/README.md"):
     """A program in a page."""
     return (TOP / page).read_text().split(f"```{language}\n")[number].split("\n```")[0] + "\n"
 
@@ -55,7 +55,7 @@ class ModulesCase(ProgramsCase):
         self.see_streams_that_fail(what, program)
 
     def see_sample(self, what, words, last):
-        """The program in bindings/README.md, over a file that age made: the text and the last bytes of it, as the language writes them."""
+        """The first program of a page, over a file that age made: the text and the last bytes of it, as the language writes them."""
         shutil.copy(TOP / "bindings" / "tests" / "age" / "passphrase.age", self.path("notes.age"))
         env = {**os.environ, "PYTHONPATH": str(PYTHON), "PYTHONDONTWRITEBYTECODE": "1"}
         run = subprocess.run(words, cwd=self.room, env=env, capture_output=True)
@@ -82,7 +82,7 @@ class LanguagesTest(ModulesCase):
 
     @needs("cc")
     def test_c(self):
-        """The C program in bindings/README.md, which reads a text from standard input."""
+        """The program in bindings/c/README.md, which reads a text from standard input."""
         self.path("sample.c").write_text(sample_of("c"))
         comma = ["-Wcomma"] if shutil.which("clang") else []
         words = ["clang" if comma else "cc", *STRICT, *comma, "-o", self.path("sample-c"), self.path("sample.c"), LIBRARY / "libagefile.a"]

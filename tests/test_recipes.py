@@ -10,7 +10,7 @@ import subprocess
 import sys
 import time
 
-from tests.agefile_program import release
+from tests.agefile_program import at_terminal, release
 from tests.case import SECONDS, Case, needs
 from tools import terminal
 from tools.workspace import LIBRARY, TOP
@@ -164,19 +164,18 @@ class RecipesTest(PageCase):
         self.assertEqual(run.returncode, 0, run.stdout)
 
     def test_readme(self):
-        """README's commands, as they are pasted in the top folder; and again, where each file that they make is there: it is left alone."""
-        page = (TOP / "README.md").read_text()
-        shutil.copy(TOP / "README.md", self.path("work"))
-        self.path("work/age_tool").symlink_to(self.program)
-        sections = [it for it in page.split("\n## ") if it.startswith("Try it")]
-        commands = [line for it in sections for line in it.splitlines() if line.startswith("    ")]
-        run = self.run_script("\n".join(commands))
-        self.assertEqual(run.returncode, 0, run.stdout)
-        self.assertIn("age_tool: 17 ChunkDamaged chunk 3", run.stdout.splitlines())
-        for it in ("passphrase.txt", "notes.txt", "notes.txt.age", "notes.copy", "big", "big.age", "cut.age", "part"):
-            self.write(f"work/{it}", b"another's")
-        self.run_script("\n".join(["set +e", *commands]))
-        self.see("no file is overwritten", all(it.read_bytes() == b"another's" for it in self.path("work").iterdir() if it.name not in ("age_tool", "README.md")))
+        """README's commands, with the passphrase typed: the last one finds that its file was truncated. They write into a new folder alone."""
+        [section] = [it for it in (TOP / "README.md").read_text().split("\n## ") if it.startswith("Try it")]
+        commands = [it for it in section.splitlines() if it.startswith("    ")]
+        said = "".join(f"{it.removeprefix('    # ')}\n" for it in commands if it.startswith("    # "))
+        [typed] = re.findall(r"type `([^`]+)`", section)
+        env = {**self.env, "TMPDIR": str(self.path("work"))}
+        run = at_terminal(["bash", "-euo", "pipefail", "-c", "\n".join(commands)], [typed.encode() + b"\n"] * 4, cwd=self.path("bin"), env=env)
+        self.assertEqual((run.returncode, run.stderr.decode()), (1, said), run.shown)
+        [made] = self.path("work").iterdir()
+        text = (made / "notes.txt").read_bytes()
+        self.assertEqual(((made / "restored.txt").read_bytes(), (made / "part.txt").read_bytes()), (text, text[: 3 * 65_536]))
+        self.see("only its owner can read the passphrase", (made / "passphrase.txt").stat().st_mode & 0o777 == 0o600)
 
     def test_format(self):
         """The file in hexadecimal."""

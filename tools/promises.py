@@ -5,20 +5,24 @@ import re
 from tools.workspace import CRATES, TOP
 
 PAGE = TOP / "checks" / "promises"
-# A promise, its crate, module and function, its clause, definition and edit, and the test that shows it.
-Promise = collections.namedtuple("Promise", "promise crate module name clause definition edit test")
+# A promise, its crate, module and function, its clause, definition and edit, the test that shows it, and the heading above it.
+Promise = collections.namedtuple("Promise", "promise crate module name clause definition edit test subject")
 
 
 def rows():
-    return [it for it in PAGE.read_text().splitlines() if it and not it.startswith("#")]
+    return [it for it in PAGE.read_text().splitlines() if it and not it.startswith("# ")]
 
 
 def promises():
-    for row in (it for it in rows() if " | " in it):
+    subject = ""
+    for row in rows():
+        subject = row[3:] if row.startswith("## ") else subject
+        if " | " not in row:
+            continue
         promise, function, *rest = row.split(" | ")
         crate, _, path = function.partition(" ")
         module, _, name = path.rpartition("::")
-        yield Promise(promise, crate, module, name, *rest)
+        yield Promise(promise, crate, module, name, *rest, subject)
 
 
 def core():
