@@ -35,14 +35,13 @@ use Rattle.age_outputs.specs.Left.{Left, SavesOf, save_of, Spares}
 use Rattle.age_cli.proofs.RunLemmas.{failed_by}
 use Rattle.age_cli.proofs.WordLemmas.{differs, not_help, rows_of, same_text}
 use Rattle.age_cli_memory.specs.{FileBegins, FileHolds, ReportsEntry}
-use Rattle.age_cli.specs.{PrintsReport, Reports, ReportsFor}
-use Rattle.age_cli.specs.{World, PutsFor, status_by}
+use Rattle.age_cli.specs.Printing.{PrintsReport}
 use Rattle.age_cli_memory.specs.{out_of}
 use Rattle.age_cli_args.specs.{IsIdentityOptions}
 use Rattle.age_cli_args.specs.declared.request.IdentityOptions.{IdentityOptions}
 use Rattle.age_command.specs.{MakesBy}
 use Rattle.age_command.specs.declared.identity.Identity.{Identity}
-use Rattle.age_cli.specs.Runs.{Prints, Runs, WritesNone}
+use Rattle.age_cli.specs.Runs.{Prints, PutsFor, Reports, ReportsFor, Runs, World, WritesNone, status_by}
 use Rattle.age_cli.specs.declared.error.RunError.{RunError}
 use Rattle.age_cli.specs.declared.error.RunError.TheVariants as run
 
