@@ -31,7 +31,7 @@ def twice(one, other):
     return f"age_tool: same file named twice\nage_tool: {one} and {other} are the same file\n".encode()
 
 
-# The lines that are advice for people: they may change, and have tests of their own (tests/test_program.py).
+# The lines that are advice for people: they may change, and have tests of their own (tests/program/test_program.py).
 ADVICE = re.compile(
     rb"age_tool: (?:.* \(age_tool help \d+\)$|position saved in |resume reads only |no position was saved|- is a file |--max-log does nothing "
     rb"|to save the position elsewhere: |the passphrase in |work factor |OUT was moved: |none of them was given|only one of them )"

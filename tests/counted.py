@@ -74,7 +74,8 @@ def may_lack(reason):
 def main():
     for name in (it for it in dir(unittest.TestCase) if it.startswith("assert")):
         setattr(unittest.TestCase, name, counting(getattr(unittest.TestCase, name)))
-    tests = unittest.defaultTestLoader.loadTestsFromName(f"tests.{sys.argv[1]}")
+    [path] = OPTIONAL.parent.glob(f"*/{sys.argv[1]}.py")
+    tests = unittest.defaultTestLoader.loadTestsFromName(f"tests.{path.parent.name}.{path.stem}")
     result = unittest.TextTestRunner(sys.stdout, verbosity=2, resultclass=Counted).run(tests)
     failed = sum(map(len, (result.failures, result.errors, result.expectedFailures, result.unexpectedSuccesses)))
     for test, why in result.failures:

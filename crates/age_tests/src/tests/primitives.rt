@@ -89,7 +89,7 @@ fn derived(alloc: Global) -> Result<[u8; 32], Memory> {
 }
 
 /// The key is that of Python's `hashlib.scrypt`. Run it with each allocation refused in turn
-/// (`tests/test_allocations.py`): the call that met the refusal says so, and the next one makes the
+/// (`tests/library/test_allocations.py`): the call that met the refusal says so, and the next one makes the
 /// key.
 #[test]
 fn a_refusal_is_reported(rt: HostRuntime) {

@@ -1,4 +1,4 @@
-//! What a refusal of memory leaves. `tests/test_allocations.py` runs these tests with each allocation
+//! What a refusal of memory leaves. `tests/library/test_allocations.py` runs these tests with each allocation
 //! refused in turn: the call that meets the refusal says so, and the next one answers as ever.
 
 use Delivery::{End, Piece, Restart};
