@@ -8,7 +8,6 @@ import hashlib
 import importlib.util
 import os
 import pathlib
-import shutil
 import subprocess
 import tarfile
 import zlib

@@ -1,19 +1,14 @@
-"""Looks when the built program makes an OUT that isn't there: with the first byte, so that a run which stops before leaves nothing."""
+"""When an OUT is made that isn't there: with the first byte, so that a run which stops before leaves nothing."""
 import errno
 import os
-import resource
 import signal
 
 from tests.case import needs
-from tests.program.files import PLAIN, WRITE, FilesCase, as_nobody, chunk_fault, reason, refused, unwritten
+from tests.program.case import PLAIN, WRITE, FilesCase, as_nobody, chunk_fault, reason, refused, unwritten, within_memory
 
 ENCRYPT = "encrypt --pass pass --log 14 plain new"
 DECRYPT = "decrypt --pass pass costly new"
 HEADER = b"age-encryption.org/v1\n-> scrypt AAAAAAAAAAAAAAAAAAAAAA 22\n%s\n--- %s\n" % (b"A" * 43, b"A" * 43)
-
-
-def within_memory():
-    resource.setrlimit(resource.RLIMIT_AS, (500_000 << 10, 500_000 << 10))
 
 
 def hears_sigint():
@@ -21,7 +16,7 @@ def hears_sigint():
     signal.signal(signal.SIGINT, signal.SIG_DFL)
 
 
-class MakingTest(FilesCase):
+class NewOutTest(FilesCase):
     def setUp(self):
         super().setUp()
         self.write("wrong", b"another passphrase\n")
@@ -159,3 +154,22 @@ class MakingTest(FilesCase):
             self.see(f"--save {save}, {out}", ended.returncode == 2 and b"same file named twice" in ended.stderr, ended.stderr)
             self.remove("link")
             self.see(f"--save {save}, {out}: nothing is left", not self.left(), self.left())
+
+
+class StoppedEncryptionTest(FilesCase):
+    @needs("cc")
+    def test_ends_in_scrypt(self):
+        """A run of encrypt that is killed, or refused memory, while it derives the key has made no OUT and changed none. An OUT that has to
+        be new is refused before."""
+        self.write("old", b"old text")
+        for name in ("new", "old"):
+            run, pause = self.deriving(f"encrypt --pass pass --log 14 plain {name}")
+            self.see(f"{name}: not there yet", name == "old" or not self.is_there(name))
+            run.terminate()
+            self.ends(f"{name}: killed", run, -signal.SIGTERM, b"")
+            pause.close()
+        costly = "encrypt --pass pass --log 22 plain"
+        self.expect(1, b"age_tool: 28 Memory\n", f"{costly} new", preexec_fn=within_memory)
+        self.expect(1, b"age_tool: 28 Memory\n", f"{costly} old", preexec_fn=within_memory)
+        self.expect(1, refused("old"), f"{costly} old --no-clobber", preexec_fn=within_memory)
+        self.see("none is made, and none is changed", not self.is_there("new") and self.read("old") == b"old text")

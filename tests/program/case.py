@@ -1,5 +1,6 @@
-"""What test_disk and test_position run the program with: a folder with the files of a decryption that stops, and what the program says."""
+"""What tests of the program have in common: folders with age files, file systems and terminals to run it with, and what it says."""
 import os
+import resource
 import shutil
 import stat
 import subprocess
@@ -7,7 +8,8 @@ import tempfile
 import time
 
 from tests.case import SECONDS, Case, without_advice
-from tools import shim, workspace
+from tools import shim, terminal, workspace
+from tools.workspace import TOP
 
 WRITE = b"age_tool: 27 Write\n"
 LOCKED = "another program holds its lock"
@@ -16,11 +18,18 @@ NO_FILE = f"it is no regular file{OWN}"
 IN_THE_WAY = "the .new file beside it exists; remove or rename it"
 NOBODY = 65534
 PLAIN = bytes(range(1, 251)) * 800
+MADE = "another program made it meanwhile"
+BLANKS = b" " * 256
+FUSED = TOP / "tools" / "fused.c"
 
 
 def as_nobody():
     """What lets a run of root be one of somebody who may not do everything."""
     return {"user": NOBODY, "group": NOBODY, "extra_groups": []} if os.geteuid() == 0 else {}
+
+
+def within_memory():
+    resource.setrlimit(resource.RLIMIT_AS, (500_000 << 10, 500_000 << 10))
 
 
 def chunk_fault(index):
@@ -38,6 +47,11 @@ def unwritten(name, error):
 
 def unsynced(name, error):
     return WRITE + reason(f"write {name} to disk", error)
+
+
+def unwaited(name):
+    """What is said of an OUT whose file system can't sync."""
+    return b"age_tool: %b: the file system can't sync it: it may not be on the disk yet\n" % name.encode()
 
 
 def refused(name, more=""):
@@ -136,6 +150,35 @@ class FilesCase(Case):
         with self.subTest(name):
             self.assertEqual((started.returncode, without_advice(said)[0]), (status, faults))
 
+    def large(self):
+        """Makes the age file the one of 40 MiB of zeros."""
+        self.write("plain", bytes(40 << 20))
+        self.expect(0, b"", "encrypt --pass pass --log 4 plain age")
+        self.age = self.read("age")
+
+    def mount_ext4(self, name, mib, *words, options="loop"):
+        """Mounts a new ext4 of this many MiB, and returns its folder."""
+        self.write("image", b"")
+        os.truncate(self.path("image"), mib << 20)
+        self.path(name).mkdir()
+        subprocess.run(["mkfs.ext4", "-q", *words, self.path("image")], check=True)
+        self.mount("-o", options, self.path("image"), self.path(name))
+        return self.path(name)
+
+    def fused(self, name, **variables):
+        """A folder that is a file system of our own, whose calls fail or take time (tools/fused.c), until the test ends."""
+        made = self.path("fused-program")
+        flags = subprocess.run(["pkg-config", "--cflags", "--libs", "fuse3"], capture_output=True, text=True)
+        if flags.returncode:
+            self.skipTest("no libfuse can be had")
+        subprocess.run(["cc", "-O2", "-Wall", "-Wextra", "-Werror", "-o", made, FUSED, *flags.stdout.split()], check=True)
+        self.path(f"{name}-held").mkdir()
+        self.path(name).mkdir()
+        env = {**os.environ, **{it: str(value) for it, value in variables.items()}}
+        if subprocess.run([made, self.path(f"{name}-held"), self.path(name)], env=env, capture_output=True).returncode:
+            self.skipTest("nothing can be mounted by FUSE")
+        self.addCleanup(subprocess.run, ["fusermount3", "-u", self.path(name)], check=True)
+
 
 class Feeding:
     """A decryption that waits for more of its input, with a chunk written and its position to be saved in `saved`."""
@@ -154,3 +197,66 @@ class Feeding:
         """Cuts the input, and counts whether the run ends so."""
         self.input.close()
         self.case.ends(name, self.run, 1, faults)
+
+
+class ProgramCase(Case):
+    """A passphrase `pass`, a text `plain` and its age file `plain.age`."""
+
+    def setUp(self):
+        super().setUp()
+        self.plain = os.urandom(200_000)
+        self.write("pass", b"correct horse\n")
+        self.write("plain", self.plain)
+        self.encrypted = self.tool(*"encrypt --pass pass --log 10 plain plain.age".split())
+        self.age = self.read("plain.age")
+
+    def ends(self, name, ended, status, output=b"", faults=b""):
+        """Counts whether a run ended like this."""
+        with self.subTest(name):
+            self.assertEqual((ended.returncode, ended.stdout or b"", ended.stderr or b""), (status, output, faults))
+
+    def decrypt(self, *words, **more):
+        return self.tool("decrypt", "--pass", "pass", *words, **more)
+
+    def encrypt(self, words, **more):
+        return self.tool(*f"encrypt --pass pass --log {words}".split(), **more)
+
+    def redirected(self, redirection, *words):
+        """Runs the program with a redirection of the shell's."""
+        run = ["sh", "-c", f'exec "$0" "$@" {redirection}', self.program, *words]
+        ended = subprocess.run(run, cwd=self.room, stdin=subprocess.DEVNULL, capture_output=True)
+        ended.stderr, ended.advice = without_advice(ended.stderr)
+        return ended
+
+    def on_terminal(self, stream, *words, **more):
+        """Runs the program with standard input or error at a terminal, and gives what it says on standard error."""
+        ours, theirs = os.openpty()
+        if stream == "stdin":
+            os.write(ours, b"\x04")  # the end
+        ends = {"stdin": subprocess.DEVNULL, "stdout": subprocess.PIPE, "stderr": subprocess.PIPE, stream: theirs} | more
+        run = subprocess.Popen([self.program, *words], cwd=self.room, **ends)
+        os.close(theirs)
+        said = terminal.output(ours).replace(b"\r\n", b"\n") if stream == "stderr" else b""
+        output, faults = run.communicate()
+        os.close(ours)
+        return subprocess.CompletedProcess(words, run.returncode, output, faults or said)
+
+    def at_terminal(self, words):
+        """Runs the program with a terminal as its standard streams, and gives what came there as its output."""
+        child, tty = terminal.start(["env", "-C", str(self.room), str(self.program), *words.split()])
+        came = terminal.output(tty).replace(b"\r\n", b"\n")
+        os.close(tty)
+        return subprocess.CompletedProcess(words, os.waitstatus_to_exitcode(os.waitpid(child, 0)[1]), came)
+
+    def unsaved(self):
+        """A decryption that stops, and whose position can't be saved, since its file was made meanwhile."""
+        self.remove("part", "taken")
+        words = "decrypt --no-sync --pass pass --save taken /dev/stdin part"
+        run = subprocess.Popen([self.program, *words.split()], cwd=self.room, stdin=subprocess.PIPE, stderr=subprocess.PIPE)
+        run.stdin.write(self.age[:150_000])
+        run.stdin.flush()
+        waits_for(lambda: self.is_there("part") and self.path("part").stat().st_size >= 131_072)
+        self.write("taken", b"")
+        ended = subprocess.CompletedProcess(words, 1, b"", run.communicate(timeout=SECONDS)[1])
+        ended.returncode, (ended.stderr, ended.advice) = run.returncode, without_advice(ended.stderr)
+        return ended
