@@ -5,7 +5,7 @@ import random
 
 from tests import bindings
 from tests.bindings import BindingsCase, by_python, flipped
-from tests.format.test_engines import ALPHABET, text_of
+from tests.format.engines import ALPHABET, text_of
 from tests.program.test_transcripts import feed
 
 MORE = 254

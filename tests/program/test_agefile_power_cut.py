@@ -9,7 +9,7 @@ from tests.program.agefile import AgefileCase
 from tests.bindings import setUpModule  # noqa: F401
 from tests.case import SECONDS, needs
 from tests.program.test_power_cut import Disk, calls
-from tests.python.test_python_output import NAMED
+from tests.python.test_output import NAMED
 from tools import shim
 
 KEY = "AGE-SECRET-KEY-1GFPYYSJZGFPYYSJZGFPYYSJZGFPYYSJZGFPYYSJZGFPYYSJZGFPQ4EGAEX"

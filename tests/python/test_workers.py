@@ -10,7 +10,7 @@ from unittest import mock
 
 from tests.bindings import BLOCK, KEY, LENGTHS, PYTHON, BindingsCase, agefile, flipped, limited, plain_of, python_with, raised, setUpModule
 from tests.library.test_languages import sample_of
-from tests.python.test_python import fault_of
+from tests.python.files import fault_of
 from tools.workspace import LIBRARY
 
 LENGTH = 9 * 65_536 + 1_000

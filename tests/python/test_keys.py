@@ -9,10 +9,9 @@ import subprocess
 import sys
 import unittest.mock
 
-from tests.python import test_python
-from tests.bindings import PYTHON, BindingsCase, agefile, flipped, setUpModule
+from tests.bindings import PYTHON, agefile, flipped, setUpModule
 from tests.case import needs
-from tests.python.test_python import AGE, fault_of
+from tests.python.files import AGE, ModuleCase, Pieces, fault_of
 
 HAS_CRYPTOGRAPHY = importlib.util.find_spec("cryptography") is not None
 needs_cryptography = unittest.skipUnless(HAS_CRYPTOGRAPHY, "needs cryptography")
@@ -37,10 +36,8 @@ def made_keys(count):
     return [(it[-1], next(word for word in it if word.startswith("age1"))) for it in said]
 
 
-class KeysTest(BindingsCase):
+class KeysTest(ModuleCase):
     """Reading by a key, and writing for recipients."""
-
-    command = test_python.PythonTest.command
 
     def test_bech32(self):
         """The test vectors of BIP 173."""
@@ -115,7 +112,7 @@ class KeysTest(BindingsCase):
             return real(key, body)
 
         with unittest.mock.patch.object(agefile._keys, "_opens", counted):
-            for pieces in (io.BytesIO(data), test_python.Pieces(data, 1_000)):
+            for pieces in (io.BytesIO(data), Pieces(data, 1_000)):
                 self.see("the text", agefile.open(pieces, identity=keys[0]).read() == b"text")
         self.see(f"each stanza is tried once, {looked[0]}", looked[0] == 2 * 10_001)
         self.see("its stanzas", [it.type for it in agefile.inspect(io.BytesIO(data)).stanzas] == ["X25519"] * 10_001)

@@ -1,4 +1,4 @@
-"""Tries what decrypts and encrypts bytes that come by themselves, in Python: the same faults and text as a reader finds, whatever the pieces
+"""Decryptor and Encryptor of the Python module, for bytes that come by themselves: the same faults and text as a reader finds, whatever the pieces
 are; calls after a fault, an interruption, a fork; two threads on one object; and a handler of uploads."""
 import contextlib
 import copy
@@ -10,7 +10,7 @@ import sys
 from unittest import mock
 
 from tests.bindings import LENGTHS, PYTHON, BindingsCase, agefile, plain_of, python_with, raised, setUpModule
-from tests.python.test_python_files import Interruption, interrupted_at, together
+from tests.python.files import Interruption, interrupted_at, together
 from tools.workspace import LIBRARY
 
 FILES = 300
@@ -108,7 +108,7 @@ def encrypted(text, size):
     return b"".join([file.update(text[at:at + size]) for at in range(0, len(text), size)] + [file.finish()])
 
 
-class PushTest(BindingsCase):
+class DecryptorTest(BindingsCase):
     def test_as_a_reader(self):
         seed = int(os.environ.get("AGE_SEED") or random.randrange(1 << 30))
         rnd, whole = random.Random(seed), {it: sealed(plain_of(it)) for it in LENGTHS}
@@ -350,24 +350,6 @@ class PushTest(BindingsCase):
         except ValueError as it:
             held = repr((it, it.args, vars(it), it.__cause__)) + ("" if it.__suppress_context__ else repr(it.__context__))
             self.see("half of a surrogate pair", type(it) is ValueError and "secret" not in held, held)
-
-    def test_what_was_cut_off(self):
-        """What `python3 -m agefile salvage` says of files that end between two chunks, or in one, and of what was appended."""
-        data = sealed(plain_of(200_000))
-        begin = len(data) - 200_000 - 4 * 16
-        env = {**os.environ, "PYTHONPATH": str(PYTHON), "PYTHONDONTWRITEBYTECODE": "1"}
-        longer = b"agefile: the last chunk is damaged or was cut off: the text may have been longer\n"
-        for end, said in (
-            (begin + 2 * 65_552, b"agefile: lost: from byte 131072 on, if there was more\n" + longer),
-            (begin + 2 * 65_552 + 116, b"agefile: lost: from byte 131072 to before byte 131172\n" + longer),
-            (len(data), b""), (begin, b"agefile: no chunk of cut.age opens: out is as it was\n"),
-        ):
-            self.write("cut.age", data[:end])
-            run = subprocess.run([sys.executable, "-m", "agefile", *"salvage --overwrite --pass pw cut.age out".split()], cwd=self.room, env=env, capture_output=True)
-            self.see(f"cut at {end}", (run.returncode, run.stderr) == (bool(said), said), run.stderr)
-        self.write("longer.age", sealed(plain_of(131_072)) + b"more")
-        run = subprocess.run([sys.executable, "-m", "agefile", *"salvage --overwrite --pass pw longer.age out".split()], cwd=self.room, env=env, capture_output=True)
-        self.see("something that was appended", run.stderr == b"agefile: something was appended to the file, and is left out\n", run.stderr)
 
     def test_handler(self):
         """A handler of uploads, by a Python that has aiohttp."""
