@@ -1,4 +1,4 @@
-"""What is done to the built program and to the C library. `python3 -m unittest` runs all of it, and with `tests.program.test_disk -k links` one
+"""What is done to the built program and to the C library. `python3 -m unittest` runs all of it, and with `tests.program.test_links -k sticky` one
 test; AGE_TOOL names another program than ./age_tool's, and AGE_C_DIR another folder of the library."""
 import signal
 

@@ -11,10 +11,10 @@ import threading
 import time
 
 from tests.case import Case
+from tests.standard import BLOCK, CHUNK  # noqa: F401
 from tools import workspace
 
 LENGTHS = (0, 1, 65_535, 65_536, 65_537, 131_072, 200_000)
-CHUNK, BLOCK = 65_536, 65_552
 KEY = b"\7" * 16
 RANDOM = KEY + bytes(range(32))
 # The folder of the Python module.

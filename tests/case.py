@@ -5,6 +5,7 @@ import re
 import shutil
 import subprocess
 import tempfile
+import threading
 import unittest
 
 from tools import workspace
@@ -31,7 +32,7 @@ def twice(one, other):
     return f"age_tool: same file named twice\nage_tool: {one} and {other} are the same file\n".encode()
 
 
-# The lines that are advice for people: they may change, and have tests of their own (tests/program/test_program.py).
+# The lines that are advice for people: they may change, and have tests of their own (tests/program/test_advice.py).
 ADVICE = re.compile(
     rb"age_tool: (?:.* \(age_tool help \d+\)$|position saved in |resume reads only |no position was saved|- is a file |--max-log does nothing "
     rb"|to save the position elsewhere: |the passphrase in |work factor |OUT was moved: |none of them was given|only one of them )"
@@ -42,6 +43,23 @@ def without_advice(said):
     """What was said on standard error, and then the advice in it."""
     lines = said.splitlines(keepends=True)
     return b"".join(it for it in lines if not ADVICE.match(it)), b"".join(it for it in lines if ADVICE.match(it))
+
+
+def feed(data, size):
+    """A pipe that gives these bytes, at most this many to each read, and the thread that fills it."""
+    source, sink = os.pipe2(os.O_DIRECT | os.O_CLOEXEC)
+
+    def fill():
+        try:
+            for at in range(0, len(data), size):
+                os.write(sink, data[at : at + size])
+        except BrokenPipeError:
+            pass
+        os.close(sink)
+
+    thread = threading.Thread(target=fill)
+    thread.start()
+    return source, thread
 
 
 def claim(page, phrase):

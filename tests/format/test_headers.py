@@ -5,8 +5,8 @@ import random
 
 from tests import bindings
 from tests.bindings import BindingsCase, by_python, flipped
-from tests.format.engines import ALPHABET, text_of
-from tests.program.test_transcripts import feed
+from tests.case import feed
+from tests.standard import ALPHABET, header_text, text_of
 
 MORE = 254
 # What Python made for the passphrase `kudebafon` at work factor 1, around the body and the MAC.
@@ -17,20 +17,6 @@ FRONT, BODY, MAC = (
 )
 
 
-def lines_of(body):
-    """The lines of a body: of 64 characters but the last, which is shorter and always there."""
-    text = text_of(body)
-    return [text[at : at + 64] for at in range(0, len(text) + 1, 64)]
-
-
-def header_of(stanzas, mac=bytes(32)):
-    """The header of some stanzas, each its arguments and its body."""
-    lines = [b"age-encryption.org/v1"]
-    for arguments, body in stanzas:
-        lines += [b"-> " + b" ".join(arguments), *lines_of(body)]
-    return b"".join(it + b"\n" for it in (*lines, b"--- " + text_of(mac)))
-
-
 def some_header(rnd):
     """Some stanzas, and their header."""
     letters = range(0x21, 0x7F)
@@ -38,7 +24,7 @@ def some_header(rnd):
         ([bytes(rnd.choices(letters, k=rnd.randint(1, 12))) for _ in range(rnd.randint(1, 4))], rnd.randbytes(rnd.randrange(150)))
         for _ in range(rnd.randint(1, 4))
     ]
-    return stanzas, header_of(stanzas, rnd.randbytes(32))
+    return stanzas, header_text(stanzas, rnd.randbytes(32))
 
 
 def read(front):
@@ -90,17 +76,17 @@ class HeadersTest(BindingsCase):
     def test_bodies(self):
         for length, size in ((0, 76), (47, 139), (48, 141), (49, 143), (96, 206)):
             body = random.Random(length).randbytes(length)
-            self.see(f"{length} bytes", read(header_of([([b"x"], body)])) == (size, [([b"x"], body)]))
-        spelled = header_of([([b"x"], b"")]).replace(b"x\n\n", b"x\n" + ALPHABET + b"\n\n")
+            self.see(f"{length} bytes", read(header_text([([b"x"], body)], bytes(32))) == (size, [([b"x"], body)]))
+        spelled = header_text([([b"x"], b"")], bytes(32)).replace(b"x\n\n", b"x\n" + ALPHABET + b"\n\n")
         self.see("the alphabet", read(spelled) == (141, [([b"x"], base64.b64decode(ALPHABET))]))
 
     def test_arguments(self):
         """An argument is one or more of the bytes 21 to 7e."""
         for given in (b"x", b"!~", b"a b"):
-            header = header_of([([given], b"")])
+            header = header_text([([given], b"")], bytes(32))
             self.see(f"{given}", read(header)[0] == len(header))
         for given in (b"", b"a  b", b"\x7f", b"\xc3\xa4", b"\t", b"\0"):
-            self.see(f"{given} is refused", read(header_of([([given], b"")])) == (3, None))
+            self.see(f"{given} is refused", read(header_text([([given], b"")], bytes(32))) == (3, None))
 
     def test_each_bit(self):
         """Each bit of a stanza's body is noticed by its tag, and each of the MAC by the key."""

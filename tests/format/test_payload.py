@@ -1,13 +1,13 @@
 """Decrypts whole files, cut and changed at each byte and while each read fails in turn, and compares the files that the program writes,
-by values of Python's hashlib, hmac and base64 and of tests/sealing.py."""
+beside those that Python makes (tests/standard.py)."""
 import base64
 import errno
 import hashlib
 import os
 
-from tests.case import needs
-from tests.format.engines import ALPHABET, CHUNK, FRONT, KEY, LONG, NONCE, EnginesCase, file_of, file_under
-from tests.program.test_transcripts import feed
+from tests.case import feed, needs
+from tests.format.case import FRONT, KEY, LONG, NONCE, KnownFilesCase, file_of
+from tests.standard import ALPHABET, CHUNK, file_under
 from tools import shim
 
 HELLO = FRONT + bytes.fromhex("f22dc02f3c1c77ef50d95ef304ddde21d8fb79e2f9")
@@ -15,7 +15,7 @@ HELLO = FRONT + bytes.fromhex("f22dc02f3c1c77ef50d95ef304ddde21d8fb79e2f9")
 LONG_DIGEST = "60fca52f61ace8ad72c78c82dc1f0290aa96577739db2163e074bc737add2b6c"
 
 
-class PayloadTest(EnginesCase):
+class PayloadTest(KnownFilesCase):
     def test_any_pieces(self):
         for size in (1, 2, 7, 92, 1000):
             source, thread = feed(HELLO, size)

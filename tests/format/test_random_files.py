@@ -2,8 +2,8 @@
 import unittest
 
 from tests import standard
-from tests.format.generated import LETTERS, GeneratedFiles
-from tests.standard import BLOCK, CHUNK, CHUNKS, Fault, header_text, mac_of
+from tests.format.generated import GeneratedFiles
+from tests.standard import ALPHABET, BLOCK, CHUNK, CHUNKS, Fault, header_text, mac_of
 
 
 @unittest.skipIf(standard.ChaCha20Poly1305 is None, "needs cryptography")
@@ -142,7 +142,7 @@ class RandomFilesTest(GeneratedFiles):
         for _ in range(self.pick(1, 1, 2)):
             at, how = self.random.randrange(len(text)), self.random.random()
             if how < 0.5:
-                text = text[:at] + bytes([self.pick(self.pick(*LETTERS), 10, 32, self.random.randrange(256))]) + text[at + 1 :]
+                text = text[:at] + bytes([self.pick(self.pick(*ALPHABET), 10, 32, self.random.randrange(256))]) + text[at + 1 :]
             elif how < 0.7:
                 text = text[:at] + text[at + 1 :]
             elif how < 0.9:

@@ -3,8 +3,8 @@ import os
 import unittest
 
 from tests import standard
-from tests.format.generated import LETTERS, Generated
-from tests.standard import BLOCK, HEADER_MOST, Fault, Header, Stanza, header_in, header_text, key_of, mac_of
+from tests.format.generated import Generated
+from tests.standard import ALPHABET, BLOCK, HEADER_MOST, Fault, Header, Stanza, header_in, header_text, key_of, mac_of
 
 
 class RandomHeadersTest(Generated):
@@ -31,7 +31,7 @@ class RandomHeadersTest(Generated):
         elif change == 2:
             lines[at] += self.pick(b" ", b"\r", b"=", b"A", b"==", b"B")
         elif change == 3:
-            lines[at] = lines[at][:-1] + bytes([self.pick(*LETTERS)]) * bool(lines[at])
+            lines[at] = lines[at][:-1] + bytes([self.pick(*ALPHABET)]) * bool(lines[at])
         else:
             lines[at] = self.pick(
                 standard.ARMOR, standard.ARMOR + b"\r", standard.VERSION, b"---", b"-->", b"->", b"-> ", b"--", b"---- " + b"A" * 43
@@ -116,7 +116,7 @@ class RandomKeysTest(Generated):
         elif how == 4:
             arguments.append(b"x")
         elif how == 5 and len(arguments) > 1:
-            arguments[1] = arguments[1][:-1] + bytes([self.pick(*LETTERS)])
+            arguments[1] = arguments[1][:-1] + bytes([self.pick(*ALPHABET)])
         elif how == 6 and len(arguments) > 1:
             arguments[1] = standard.text_of(self.random.randbytes(self.pick(15, 17, 31, 33, 16, 32)))
         elif how == 7 and len(arguments) == 3:

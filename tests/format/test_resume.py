@@ -4,13 +4,14 @@ import pathlib
 import random
 import subprocess
 
-from tests.format.engines import CHUNK, FILE_ID, KEY, LONG, POSITIONS, EnginesCase, file_of, letters, position
-from tests.program.test_transcripts import feed
+from tests.case import feed
+from tests.format.case import FILE_ID, KEY, LONG, POSITIONS, KnownFilesCase, file_of, letters, position
+from tests.standard import CHUNK
 
 ZERO = " " + 43 * "A"
 
 
-class ResumeTest(EnginesCase):
+class ResumeTest(KnownFilesCase):
     def resume(self, saved, old=LONG[: 2 * CHUNK], room=-1):
         self.write("saved", saved)
         self.write("old", old)

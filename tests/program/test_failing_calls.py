@@ -8,8 +8,7 @@ import re
 import subprocess
 
 from tests.case import Case, needs, without_advice
-from tests.standard import BLOCK, CHUNK, FAULTS, Position, chain_of, parts_of, position_in
-from tests.format.engines import file_under
+from tests.standard import BLOCK, CHUNK, FAULTS, Position, chain_of, file_under, parts_of, position_in
 
 CALLS = "openat read pread64 write pwrite64 close fsync fdatasync ftruncate rename link unlink lseek fcntl flock statx newfstatat fstat readlink fchmod".split()
 LINE = re.compile(rb"age_tool: (\d+) (\w+)(?: (?:chunk|line) \d+)?")

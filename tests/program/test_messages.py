@@ -1,6 +1,6 @@
 """What people read after a fault: of each number, in which circumstance, the file and the sentence, and that docs/FAULTS.md says to do the
 same; what they read after words that are refused; and that runs which go well say nothing of it. (More of what the system answered is in
-the transcripts, test_disk and test_position.)"""
+the transcripts and the tests of links, locks, disks and positions.)"""
 import itertools
 import os
 import re

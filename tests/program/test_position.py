@@ -6,7 +6,7 @@ import subprocess
 
 from tests.case import needs
 from tests.program.case import NOBODY, WRITE, Feeding, FilesCase, chunk_fault, unsaved, unsynced, unwritten
-from tests.program.test_transcripts import feed
+from tests.case import feed
 from tools import shim
 
 

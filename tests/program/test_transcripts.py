@@ -45,9 +45,8 @@ import resource
 import shlex
 import shutil
 import signal
-import threading
 
-from tests.case import Case
+from tests.case import Case, feed
 
 TERM = re.compile(r'(?:(\d+) \* )?(?:"((?:[^"\\]|\\.)*)"|0x([0-9a-f]+)|([\w./-]+)(?:\[(\d*):(\d*)\])?)')
 # These take a word and BYTES, the others words alone.
@@ -119,23 +118,6 @@ def lines_of(text):
 
 def unescaped(text):
     return ast.literal_eval(f'b"{text}"')
-
-
-def feed(data, size):
-    """A pipe that gives these bytes, at most this many to each read, and the thread that fills it."""
-    source, sink = os.pipe2(os.O_DIRECT | os.O_CLOEXEC)
-
-    def fill():
-        try:
-            for at in range(0, len(data), size):
-                os.write(sink, data[at : at + size])
-        except BrokenPipeError:
-            pass
-        os.close(sink)
-
-    thread = threading.Thread(target=fill)
-    thread.start()
-    return source, thread
 
 
 def joined(steps):

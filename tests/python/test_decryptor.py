@@ -110,7 +110,7 @@ def encrypted(text, size):
 
 class DecryptorTest(BindingsCase):
     def test_as_a_reader(self):
-        seed = int(os.environ.get("AGE_SEED") or random.randrange(1 << 30))
+        seed = int(os.environ.get("AGE_SEED") or 1)
         rnd, whole = random.Random(seed), {it: sealed(plain_of(it)) for it in LENGTHS}
         for turn in range(FILES):
             data = changed(rnd, whole[rnd.choice(LENGTHS)])
@@ -215,7 +215,7 @@ class DecryptorTest(BindingsCase):
     def test_any_calls(self):
         """Any call may follow any other: what a Decryptor gives is a beginning of the text, and all of it if finish() returned; what an Encryptor
         gives is a file of what it was given since it was made, and of nothing else."""
-        seed = int(os.environ.get("AGE_SEED") or random.randrange(1 << 30))
+        seed = int(os.environ.get("AGE_SEED") or 1)
         rnd, text = random.Random(seed), plain_of(200_000)
         data = sealed(text)
         for turn in range(200):

@@ -110,7 +110,7 @@ class SuitesTest(Case):
 
     def test_like_buffered_reader(self):
         """Random calls, and their answers by io.BufferedReader. (read1, readinto1 and peek may return less: what comes is compared.)"""
-        seed = int(os.environ.get("AGE_SEED") or random.randrange(1 << 30))
+        seed = int(os.environ.get("AGE_SEED") or 1)
         rnd, count = random.Random(seed), 0
         while count < CALLS:
             size = rnd.choice([0, 1, 65_535, 65_536, 65_537, 131_072, 200_000, 327_680])

@@ -89,8 +89,8 @@ fn derived(alloc: Global) -> Result<[u8; 32], Memory> {
 }
 
 /// The key is that of Python's `hashlib.scrypt`. Run it with each allocation refused in turn
-/// (`tests/library/test_allocations.py`): the call that met the refusal says so, and the next one makes the
-/// key.
+/// (`tests/library/test_allocations.py`): the call that met the refusal says so, and the next one
+/// makes the key.
 #[test]
 fn a_refusal_is_reported(rt: HostRuntime) {
     let wanted = *b"\xb7\x0d\x59\x44\x09\x81\x12\x9a\xa4\xc8\x1d\xb4\xd6\xd8\x1e\x8e\

@@ -1,5 +1,6 @@
-//! What a refusal of memory leaves. `tests/library/test_allocations.py` runs these tests with each allocation
-//! refused in turn: the call that meets the refusal says so, and the next one answers as ever.
+//! What a refusal of memory leaves. `tests/library/test_allocations.py` runs these tests with each
+//! allocation refused in turn: the call that meets the refusal says so, and the next one answers as
+//! ever.
 
 use Delivery::{End, Piece, Restart};
 use age_keys::{FileKey, KeyFault, Passphrase, Steps, open_header, scrypt_header};

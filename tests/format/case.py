@@ -1,18 +1,13 @@
 """What tests of whole files have in common: files and positions that Python makes. The file key is the bytes 0 to 15, the payload nonce 100
 to 115, and the one stanza, of type `x`, has an empty body."""
-import base64
 import functools
-import hashlib
-import hmac
 import resource
 import signal
 
 from tests.case import Case
-from tests.sealing import seal
+from tests.standard import OwnCipher, RealBox, payload_of, text_of
 
-KEY, NONCE, CHUNK = bytes(range(16)), bytes(range(100, 116)), 65_536
-# Of RFC 4648, section 4, in the order of their values.
-ALPHABET = b"ABCDEFGHIJKLMNOPQRSTUVWXYZabcdefghijklmnopqrstuvwxyz0123456789+/"
+KEY, NONCE = bytes(range(16)), bytes(range(100, 116))
 # The header and the payload nonce.
 FRONT = b"age-encryption.org/v1\n-> x\n\n--- 1mO1p2iHr1hXsC4oPA3JQsoy5EVuHeaNqF7FyjrAkCE\n" + NONCE
 LONG = bytes(i % 251 for i in range(200_000))
@@ -30,45 +25,19 @@ def letters(digits):
     return text_of(bytes.fromhex(digits)).decode()
 
 
-def text_of(data):
-    """The base64 of some bytes, as an age file has it."""
-    return base64.b64encode(data).rstrip(b"=")
-
-
 def position(index, chain=None, tag=None):
     """The text of the position after this many chunks of the long text, or of one with another chain or tag."""
     digits = FILE_ID, chain or POSITIONS[index][0], tag or POSITIONS[index][1]
     return f"age-position/v2 {index} {' '.join(map(letters, digits))}\n".encode()
 
 
-def hkdf(key, salt, label):
-    return hmac.digest(hmac.digest(salt, key, "sha256"), label + b"\1", "sha256")
-
-
-def payload_of(key, nonce, text):
-    """The payload nonce, and the payload of a text."""
-    own, last = hkdf(key, nonce, b"payload"), max(0, len(text) - 1) // CHUNK
-    blocks = (seal(own, i.to_bytes(11, "big") + bytes([i == last]), text[i * CHUNK : (i + 1) * CHUNK]) for i in range(last + 1))
-    return nonce + b"".join(blocks)
-
-
 @functools.cache
 def file_of(text):
     """The file of a text."""
-    return FRONT[:-16] + payload_of(KEY, NONCE, text)
+    return FRONT + payload_of(RealBox(KEY, NONCE, OwnCipher), text)
 
 
-def file_under(word, log, random, text):
-    """The file of a text under a passphrase, with these random bytes: the file key, the salt and the payload nonce."""
-    key, salt, nonce = random[:16], random[16:32], random[32:]
-    wrap = hashlib.scrypt(word, salt=b"age-encryption.org/v1/scrypt" + salt, n=2**log, r=8, p=1, dklen=32)
-    body = seal(wrap, bytes(12), key)
-    front = b"age-encryption.org/v1\n-> scrypt %s %d\n%s\n---" % (text_of(salt), log, text_of(body))
-    mac = hmac.digest(hkdf(key, bytes(32), b"header"), front, "sha256")
-    return front + b" " + text_of(mac) + b"\n" + payload_of(key, nonce, text)
-
-
-class EnginesCase(Case):
+class KnownFilesCase(Case):
     """A run of `decrypt` or `resume`, its fault, what OUT holds, and the position that it saved."""
 
     def ends(self, name, ended, fault, text, index=None):
