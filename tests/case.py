@@ -8,7 +8,7 @@ import tempfile
 import threading
 import unittest
 
-from tools import workspace
+from tests import built, process
 
 SECONDS = 60
 # What is made has the modes that tests compare, whatever the mask of the one who runs them.
@@ -72,7 +72,7 @@ class Case(unittest.TestCase):
 
     @property
     def program(self):
-        return workspace.program()
+        return built.program()
 
     def setUp(self):
         made = tempfile.TemporaryDirectory(prefix="age-test-")
@@ -92,7 +92,7 @@ class Case(unittest.TestCase):
     def tool(self, *words, **more):
         """Runs the program. What it says on standard error is `stderr`, and the advice in it `advice`."""
         more = {"stdin": subprocess.DEVNULL, "stdout": subprocess.PIPE, "stderr": subprocess.PIPE, "timeout": SECONDS} | more
-        ended = subprocess.run([self.program, *words], cwd=self.room, **more)
+        ended = process.run([self.program, *words], cwd=self.room, **more)
         if ended.stderr is not None:
             ended.stderr, ended.advice = without_advice(ended.stderr)
         return ended

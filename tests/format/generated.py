@@ -7,9 +7,8 @@ import random
 import re
 import resource
 import signal
-import subprocess
 
-from tests import standard
+from tests import process, standard
 from tests.case import Case
 from tests.standard import BLOCK, CHUNK, Position, header_text, mac_of
 
@@ -44,7 +43,7 @@ class Generated(Case):
             signal.signal(signal.SIGXFSZ, signal.SIG_IGN)
             resource.setrlimit(resource.RLIMIT_FSIZE, (room, room))
 
-        return subprocess.run([self.program, *words], cwd=self.room, capture_output=True, preexec_fn=confine if room is not None else None, **({"input": b""} | more))
+        return process.run([self.program, *words], cwd=self.room, capture_output=True, preexec_fn=confine if room is not None else None, **({"input": b""} | more))
 
     def held(self, name):
         return self.read(name) if self.is_there(name) else None

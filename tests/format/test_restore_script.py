@@ -1,8 +1,8 @@
 """Tries docs/restore.py, which decrypts with Python alone, on what the program wrote, complete, truncated, changed and with another passphrase,
 and on C2SP's test vectors for passphrases."""
-import subprocess
 import sys
 
+from tests import process
 from tests.case import Case
 from tests.format.test_cctv import vectors
 from tools.workspace import TOP
@@ -15,7 +15,7 @@ class RestoreTest(Case):
         """Without a terminal it reads the passphrase from standard input."""
         self.remove("out", "out.part")
         words = [sys.executable, TOP / "docs" / "restore.py", name, "out"]
-        return subprocess.run(words, cwd=self.room, input=passphrase, capture_output=True, start_new_session=True)
+        return process.run(words, cwd=self.room, input=passphrase, capture_output=True, start_new_session=True)
 
     def encrypt(self, text):
         self.write("pass", b"correct horse\n")
@@ -52,7 +52,7 @@ class RestoreTest(Case):
         self.write("in.part", whole)
         for what, out in (("IN is OUT.part", "in"), ("IN is OUT", "in.part")):
             words = [sys.executable, TOP / "docs" / "restore.py", "in.part", out]
-            ended = subprocess.run(words, cwd=self.room, input=b"correct horse\n", capture_output=True, start_new_session=True)
+            ended = process.run(words, cwd=self.room, input=b"correct horse\n", capture_output=True, start_new_session=True)
             self.see(what, ended.returncode == 1 and self.read("in.part") == whole and b"exists" in ended.stderr, ended.stderr)
 
     def test_vectors(self):

@@ -4,6 +4,7 @@ import pathlib
 import random
 import subprocess
 
+from tests import process
 from tests.case import feed
 from tests.format.case import FILE_ID, KEY, LONG, POSITIONS, KnownFilesCase, file_of, letters, position
 from tests.standard import CHUNK
@@ -72,7 +73,7 @@ class ResumeTest(KnownFilesCase):
         self.write("old", old)
         self.remove("out", "position")
         words = "resume", "--position", "saved", "--old", "old", "--file-key", KEY.hex(), "--save", "position", name, "out"
-        with subprocess.Popen([self.program, *words], cwd=self.room, stdin=stdin, stderr=subprocess.PIPE) as run:
+        with process.Popen([self.program, *words], cwd=self.room, stdin=stdin, stderr=subprocess.PIPE) as run:
             os.waitid(os.P_PID, run.pid, os.WEXITED | os.WNOWAIT)
             count = int(pathlib.Path(f"/proc/{run.pid}/io").read_text().split()[1])
             said = run.stderr.read()

@@ -9,6 +9,7 @@ import subprocess
 import sys
 import tempfile
 
+from tests import process
 from tests.library import test_go
 from tests.case import Case, needs
 from tools.libraries import kit
@@ -57,14 +58,14 @@ class ArmTest(Case):
         cls.addClassCleanup(made.cleanup)
         cls.made = pathlib.Path(made.name)
         env = {**os.environ, "TARGET": TARGET}
-        subprocess.run([TOP / "bindings/build"], env=env, check=True, stdout=subprocess.DEVNULL)
-        subprocess.run([TOP / "release/static", cls.made / "shared", cls.made / "static"], env=env, check=True, stdout=subprocess.DEVNULL)
+        process.run([TOP / "bindings/build"], env=env, check=True, stdout=subprocess.DEVNULL)
+        process.run([TOP / "release/static", cls.made / "shared", cls.made / "static"], env=env, check=True, stdout=subprocess.DEVNULL)
         # What stands for the program where a test wants one.
         (cls.made / "age_tool").write_text(f"#!/bin/sh\nexec {QEMU} '{cls.made}/static' \"$@\"\n")
         (cls.made / "age_tool").chmod(0o755)
 
     def arm(self, *words, **more):
-        return subprocess.run([QEMU, self.made / "static", *words], cwd=self.room, capture_output=True, **more)
+        return process.run([QEMU, self.made / "static", *words], cwd=self.room, capture_output=True, **more)
 
     def test_numbers(self):
         """The constants and structs of the kit's libc are those of C's headers for ARM."""
@@ -73,7 +74,7 @@ class ArmTest(Case):
         constants = [*asserted_constants((sources / "lib.rt").read_text())]
         layouts = [*asserted_layouts((sources / "types.rt").read_text())]
         self.write("numbers.c", "\n".join(["#define _GNU_SOURCE", *lines, *constants, *layouts]).encode())
-        ran = subprocess.run([CC, "-fsyntax-only", self.path("numbers.c")], capture_output=True, text=True)
+        ran = process.run([CC, "-fsyntax-only", self.path("numbers.c")], capture_output=True, text=True)
         self.see(f"{len(constants)} constants, {len(layouts)} lines on structs", ran.returncode == 0, ran.stderr)
         for name in ("O_CREAT", "O_CLOEXEC", "ENAMETOOLONG", "STATX_BASIC_STATS", "stx_mode", "stx_mnt_id"):
             self.see(f"{name} is among them", any(f'"{name}"' in it for it in constants + layouts))
@@ -84,16 +85,16 @@ class ArmTest(Case):
     def test_forms(self):
         """Both programs and the library are for ARM, for pages of 64 KiB; the library needs old symbols alone."""
         for name in ("static", "shared"):
-            head = subprocess.run(["readelf", "-hlW", self.made / name], capture_output=True, text=True).stdout
+            head = process.run(["readelf", "-hlW", self.made / name], capture_output=True, text=True).stdout
             self.see(f"{name} is for ARM", "AArch64" in head)
             loads = [int(it.split()[-1], 16) for it in head.splitlines() if it.strip().startswith("LOAD")]
             self.see(f"{name}: pages of 64 KiB", loads and min(loads) >= 65_536, loads)
             self.see(f"{name}: the loader", ("INTERP" in head) == (name == "shared"))
         for name, versions in (("libagefile.so.2", {"GLIBC_2.17", "GLIBC_2.25"}),):
             library = TOP / "bindings/out/aarch64" / name
-            loads = subprocess.run(["readelf", "-lW", library], capture_output=True, text=True).stdout
+            loads = process.run(["readelf", "-lW", library], capture_output=True, text=True).stdout
             self.see(f"{name}: pages of 64 KiB", all(int(it.split()[-1], 16) >= 65_536 for it in loads.splitlines() if it.strip().startswith("LOAD")), loads)
-            symbols = subprocess.run(["readelf", "--dyn-syms", "-W", library], capture_output=True, text=True).stdout
+            symbols = process.run(["readelf", "--dyn-syms", "-W", library], capture_output=True, text=True).stdout
             self.see(f"{name}: {versions}", {*re.findall(r"GLIBC_[0-9.]+", symbols)} == versions, symbols)
 
     def test_both_ways(self):
@@ -121,7 +122,7 @@ class ArmTest(Case):
         self.assertEqual(self.tool("encrypt", "--pass", "pass", "--log", "10", "plain", "sealed").returncode, 0)
         words = [QEMU, "-L", "/usr/aarch64-linux-gnu", TOP / "bindings/out/aarch64/decrypt", "pass"]
         with open(self.path("sealed"), "rb") as sealed:
-            ran = subprocess.run(words, cwd=self.room, stdin=sealed, capture_output=True)
+            ran = process.run(words, cwd=self.room, stdin=sealed, capture_output=True)
         self.see("the C example", ran.returncode == 0 and ran.stdout == self.read("plain"), ran.stderr)
 
     @needs("go")
@@ -132,20 +133,20 @@ class ArmTest(Case):
         shutil.copy(TOP / "bindings/out/aarch64/libagefile.a", module / "libagefile_arm64.a")
         test_go.write_user(user, "../go")
         env = {**os.environ, "GOOS": "linux", "GOARCH": "arm64", "CGO_ENABLED": "1", "CC": CC, "GOPROXY": "off", "GOFLAGS": "-mod=mod", "GOTOOLCHAIN": "local"}
-        built = subprocess.run(["go", "build", "-o", self.path("by-go"), "."], cwd=user, env=env, capture_output=True, text=True)
+        built = process.run(["go", "build", "-o", self.path("by-go"), "."], cwd=user, env=env, capture_output=True, text=True)
         self.see("the Go module is built for ARM", built.returncode == 0, built.stderr)
         self.write("pass", b"correct horse\n")
         self.write("plain", os.urandom(200_000))
         self.assertEqual(self.tool("encrypt", "--pass", "pass", "--log", "10", "plain", "sealed").returncode, 0)
         with open(self.path("sealed"), "rb") as sealed:
-            ran = subprocess.run([QEMU, "-L", "/usr/aarch64-linux-gnu", self.path("by-go"), "pass"], cwd=self.room, stdin=sealed, capture_output=True)
+            ran = process.run([QEMU, "-L", "/usr/aarch64-linux-gnu", self.path("by-go"), "pass"], cwd=self.room, stdin=sealed, capture_output=True)
         self.see("and decrypts", ran.returncode == 0 and ran.stdout == self.read("plain"), ran.stderr)
 
     def test_suites(self):
         """Other files of tests, over the program for ARM."""
         for name in ("test_transcripts", "test_headers", "test_cctv"):
             env = {**os.environ, "AGE_TOOL": str(self.made / "age_tool")}
-            ran = subprocess.run([sys.executable, "-m", "tests.counted", name], cwd=TOP, env=env, stdout=subprocess.PIPE, stderr=subprocess.STDOUT, text=True)
+            ran = process.run([sys.executable, "-m", "tests.counted", name], cwd=TOP, env=env, stdout=subprocess.PIPE, stderr=subprocess.STDOUT, text=True)
             found = re.search(r"(\d+) passed, (\d+) failed", ran.stdout)
             self.see(f"{name}: {found and found[0]}", found and found[2] == "0", ran.stdout[-3000:])
             print(f"{name} on ARM: {found and found[0]}")

@@ -3,8 +3,8 @@ library's (tools/shim.c). Such a test passes if each call that takes memory give
 changes nothing, and gives it the next time. The tests are those that `rt ci` or `rt test` built last.
 
 The engines are tried by test_memory, in the built program."""
-import subprocess
 
+from tests import process
 from tests.case import Case, needs
 from tools import shim
 from tools.workspace import CRATES
@@ -23,7 +23,7 @@ class AllocationsTest(Case):
             turn += 1
             self.remove("count")
             env = shim.loaded(REFUSED=turn, COUNT=self.path("count"))
-            run = subprocess.run([program, f"tests::{test}"], env=env, capture_output=True, text=True)
+            run = process.run([program, f"tests::{test}"], env=env, capture_output=True, text=True)
             self.assertEqual(run.returncode, 0, (turn, run.stdout, run.stderr))
             was_refused = self.is_there("count")
         # (a test that takes no memory shows nothing)

@@ -10,6 +10,7 @@ import subprocess
 import sys
 import tempfile
 
+from tests import process
 from tests.bindings import BLOCK, KEY, LENGTHS, BindingsCase, agefile, by_python, fault_in, flipped, plain_of, setUpModule
 from tests.case import needs
 from tools.workspace import LIBRARY, TOP
@@ -77,7 +78,7 @@ class ProgramsCase(BindingsCase):
     def by_c(self, data, size=65_536, word="pw", program=()):
         """The status, the fault and the text of a file by the C program, which reads this many bytes at a time."""
         words = [*(program or [LIBRARY / "decrypt"]), word, str(size)]
-        run = subprocess.run(words, cwd=self.room, input=data, capture_output=True)
+        run = process.run(words, cwd=self.room, input=data, capture_output=True)
         return (run.returncode, fault_in(run.stderr)), run.stdout
 
     def see_reports(self, what, program, prefix=None, texts=MEANINGS):
@@ -88,7 +89,7 @@ class ProgramsCase(BindingsCase):
             ("pw", data[:-5], "17 ChunkDamaged", "chunk 1"), ("pw", data + b"0", "21 Trailing", ""), ("pw", data[:50], "254 HeaderOrNonceCut", ""),
             ("pw", b"x\n", "1 NotAge", ""),
         ):
-            run = subprocess.run([program, word], cwd=self.room, input=file, capture_output=True)
+            run = process.run([program, word], cwd=self.room, input=file, capture_output=True)
             said = run.stderr.decode().partition(": ")[2]
             line = f"{fault} {place}".strip() if prefix is None else f"{prefix}{texts[fault]} ({fault}{place and ', ' + place})"
             self.see(f"{what}: {fault}", (run.returncode, said) == (1, line + "\n"), run.stderr)
@@ -98,10 +99,10 @@ class ProgramsCase(BindingsCase):
         for length in (1, 200_000):
             self.write("whole", self.sealed(plain_of(length)))
             with open(self.path("whole"), "rb") as file, open("/dev/full", "wb") as full:
-                run = subprocess.run([program, "pw"], cwd=self.room, stdin=file, stdout=full, stderr=subprocess.PIPE)
+                run = process.run([program, "pw"], cwd=self.room, stdin=file, stdout=full, stderr=subprocess.PIPE)
             self.see(f"{what}: {length} bytes to a full disk", run.returncode in (1, 2) and run.stderr, run.returncode)
         folder = os.open(self.room, os.O_RDONLY)
-        run = subprocess.run([program, "pw"], cwd=self.room, stdin=folder, capture_output=True)
+        run = process.run([program, "pw"], cwd=self.room, stdin=folder, capture_output=True)
         os.close(folder)
         self.see(f"{what}: a folder", run.returncode in (1, 2) and run.stderr and not run.stdout, run.returncode)
 
@@ -178,7 +179,7 @@ class FilesTest(ProgramsCase):
                 os.truncate(self.path("in"), length)
                 self.tool("encrypt", "--pass", "pw", "--log", "1", "--no-sync", "in", "long")
                 with open(self.path("long"), "rb") as file:
-                    run = subprocess.Popen(words, cwd=self.room, stdin=file, stdout=subprocess.DEVNULL)
+                    run = process.Popen(words, cwd=self.room, stdin=file, stdout=subprocess.DEVNULL)
                     _, status, used = os.wait4(run.pid, 0)
                     run.returncode = status
                 self.see(f"{what}: {length} bytes: status {status}", status == 0)
@@ -201,7 +202,7 @@ class CTest(ProgramsCase):
                 to = pathlib.Path(made.name) / f"{name}-{kind}"
                 words = ["cc", *flags, "-pthread", *WRAPPED.get(name, []), "-o", to, source, *inner, LIBRARY / "libagefile.a"]
                 # (the sanitizers aren't everywhere)
-                if subprocess.run(words, check=kind == "plain", capture_output=True).returncode == 0:
+                if process.run(words, check=kind == "plain", capture_output=True).returncode == 0:
                     cls.made[kind, name] = to
 
     def made_by(self, kind, name):
@@ -212,7 +213,7 @@ class CTest(ProgramsCase):
 
     def succeeds(self, what, words):
         """Counts whether a program ends with 0."""
-        run = subprocess.run(words, cwd=self.room, capture_output=True, text=True)
+        run = process.run(words, cwd=self.room, capture_output=True, text=True)
         self.see(what, run.returncode == 0, run.returncode, run.stdout[-500:], run.stderr[-2000:])
 
     def see_checks(self, kind):
@@ -240,7 +241,7 @@ class CTest(ProgramsCase):
         """The address sanitizer reports an object that is used after it was freed, whichever call does so."""
         made = self.made_by("sanitized", "freed")
         for how in ("no", "encode", "decode", "begin", "free"):
-            run = subprocess.run([made, how], capture_output=True, text=True)
+            run = process.run([made, how], capture_output=True, text=True)
             self.see(f"freed, and then: {how}", ("heap-use-after-free" in run.stderr) == (run.returncode != 0) == (how != "no"), run.stderr[-2000:])
 
     @needs("valgrind")
@@ -253,7 +254,7 @@ class CTest(ProgramsCase):
     def test_salvage(self):
         """bindings/c/salvage.c: two chunks of four are damaged, the end is cut, and another passphrase."""
         made = self.path("salvage")
-        subprocess.run(["cc", *STRICT, "-O1", "-o", made, SOURCES / "salvage.c", LIBRARY / "libagefile.a"], check=True)
+        process.run(["cc", *STRICT, "-O1", "-o", made, SOURCES / "salvage.c", LIBRARY / "libagefile.a"], check=True)
         text = plain_of(200_000)
         data = bytearray(self.sealed(text))
         begin = len(data) - 200_000 - 4 * 16
@@ -273,7 +274,7 @@ class CTest(ProgramsCase):
             ("another passphrase", "other", data, (1, b"", "salvage: 13 WrongKey\n")),
             ("a passphrase that is too long", "long", data, (1, b"", "salvage: 255 Misused\n")),
         ):
-            run = subprocess.run([made, word], cwd=self.room, input=given, capture_output=True)
+            run = process.run([made, word], cwd=self.room, input=given, capture_output=True)
             self.see(f"salvage.c: {what}", (run.returncode, run.stdout, run.stderr.decode()) == want, run.returncode, run.stderr)
         self.see_streams_that_fail("salvage.c", made)
 
@@ -283,13 +284,13 @@ class CTest(ProgramsCase):
         library, as this compiler made it, and not proved. valgrind's memcheck reports what depends on bytes that are marked as undefined."""
         made = self.path("secrets")
         words = ["cc", "-O1", *FLAGS, "-o", made, SOURCES / "tests" / "secrets.c", LIBRARY / "libagefile.a"]
-        run = subprocess.run(words, capture_output=True, text=True)
+        run = process.run(words, capture_output=True, text=True)
         if run.returncode != 0 and "memcheck.h" in run.stderr:
             self.leave_out("secrets", "needs valgrind's memcheck.h")
             return
         self.see("the program", run.returncode == 0, run.stderr)
         for what, (least, most) in SECRETS.items():
-            run = subprocess.run(["valgrind", "--error-limit=no", made, what], capture_output=True, text=True)
+            run = process.run(["valgrind", "--error-limit=no", made, what], capture_output=True, text=True)
             found = re.search(r"ERROR SUMMARY: \d+ errors from (\d+) contexts", run.stderr)
             places = int(found[1]) if found else -1
             self.see(f"secrets in {what}: {places} places", run.returncode == 0 and least <= places <= most, run.stdout, run.stderr[-3000:])
@@ -297,7 +298,7 @@ class CTest(ProgramsCase):
     def test_stack(self):
         self.write("file", self.sealed(plain_of(70_000)))
         made = self.path("stack")
-        subprocess.run(["cc", *FLAGS, "-o", made, SOURCES / "tests" / "stack.c", LIBRARY / "libagefile.a", "-lpthread"], check=True)
+        process.run(["cc", *FLAGS, "-o", made, SOURCES / "tests" / "stack.c", LIBRARY / "libagefile.a", "-lpthread"], check=True)
         self.succeeds("stack", [made, "file"])
 
     @needs("c++")
@@ -309,7 +310,7 @@ class CTest(ProgramsCase):
     def damage(self, *words):
         """Damages files at random: how that ended, and how often each rule didn't hold."""
         program = self.made.get(("sanitized", "damage")) or self.made["plain", "damage"]
-        run = subprocess.run([program, *words], capture_output=True, text=True)
+        run = process.run([program, *words], capture_output=True, text=True)
         return run, {rule: int(times) for times, rule in re.findall(r"^wrong (\d+) times: (.*)$", run.stdout, re.M)}
 
     def test_damaged(self):
@@ -349,10 +350,10 @@ class CTest(ProgramsCase):
         words = ["cc", *STRICT, "-x", "c", "-", "-o", self.path("names")]
         program = '#include "agefile.h"\n#include <stdio.h>\nint main(void) { for (int i = -1; i < 257; i++) ' \
             'printf("%d %s %d %s\\n", i, agefile_fault_name(i), agefile_fault_kind(i), agefile_fault_text(i)); }\n'
-        run = subprocess.run([*words, "-x", "none", LIBRARY / "libagefile.a"], input=program, capture_output=True, text=True)
+        run = process.run([*words, "-x", "none", LIBRARY / "libagefile.a"], input=program, capture_output=True, text=True)
         self.see("the names of the faults", run.returncode == 0, run.stderr)
         if run.returncode == 0:
-            printed = [it.split(" ", 3) for it in subprocess.run([self.path("names")], capture_output=True, text=True).stdout.splitlines()]
+            printed = [it.split(" ", 3) for it in process.run([self.path("names")], capture_output=True, text=True).stdout.splitlines()]
             self.see("the names of the faults", {int(it[0]): it[1] for it in printed if it[1] != "Unknown"} == named, printed)
             kinds = {name: {int(it[0]) for it in printed if it[2] == str(kind) and it[1] != "Unknown"} for kind, name in enumerate(KINDS)}
             self.see("the kinds of the faults", kinds == KINDS, kinds)
@@ -363,11 +364,11 @@ class CTest(ProgramsCase):
             ("a field", "e->held = 0;", 1), ("a field of a decoder", "d->reader.state = 1;", 1), ("a copy", "agefile_encoder other = *e; (void)other;", 1),
             ("an object of the caller's", "memset(e, 0, sizeof *e);", 1), ("calls", "agefile_encoder_free(e), agefile_decoder_free(d);", 0),
         ):
-            run = subprocess.run([*words[:-1], "/dev/null", "-c"], input=forgotten.format(line), capture_output=True, text=True)
+            run = process.run([*words[:-1], "/dev/null", "-c"], input=forgotten.format(line), capture_output=True, text=True)
             self.see(f"a program that uses {what}", run.returncode == status and (status == 0 or "incomplete" in run.stderr), run.stderr)
         ignored = '#include "agefile.h"\nvoid f(agefile_encoder *e, void *b, size_t *w) {{ {0}agefile_encode_end(e, b, 0, w){1}; }}\n'
         for what, how, status in (("ignored", ("", ""), 1), ("looked at", ("if (", ") {}"), 0)):
-            run = subprocess.run([*words[:-1], "/dev/null", "-c"], input=ignored.format(*how), capture_output=True, text=True)
+            run = process.run([*words[:-1], "/dev/null", "-c"], input=ignored.format(*how), capture_output=True, text=True)
             self.see(f"an answer that is {what}", run.returncode == status and (status == 0 or "agefile_encode_end" in run.stderr), run.stderr)
 
     def test_sample(self):
@@ -380,14 +381,14 @@ class CTest(ProgramsCase):
         program = '#include "agefile.h"\n#include <stdio.h>\n#include <string.h>\n' + f"{begin}\n{sample}\n{end}\nreturn answer != 0; }}\n"
         self.path("sample.c").write_text(program)
         words = ["cc", *STRICT, "-o", self.path("sample"), self.path("sample.c")]
-        run = subprocess.run([*words, LIBRARY / "libagefile.a"], capture_output=True, text=True)
+        run = process.run([*words, LIBRARY / "libagefile.a"], capture_output=True, text=True)
         self.see("the sample in agefile.h", run.returncode == 0, run.stderr)
         if run.returncode == 0:
             for length in (*LENGTHS, 1_200_000):
                 text = plain_of(length)
-                run = subprocess.run([self.path("sample"), "pw"], input=self.sealed(text), capture_output=True)
+                run = process.run([self.path("sample"), "pw"], input=self.sealed(text), capture_output=True)
                 self.see(f"the sample in agefile.h: {length} bytes", (run.returncode, run.stdout) == (0, text), run.stderr)
-            run = subprocess.run([self.path("sample"), "pw"], input=self.sealed(text)[:-1], capture_output=True)
+            run = process.run([self.path("sample"), "pw"], input=self.sealed(text)[:-1], capture_output=True)
             is_cut = (run.returncode, run.stderr, run.stdout) == (1, b"17 ChunkDamaged\n", text[:18 * 65_536])
             self.see("the sample in agefile.h, a cut file", is_cut, run.stderr)
 
@@ -395,12 +396,12 @@ class CTest(ProgramsCase):
         """A C program that is linked with the shared library, which is found by the name that it was given."""
         made = self.path("decrypt-shared")
         words = ["cc", INCLUDE, "-o", made, SOURCES / "decrypt.c", f"-L{LIBRARY}", "-lagefile", f"-Wl,-rpath,{LIBRARY}"]
-        run = subprocess.run(words, capture_output=True, text=True)
+        run = process.run(words, capture_output=True, text=True)
         self.see("linking with the shared library", run.returncode == 0, run.stderr)
-        taken = subprocess.run(["nm", "-D", "--undefined-only", "-j", LIBRARY / "libagefile.so"], capture_output=True, text=True).stdout.split()
+        taken = process.run(["nm", "-D", "--undefined-only", "-j", LIBRARY / "libagefile.so"], capture_output=True, text=True).stdout.split()
         allowed = {"malloc", "realloc", "free", "memcpy", "memmove", "memset", "explicit_bzero", "getrandom", "__errno_location"}
         self.see(f"the shared library calls {taken}, not {allowed}", {it.partition("@")[0] for it in taken} == allowed)
-        shown = subprocess.run(["nm", "-D", "--defined-only", "-j", LIBRARY / "libagefile.so"], capture_output=True, text=True).stdout.split()
+        shown = process.run(["nm", "-D", "--defined-only", "-j", LIBRARY / "libagefile.so"], capture_output=True, text=True).stdout.split()
         shown = [it.partition("@")[0] for it in shown if it != "AGEFILE_2"]
         promised = re.findall(r"(?m)^(\w+) [0-9.]+$", (SOURCES / "agefile.symbols").read_text())
         header = (TOP / "include" / "agefile.h").read_text()
@@ -415,17 +416,17 @@ class CTest(ProgramsCase):
         ):
             self.assertIn(old, header)
             self.write("agefile.h", header.replace(old, new, 1).encode())
-            ran = subprocess.run(words, capture_output=True, text=True)
+            ran = process.run(words, capture_output=True, text=True)
             self.see(f"what a program of 2.0.0 knows of agefile.h, {what}", (ran.returncode == 0) == (not old), ran.stderr)
-        sections = subprocess.run(["objdump", "-h", LIBRARY / "libagefile.so"], capture_output=True, text=True).stdout.split()
+        sections = process.run(["objdump", "-h", LIBRARY / "libagefile.so"], capture_output=True, text=True).stdout.split()
         # (.data.rel.ro is for reading, once it is linked)
         self.see("memory that calls in two threads could share", ".text" in sections and not {".data", ".bss", ".tdata", ".tbss"} & {*sections}, sections)
-        symbols = subprocess.run(["objdump", "-T", LIBRARY / "libagefile.so"], capture_output=True, text=True).stdout
+        symbols = process.run(["objdump", "-T", LIBRARY / "libagefile.so"], capture_output=True, text=True).stdout
         versions = [tuple(map(int, it.split("."))) for it in re.findall(r"\(GLIBC_([\d.]+)\)", symbols)]
         said = re.search(r"libc=(\d+)\.(\d+)", (TOP / "release" / "packages").read_text())
         self.see(f"the shared library needs of glibc {versions}", versions and max(versions) == tuple(map(int, said.groups())))
         if run.returncode == 0:
-            needed = subprocess.run(["ldd", made], capture_output=True, text=True).stdout
+            needed = process.run(["ldd", made], capture_output=True, text=True).stdout
             self.see("the shared library isn't used", f"libagefile.so.2 => {LIBRARY}/libagefile.so.2" in needed, needed)
             text = plain_of(70_000)
             self.see("by the shared library", self.by_c(self.sealed(text), program=(made,)) == ((0, (0, None)), text))
@@ -434,7 +435,7 @@ class CTest(ProgramsCase):
     def test_x25519(self):
         """bindings/c/x25519.c, over libsodium: what it writes to a recipient of age-keygen age reads, and the other way round."""
         made = self.path("x25519")
-        run = subprocess.run(["cc", *STRICT, "-O1", "-o", made, SOURCES / "x25519.c", LIBRARY / "libagefile.a", "-lsodium"], capture_output=True, text=True)
+        run = process.run(["cc", *STRICT, "-O1", "-o", made, SOURCES / "x25519.c", LIBRARY / "libagefile.a", "-lsodium"], capture_output=True, text=True)
         if run.returncode != 0 and ("sodium.h" in run.stderr or "-lsodium" in run.stderr):
             return self.leave_out("x25519.c", "needs libsodium")
         self.see("x25519.c", run.returncode == 0, run.stderr)
@@ -442,19 +443,19 @@ class CTest(ProgramsCase):
         self.see(f"x25519.c has {lines} lines", lines <= 80)
         keys = []
         for name in ("own key", "other key"):
-            subprocess.run(["age-keygen", "-o", self.path(name)], check=True, capture_output=True)
+            process.run(["age-keygen", "-o", self.path(name)], check=True, capture_output=True)
             keys.append(re.findall(r"age1\w+|AGE-SECRET-KEY-1\w+", self.read(name).decode()))
         (recipient, identity), (_, stranger) = keys
         for length in LENGTHS:
             text = plain_of(length)
             self.write("in", text)
-            file = subprocess.run([made, recipient], input=text, capture_output=True).stdout
-            back = subprocess.run(["age", "-d", "-i", self.path("own key")], input=file, capture_output=True)
+            file = process.run([made, recipient], input=text, capture_output=True).stdout
+            back = process.run(["age", "-d", "-i", self.path("own key")], input=file, capture_output=True)
             self.see(f"age reads {length} bytes of it", back.stdout == text and back.returncode == 0, back.stderr)
-            self.see(f"it reads {length} bytes of its own", subprocess.run([made, identity], input=file, capture_output=True).stdout == text)
-            many = subprocess.run(["age", "-r", keys[1][0], "-r", recipient, "-o", "-"], input=text, capture_output=True).stdout
-            self.see(f"it reads {length} bytes of age", subprocess.run([made, identity], input=many, capture_output=True).stdout == text)
-            ended = subprocess.run([made, stranger], input=file, capture_output=True)
+            self.see(f"it reads {length} bytes of its own", process.run([made, identity], input=file, capture_output=True).stdout == text)
+            many = process.run(["age", "-r", keys[1][0], "-r", recipient, "-o", "-"], input=text, capture_output=True).stdout
+            self.see(f"it reads {length} bytes of age", process.run([made, identity], input=many, capture_output=True).stdout == text)
+            ended = process.run([made, stranger], input=file, capture_output=True)
             self.see("another identity", (ended.returncode, ended.stdout) == (1, b"") and b" 13 WrongKey" in ended.stderr, ended.stderr)
         for word in (recipient[:-1] + ("q" if recipient[-1] != "q" else "p"), recipient.upper(), identity[:-1], "", "age1"):
-            self.see(f"no key: {word}", subprocess.run([made, word], input=b"", capture_output=True).returncode == 2)
+            self.see(f"no key: {word}", process.run([made, word], input=b"", capture_output=True).returncode == 2)

@@ -3,10 +3,10 @@ which the corpus alone has to find. AGE_FUZZED is how many seconds each fuzzer t
 import os
 import re
 import shutil
-import subprocess
 
+from tests import built, process
 from tests.case import Case, needs
-from tools.workspace import LIBRARY, TOP, library
+from tools.workspace import LIBRARY, TOP
 
 RUN = TOP / "bindings" / "c" / "fuzz" / "run"
 SOURCES = TOP / "bindings" / "c"
@@ -29,12 +29,12 @@ class FuzzTest(Case):
 
     @classmethod
     def setUpClass(cls):
-        library()
+        built.library()
 
     def fuzz(self, *words, **env):
         """A run of the fuzzers; the test is left out if they can't be compiled."""
         seed = os.environ.get("AGE_SEED") or "1"
-        run = subprocess.run([RUN, *words], cwd=self.room, env={**os.environ, "AGE_C_DIR": str(LIBRARY), "SEED": seed, **env}, capture_output=True, text=True)
+        run = process.run([RUN, *words], cwd=self.room, env={**os.environ, "AGE_C_DIR": str(LIBRARY), "SEED": seed, **env}, capture_output=True, text=True)
         if run.returncode and ("openssl/" in run.stderr or "-lcrypto" in run.stderr or "libclang_rt" in run.stderr):
             self.skipTest("needs libFuzzer and OpenSSL's headers")
         return run

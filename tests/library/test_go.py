@@ -8,6 +8,7 @@ import shutil
 import subprocess
 import unittest
 
+from tests import process
 from tests.bindings import setUpModule
 from tests.case import needs
 from tests.library.test_languages import ModulesCase
@@ -100,15 +101,15 @@ class GoTest(ModulesCase):
     def test_fetched(self):
         """`go get` takes the packed module from a folder, in an environment that has no repository and no kit; and its program decrypts."""
         folder, home = self.path("proxy"), self.path("home")
-        subprocess.run([TOP / "release" / "go", folder], check=True, stdout=subprocess.DEVNULL, env={**os.environ, "SOURCE_DATE_EPOCH": "1800000000"})
+        process.run([TOP / "release" / "go", folder], check=True, stdout=subprocess.DEVNULL, env={**os.environ, "SOURCE_DATE_EPOCH": "1800000000"})
         user = self.path("new")
         user.mkdir()
         (user / "main.go").write_text(sample())
         env = {"PATH": "/usr/local/go/bin:/usr/bin:/bin", "HOME": str(home), "GOPROXY": f"file://{folder}/goproxy", "GONOSUMDB": go_module(),
                "GOFLAGS": "-modcacherw", "GOTOOLCHAIN": "local", "GOCACHE": self.env["GOCACHE"]}
         for words in ("go mod init new", f"go get {go_module()}", "go build -o decrypt ."):
-            run = subprocess.run(words.split(), cwd=user, env=env, capture_output=True, text=True)
+            run = process.run(words.split(), cwd=user, env=env, capture_output=True, text=True)
             self.assertEqual(run.returncode, 0, (words, run.stderr))
         self.see_example("the fetched module", user / "decrypt", "agefile: ", TEXTS)
-        found = subprocess.run(["go", "list", "-m", "-f", "{{.Dir}}", go_module()], cwd=user, env=env, capture_output=True, text=True).stdout.strip()
+        found = process.run(["go", "list", "-m", "-f", "{{.Dir}}", go_module()], cwd=user, env=env, capture_output=True, text=True).stdout.strip()
         self.see("it is the one of the proxy", found.startswith(str(home)), found)

@@ -4,9 +4,9 @@ import os
 import pathlib
 import re
 import shutil
-import subprocess
 import sys
 
+from tests import process
 from tests.bindings import LENGTHS, PYTHON, plain_of, setUpModule
 from tests.case import needs
 from tests.library.test_c import MEANINGS, STRICT, ProgramsCase
@@ -37,7 +37,7 @@ class ModulesCase(ProgramsCase):
     def succeed(self, what, folder, env, *commands):
         """Counts for each command whether it succeeds; the test ends if one doesn't."""
         for words in commands:
-            run = subprocess.run(words, cwd=folder, env={**os.environ, **env}, capture_output=True, text=True)
+            run = process.run(words, cwd=folder, env={**os.environ, **env}, capture_output=True, text=True)
             self.assertEqual(run.returncode, 0, (words, (run.stdout + run.stderr)[-2000:]))
             self.see(f"{what}: {' '.join(map(str, words))}", True)
 
@@ -46,9 +46,9 @@ class ModulesCase(ProgramsCase):
         for length in LENGTHS:
             text = plain_of(length)
             data = self.sealed(text)
-            run = subprocess.run([program, "pw"], cwd=self.room, input=data, capture_output=True)
+            run = process.run([program, "pw"], cwd=self.room, input=data, capture_output=True)
             self.see(f"{what}: {length} bytes", (run.returncode, run.stdout) == (0, text), run.stderr[-300:])
-            run = subprocess.run([program, "pw"], cwd=self.room, input=data[:-1], capture_output=True)
+            run = process.run([program, "pw"], cwd=self.room, input=data[:-1], capture_output=True)
             is_cut = text.startswith(run.stdout) and len(run.stdout) <= length // 65_536 * 65_536
             self.see(f"{what}: {length} bytes, cut", run.returncode == 1 and is_cut)
         self.see_reports(what, program, prefix, texts)
@@ -58,7 +58,7 @@ class ModulesCase(ProgramsCase):
         """The program in bindings/README.md, over a file that age made: the text and the last bytes of it, as the language writes them."""
         shutil.copy(TOP / "bindings" / "tests" / "age" / "passphrase.age", self.path("notes.age"))
         env = {**os.environ, "PYTHONPATH": str(PYTHON), "PYTHONDONTWRITEBYTECODE": "1"}
-        run = subprocess.run(words, cwd=self.room, env=env, capture_output=True)
+        run = process.run(words, cwd=self.room, env=env, capture_output=True)
         text = b"hello, passphrase\n"
         self.see(f"the sample in {what}", run.returncode == 0 and run.stdout in (text + last, last + text), run.stdout, run.stderr)
 
@@ -73,7 +73,7 @@ class ModulesCase(ProgramsCase):
         data = self.path("notes.age").read_bytes()
         for end in (len(data) - 3, len(data) - 18 - 16):
             self.write("notes.age", data[:end])
-            run = subprocess.run(words, cwd=self.room, capture_output=True, text=True)
+            run = process.run(words, cwd=self.room, capture_output=True, text=True)
             self.see(f"the sample in {what}, cut", run.returncode == 1 and run.stderr.startswith(said), run.stderr)
 
 
@@ -89,7 +89,7 @@ class LanguagesTest(ModulesCase):
         self.succeed("C", self.room, {}, words)
         shutil.copy(TOP / "bindings" / "tests" / "age" / "passphrase.age", self.path("notes.age"))
         text = plain_of(200_000)
-        run = subprocess.run([self.path("sample-c")], cwd=self.room, input=text, capture_output=True)
+        run = process.run([self.path("sample-c")], cwd=self.room, input=text, capture_output=True)
         self.see("the sample in C", (run.returncode, run.stdout) == (0, b"rase\n"), run.stderr)
         self.see_copy("C", text)
         # (from here on with little work)
@@ -100,11 +100,11 @@ class LanguagesTest(ModulesCase):
             self.tool(*"encrypt --pass horse --log 1 --no-sync in notes.age".split(), check=True)
             self.path("sample.c").write_text(sample_of("c").replace("horse\", 13);", "horse\", 13);\n    key.work = 1;").replace("from, 13,", f"from, {place},"))
             self.succeed("C", self.room, {}, words)
-            run = subprocess.run([self.path("sample-c")], cwd=self.room, input=b"", capture_output=True)
+            run = process.run([self.path("sample-c")], cwd=self.room, input=b"", capture_output=True)
             self.see(f"the sample in C from {place} of {length}", (run.returncode, run.stdout) == (0, text[place:]), run.stderr)
             self.see_copy("C", b"")
         self.path("notes.age").write_bytes(self.read("notes.age")[:-1])
-        run = subprocess.run([self.path("sample-c")], cwd=self.room, input=b"", capture_output=True)
+        run = process.run([self.path("sample-c")], cwd=self.room, input=b"", capture_output=True)
         self.see("the sample in C, cut", (run.returncode, run.stderr) == (1, b"17 ChunkDamaged\n"), run.stderr)
 
     def test_python(self):
@@ -170,11 +170,11 @@ class LanguagesTest(ModulesCase):
     def see_over_tokio(self, program):
         for length in LENGTHS:
             text = plain_of(length)
-            run = subprocess.run([program, "decrypt", "pw"], cwd=self.room, input=self.sealed(text), capture_output=True)
+            run = process.run([program, "decrypt", "pw"], cwd=self.room, input=self.sealed(text), capture_output=True)
             self.see(f"tokio decrypts {length} bytes", (run.returncode, run.stdout) == (0, text), run.stderr)
-            run = subprocess.run([program, "encrypt", "pw"], cwd=self.room, input=text, capture_output=True)
+            run = process.run([program, "encrypt", "pw"], cwd=self.room, input=text, capture_output=True)
             self.see(f"tokio encrypts {length} bytes", run.returncode == 0 and self.judged(run.stdout) == ((0, None), text), run.stderr)
-        run = subprocess.run([program, "decrypt", "pw"], cwd=self.room, input=self.sealed(text)[:-1], capture_output=True)
+        run = process.run([program, "decrypt", "pw"], cwd=self.room, input=self.sealed(text)[:-1], capture_output=True)
         self.see("tokio, cut", run.returncode == 1 and text.startswith(run.stdout) and b"17 ChunkDamaged" in run.stderr, run.stderr)
 
     @needs("cargo")
@@ -184,7 +184,7 @@ class LanguagesTest(ModulesCase):
         shutil.copytree(TOP / "bindings" / "rust", rust, ignore=shutil.ignore_patterns("target"))
         env = {name: value for name, value in os.environ.items() if name != "AGEFILE_DIR"}
         env |= {"PKG_CONFIG_PATH": "", "PKG_CONFIG_LIBDIR": str(self.path("none")), "CARGO_TERM_COLOR": "never"}
-        build = lambda: subprocess.run(["cargo", "build", "--offline", "--examples", "-v"], cwd=rust, env=env, capture_output=True, text=True)
+        build = lambda: process.run(["cargo", "build", "--offline", "--examples", "-v"], cwd=rust, env=env, capture_output=True, text=True)
         run = build()
         inside = f"{rust}/agefile-sys"
         words = f"warning: agefile-sys@2.0.0: libagefile isn't there ({inside}/lib/x86_64/libagefile.a, {inside}/../../out/libagefile.a, "

@@ -3,10 +3,10 @@ is that and nothing more, they decrypt."""
 import os
 import platform
 import shutil
-import subprocess
 import sys
 import unittest
 
+from tests import process
 from tests.library import test_go
 from tests.bindings import PYTHON, BindingsCase, plain_of, setUpModule
 from tests.case import needs
@@ -46,7 +46,7 @@ class ProcessorTest(BindingsCase):
         self.data = self.sealed(self.text)
 
     def on(self, processor, words, **more):
-        return subprocess.run([QEMU, "-cpu", processor, *words], cwd=self.room, input=self.data, capture_output=True, **more)
+        return process.run([QEMU, "-cpu", processor, *words], cwd=self.room, input=self.data, capture_output=True, **more)
 
     def see_refused(self, what, words, status, needed=NEEDED, **more):
         for processor in OLD:
@@ -60,7 +60,7 @@ class ProcessorTest(BindingsCase):
         for name, library in (("static", [LIBRARY / "libagefile.a"]), ("shared", [LIBRARY / "libagefile.so", f"-Wl,-rpath,{LIBRARY}"])):
             made = self.path(name)
             words = ["cc", "-std=c11", "-O1", f"-I{TOP / 'include'}", "-o", made, TOP / "bindings" / "c" / "decrypt.c", *library]
-            subprocess.run(words, check=True)
+            process.run(words, check=True)
             self.see_refused(f"C, {name}", [made, "pw"], 1, b"252 NoProcessor")
 
     def test_python(self):
@@ -71,7 +71,7 @@ class ProcessorTest(BindingsCase):
     def test_rust(self):
         to = LIBRARY / "target"
         words = ["cargo", "build", "--release", "--examples", "--offline", "--quiet", "--target-dir", to]
-        subprocess.run(words, cwd=TOP / "bindings" / "rust", env={**os.environ, "AGEFILE_DIR": str(LIBRARY)}, check=True, capture_output=True)
+        process.run(words, cwd=TOP / "bindings" / "rust", env={**os.environ, "AGEFILE_DIR": str(LIBRARY)}, check=True, capture_output=True)
         self.see_refused("Rust", [to / "release" / "examples" / "decrypt", "pw"], 1, b"isn't made for this processor (252 NoProcessor)")
 
     @needs("go")
@@ -83,7 +83,7 @@ class ProcessorTest(BindingsCase):
         (module / "processor_test.go").write_text(GO_TEST)
         test_go.write_user(user, "../go")
         for words, folder in ((["build", "-o", self.path("decrypt-go"), "."], user), (["test", "-c", "-o", self.path("tests-go"), "."], module)):
-            subprocess.run(["go", *words], cwd=folder, env=env, check=True, capture_output=True)
+            process.run(["go", *words], cwd=folder, env=env, check=True, capture_output=True)
         self.see_refused("Go", [self.path("decrypt-go"), "pw"], 1, b"(252 NoProcessor)")
         run = self.on(OLD[0], [self.path("tests-go"), "-test.run", "TestOldProcessor"])
         self.see("Go, what writes and what reads a header", run.returncode == 0, run.stdout)

@@ -8,7 +8,7 @@ import re
 import subprocess
 import sys
 
-from tests import bindings
+from tests import bindings, process
 from tests.bindings import PYTHON
 from tests.case import Case, needs
 from tools.workspace import LIBRARY, TOP
@@ -20,7 +20,7 @@ def pythons():
     """The interpreters, by their versions: each minor version once."""
     found = {}
     for it in [sys.executable, "/usr/bin/python3", *sorted(pathlib.Path.home().glob(".pyenv/versions/3.*/bin/python3"))]:
-        run = subprocess.run([it, "-c", "import sys, ctypes; print(sys.version_info[:2])"], capture_output=True, text=True)
+        run = process.run([it, "-c", "import sys, ctypes; print(sys.version_info[:2])"], capture_output=True, text=True)
         if run.returncode == 0 and ast.literal_eval(run.stdout) >= (3, 9):
             found.setdefault(ast.literal_eval(run.stdout), it)
     return found
@@ -48,7 +48,7 @@ class ThreadsOfTheirOwnTest(Case):
         runs = {}
         for version, it in pythons().items():
             words = [it, TOP / "tests" / "python" / "threads.py", PYTHON, LIBRARY / "libagefile.so", str(SECONDS)]
-            runs[version] = subprocess.Popen(words, env=env, stdout=subprocess.PIPE, stderr=subprocess.STDOUT, text=True)
+            runs[version] = process.Popen(words, env=env, stdout=subprocess.PIPE, stderr=subprocess.STDOUT, text=True)
         for (major, minor), run in runs.items():
             said, _ = run.communicate(timeout=600)
             count = re.search(r"^(\d+) calls, 0 wrong\n\Z", said, re.M)
@@ -64,10 +64,10 @@ class ThreadsOfTheirOwnTest(Case):
     def test_c(self):
         made, words = self.path("threads"), ["-std=c11", "-g", "-O1", f"-I{TOP / 'include'}", "-pthread"]
         source = [TOP / "bindings" / "c" / "tests" / "threads.c", LIBRARY / "libagefile.a"]
-        if subprocess.run(["cc", *words, "-fsanitize=thread", "-o", made, *source], capture_output=True).returncode != 0:
+        if process.run(["cc", *words, "-fsanitize=thread", "-o", made, *source], capture_output=True).returncode != 0:
             self.skipTest("needs the sanitizers")
         # (a kernel may draw addresses that it can't do with, and a container may refuse to let it draw none)
-        runs = [subprocess.run(it, capture_output=True, text=True) for it in ([made], ["setarch", "-R", made])]
+        runs = [process.run(it, capture_output=True, text=True) for it in ([made], ["setarch", "-R", made])]
         runs = [it for it in runs if it.returncode == 0 or "WARNING: ThreadSanitizer" in it.stderr or it.stdout]
         if not runs:
             self.skipTest("needs the sanitizers")

@@ -10,9 +10,9 @@ import tempfile
 import termios
 import time
 
+from tests import built, process
 from tests.bindings import PYTHON
 from tests.case import SECONDS, Case
-from tools import workspace
 
 MODULE = PYTHON / "agefile"
 
@@ -31,7 +31,7 @@ def release(folder, is_lighter=False):
     (top / "bin").mkdir(parents=True)
     module = top / "share" / "age_tool" / "agefile"
     shutil.copytree(MODULE, module, ignore=shutil.ignore_patterns("__pycache__", "age_tool"))
-    shutil.copy(workspace.program(), top / "bin" / ("proved" if is_lighter else "age_tool"))
+    shutil.copy(built.program(), top / "bin" / ("proved" if is_lighter else "age_tool"))
     if is_lighter:
         (top / "bin" / "age_tool").write_text(LIGHTER)
     for it in (top / "bin").iterdir():
@@ -58,7 +58,7 @@ def at_terminal(words, answers, **more):
     answers, shown, asked = [*answers], b"", b""
     with tempfile.TemporaryFile() as out, tempfile.TemporaryFile() as error:
         more = {"stdin": subprocess.DEVNULL, "stdout": out, "stderr": error} | more
-        run = subprocess.Popen(words, start_new_session=True, preexec_fn=lambda: fcntl.ioctl(terminal, termios.TIOCSCTTY, 0), pass_fds=[terminal],
+        run = process.Popen(words, start_new_session=True, preexec_fn=lambda: fcntl.ioctl(terminal, termios.TIOCSCTTY, 0), pass_fds=[terminal],
                                **more)
         os.close(terminal)
         until = time.monotonic() + SECONDS
@@ -92,7 +92,7 @@ class AgefileCase(Case):
         cls.addClassCleanup(made.cleanup)
         os.chmod(made.name, 0o755)
         cls.agefile = release(f"{made.name}/release", cls.is_lighter)
-        cls.env = {**os.environ, "AGEFILE_LIBRARY": str(workspace.library() / "libagefile.so")}
+        cls.env = {**os.environ, "AGEFILE_LIBRARY": str(built.library() / "libagefile.so")}
 
     def setUp(self):
         super().setUp()
@@ -107,7 +107,7 @@ class AgefileCase(Case):
         more = {"stdin": subprocess.DEVNULL, "capture_output": True, "timeout": SECONDS, "env": self.env} | more
         if "input" in more:
             del more["stdin"]
-        return subprocess.run([self.agefile, *words], cwd=self.room, **more)
+        return process.run([self.agefile, *words], cwd=self.room, **more)
 
     def at_terminal(self, *words, answers=(), **more):
         return at_terminal([self.agefile, *words], answers, cwd=self.room, **{"env": self.env} | more)

@@ -7,8 +7,9 @@ import subprocess
 import tempfile
 import time
 
+from tests import built, process
 from tests.case import SECONDS, Case, without_advice
-from tools import shim, terminal, workspace
+from tools import shim, terminal
 from tools.workspace import TOP
 
 WRITE = b"age_tool: 27 Write\n"
@@ -99,7 +100,7 @@ class FilesCase(Case):
         made = tempfile.TemporaryDirectory(prefix="age-test-")
         cls.addClassCleanup(made.cleanup)
         os.chmod(made.name, 0o755)
-        cls.program = shutil.copy(workspace.program(), made.name)
+        cls.program = shutil.copy(built.program(), made.name)
         os.chmod(cls.program, 0o755)
 
     def setUp(self):
@@ -119,9 +120,9 @@ class FilesCase(Case):
 
     def mount(self, *words):
         """Mounts something at the last of these words until the test ends. The test is left out if that can't be done."""
-        if subprocess.run(["mount", *words], capture_output=True).returncode:
+        if process.run(["mount", *words], capture_output=True).returncode:
             self.skipTest("nothing can be mounted")
-        self.addCleanup(subprocess.run, ["umount", words[-1]], check=True)
+        self.addCleanup(process.run, ["umount", words[-1]], check=True)
 
     def expect(self, status, faults, words, name=None, failing=None, **more):
         """Runs the program, and counts whether it ends like this. `failing` are variables of tools/shim.c."""
@@ -135,7 +136,7 @@ class FilesCase(Case):
     def started(self, words, **more):
         """Starts the program, and goes on meanwhile."""
         more = {"stdin": subprocess.DEVNULL, "stdout": subprocess.DEVNULL, "stderr": subprocess.PIPE} | more
-        return subprocess.Popen([self.program, *words.split()], cwd=self.room, **more)
+        return process.Popen([self.program, *words.split()], cwd=self.room, **more)
 
     def deriving(self, words, held="held", **more):
         """A run that begins to derive its key, and what it waits for then: until that is closed (tools/shim.c)."""
@@ -161,23 +162,23 @@ class FilesCase(Case):
         self.write("image", b"")
         os.truncate(self.path("image"), mib << 20)
         self.path(name).mkdir()
-        subprocess.run(["mkfs.ext4", "-q", *words, self.path("image")], check=True)
+        process.run(["mkfs.ext4", "-q", *words, self.path("image")], check=True)
         self.mount("-o", options, self.path("image"), self.path(name))
         return self.path(name)
 
     def fused(self, name, **variables):
         """A folder that is a file system of our own, whose calls fail or take time (tools/fused.c), until the test ends."""
         made = self.path("fused-program")
-        flags = subprocess.run(["pkg-config", "--cflags", "--libs", "fuse3"], capture_output=True, text=True)
+        flags = process.run(["pkg-config", "--cflags", "--libs", "fuse3"], capture_output=True, text=True)
         if flags.returncode:
             self.skipTest("no libfuse can be had")
-        subprocess.run(["cc", "-O2", "-Wall", "-Wextra", "-Werror", "-o", made, FUSED, *flags.stdout.split()], check=True)
+        process.run(["cc", "-O2", "-Wall", "-Wextra", "-Werror", "-o", made, FUSED, *flags.stdout.split()], check=True)
         self.path(f"{name}-held").mkdir()
         self.path(name).mkdir()
         env = {**os.environ, **{it: str(value) for it, value in variables.items()}}
-        if subprocess.run([made, self.path(f"{name}-held"), self.path(name)], env=env, capture_output=True).returncode:
+        if process.run([made, self.path(f"{name}-held"), self.path(name)], env=env, capture_output=True).returncode:
             self.skipTest("nothing can be mounted by FUSE")
-        self.addCleanup(subprocess.run, ["fusermount3", "-u", self.path(name)], check=True)
+        self.addCleanup(process.run, ["fusermount3", "-u", self.path(name)], check=True)
 
 
 class Feeding:
@@ -224,7 +225,7 @@ class ProgramCase(Case):
     def redirected(self, redirection, *words):
         """Runs the program with a redirection of the shell's."""
         run = ["sh", "-c", f'exec "$0" "$@" {redirection}', self.program, *words]
-        ended = subprocess.run(run, cwd=self.room, stdin=subprocess.DEVNULL, capture_output=True)
+        ended = process.run(run, cwd=self.room, stdin=subprocess.DEVNULL, capture_output=True)
         ended.stderr, ended.advice = without_advice(ended.stderr)
         return ended
 
@@ -234,7 +235,7 @@ class ProgramCase(Case):
         if stream == "stdin":
             os.write(ours, b"\x04")  # the end
         ends = {"stdin": subprocess.DEVNULL, "stdout": subprocess.PIPE, "stderr": subprocess.PIPE, stream: theirs} | more
-        run = subprocess.Popen([self.program, *words], cwd=self.room, **ends)
+        run = process.Popen([self.program, *words], cwd=self.room, **ends)
         os.close(theirs)
         said = terminal.output(ours).replace(b"\r\n", b"\n") if stream == "stderr" else b""
         output, faults = run.communicate()
@@ -252,7 +253,7 @@ class ProgramCase(Case):
         """A decryption that stops, and whose position can't be saved, since its file was made meanwhile."""
         self.remove("part", "taken")
         words = "decrypt --no-sync --pass pass --save taken /dev/stdin part"
-        run = subprocess.Popen([self.program, *words.split()], cwd=self.room, stdin=subprocess.PIPE, stderr=subprocess.PIPE)
+        run = process.Popen([self.program, *words.split()], cwd=self.room, stdin=subprocess.PIPE, stderr=subprocess.PIPE)
         run.stdin.write(self.age[:150_000])
         run.stdin.flush()
         waits_for(lambda: self.is_there("part") and self.path("part").stat().st_size >= 131_072)

@@ -2,6 +2,7 @@
 import re
 import subprocess
 
+from tests import process
 from tests.case import without_advice
 from tests.program.case import ProgramCase
 
@@ -24,7 +25,7 @@ class AdviceTest(ProgramCase):
             self.write("cut.age", self.age)
             for shell in ("bash", "dash") if name.isprintable() else ("bash",):
                 given = f'age_tool() {{ "$0" "$@"; }}; {command.replace(" NEW", " whole")}'
-                pasted = subprocess.run([shell, "-c", given, self.program], cwd=self.room, capture_output=True, env={"LC_ALL": "C"})
+                pasted = process.run([shell, "-c", given, self.program], cwd=self.room, capture_output=True, env={"LC_ALL": "C"})
                 self.see(f"the command for {name!r} in {shell}", pasted.returncode == 0 and self.read("whole") == self.plain, command, pasted.stderr)
                 self.remove("whole")
             self.write("cut.age", self.age[:150_000])
@@ -80,7 +81,7 @@ class AdviceTest(ProgramCase):
         command = re.search(rb"(?m)^age_tool: to save the position elsewhere: (.*) > FILE$", ended.advice)
         self.see("it is printed, and no more is said", command and ended.advice.count(b"\n") == 2 and ended.advice.endswith(b"> FILE\n"), ended.advice)
         for shell in ("bash", "dash"):
-            subprocess.run([shell, "-c", f"{command[1].decode()} > printed"], cwd=self.room, check=True)
+            process.run([shell, "-c", f"{command[1].decode()} > printed"], cwd=self.room, check=True)
             self.see(f"by {shell} it is the position", self.read("printed") == wanted, self.read("printed"))
         ended = self.tool(*"resume --position printed --old part --pass pass plain.age whole".split())
         self.see("a run goes on from it", ended.returncode == 0 and self.read("whole") == self.plain, ended.stderr)

@@ -9,6 +9,7 @@ import shutil
 import subprocess
 import unittest
 
+from tests import process
 from tests.program.agefile import AgefileCase, at_terminal
 
 FOLDER = pathlib.Path("/usr/share/gocode/src/filippo.io/age/cmd/age/testdata")
@@ -80,7 +81,7 @@ class Script:
         return self.case.is_there(name)
 
     def do_exec(self, *words):
-        return subprocess.run(words, cwd=self.case.room, stdout=subprocess.PIPE).returncode == 0
+        return process.run(words, cwd=self.case.room, stdout=subprocess.PIPE).returncode == 0
 
 
 @unittest.skipIf(not FOLDER.is_dir(), "needs Debian's golang-filippo-age-dev")

@@ -5,6 +5,7 @@ import shutil
 import subprocess
 import zipapp
 
+from tests import process
 from tests.bindings import setUpModule  # noqa: F401
 from tests.case import SECONDS
 from tests.program.agefile import MODULE, AgefileCase, form
@@ -59,7 +60,7 @@ class AgefileTest(AgefileCase):
     def test_taken_meanwhile(self):
         """What comes to OUT's name after agefile has looked, age_tool refuses."""
         os.mkfifo(self.path("fifo"))
-        run = subprocess.Popen([self.agefile, *"decrypt --pass fifo age new".split()], cwd=self.room, env=self.env, stderr=subprocess.PIPE)
+        run = process.Popen([self.agefile, *"decrypt --pass fifo age new".split()], cwd=self.room, env=self.env, stderr=subprocess.PIPE)
         with open(self.path("fifo"), "wb") as fifo:  # (age_tool has opened it by then)
             self.write("new", b"precious")
             fifo.write(b"correct horse\n")
@@ -77,7 +78,7 @@ class AgefileTest(AgefileCase):
             os.link(self.path("age"), self.path("hard"))
             command, rest = words.split(" ", 1)
             line = f'"{self.agefile}" {command} --pass pass {rest}'
-            run = subprocess.run(["bash", "-c", line], cwd=self.room, env=self.env, capture_output=True, stdin=subprocess.DEVNULL)
+            run = process.run(["bash", "-c", line], cwd=self.room, env=self.env, capture_output=True, stdin=subprocess.DEVNULL)
             self.see(words, run.returncode == 2 and self.read("age") == self.age and self.read("pass") == b"correct horse\n", run)
         log.write_bytes(b"precious\n")
         for out in ("-", "/dev/stdout", "/dev/fd/1"):
@@ -88,9 +89,9 @@ class AgefileTest(AgefileCase):
         log.write_bytes(b"precious\n")
         for out in ("/dev/fd/9", "/proc/self/fd/9"):
             line = f'exec 9>>log; "{self.agefile}" decrypt --pass pass age {out}'
-            run = subprocess.run(["bash", "-c", line], cwd=self.room, env=self.env, capture_output=True, stdin=subprocess.DEVNULL)
+            run = process.run(["bash", "-c", line], cwd=self.room, env=self.env, capture_output=True, stdin=subprocess.DEVNULL)
             self.ends(f"{out}, a file", run, 1, form(f"agefile: 27 Write\nagefile: {out} exists; .*"))
-            self.ends(f"{out}, a pipe", subprocess.run(["bash", "-c", f"({line.replace('>>log', '>&1')}) | cat"], cwd=self.room, env=self.env,
+            self.ends(f"{out}, a pipe", process.run(["bash", "-c", f"({line.replace('>>log', '>&1')}) | cat"], cwd=self.room, env=self.env,
                                                        capture_output=True, stdin=subprocess.DEVNULL), 0, out=self.plain)
         self.see("what is kept", log.read_bytes() == b"precious\n")
 
@@ -134,7 +135,7 @@ class AgefileTest(AgefileCase):
             self.see(f"{what}: the command", command.startswith("age_tool resume --position position --old part --pass pass "), ended.stderr)
             self.write("cut", self.age)
             env = {**os.environ, "PATH": f"{self.agefile.parent}:{os.environ['PATH']}"}
-            run = subprocess.run(["bash", "-c", command], cwd=self.room, env=env, capture_output=True)
+            run = process.run(["bash", "-c", command], cwd=self.room, env=env, capture_output=True)
             self.see(f"{what}: pasted", run.returncode == 0 and self.read("whole") == self.plain, command, run)
             self.write("cut", self.age[:150_000])
             self.remove("whole", "part", "position")
@@ -198,14 +199,14 @@ class AgefileTest(AgefileCase):
     def test_as_a_module(self):
         """python3 -m agefile is the same program."""
         env = {**self.env, "PYTHONPATH": str(self.agefile.parent.parent / "share" / "age_tool")}
-        run = subprocess.run(["python3", "-m", "agefile", *"decrypt --pass pass age -".split()], cwd=self.room, env=env, capture_output=True)
+        run = process.run(["python3", "-m", "agefile", *"decrypt --pass pass age -".split()], cwd=self.room, env=env, capture_output=True)
         self.ends("-m agefile", run, 0, out=self.plain)
 
     def test_closed_streams(self):
         """A standard stream that is closed is no other file."""
         for closed, words, status in (("<&-", "decrypt --pass pass age new", 0), ("<&-", "decrypt --pass pass - none", 1), (">&-", "decrypt --pass pass age -", 1),
                                       ("2>&-", "decrypt --pass wrong age none", 1), ("<&- >&- 2>&-", "restore --pass pass age new2", 0)):
-            run = subprocess.run(["bash", "-c", f'"{self.agefile}" {words} {closed}'], cwd=self.room, env=self.env, capture_output=True)
+            run = process.run(["bash", "-c", f'"{self.agefile}" {words} {closed}'], cwd=self.room, env=self.env, capture_output=True)
             self.see(f"{words} {closed}", run.returncode == status and not self.is_there("none"), run)
         self.see("what was decrypted", self.read("new") == self.read("new2") == self.plain)
 

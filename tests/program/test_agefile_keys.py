@@ -7,6 +7,7 @@ import subprocess
 import time
 import unittest
 
+from tests import process
 from tests.bindings import setUpModule  # noqa: F401
 from tests.case import SECONDS
 from tests.program.agefile import AgefileCase, form
@@ -21,9 +22,9 @@ class KeysTest(AgefileCase):
     def setUp(self):
         super().setUp()
         for name in ("key", "other"):
-            subprocess.run(["age-keygen", "-o", self.path(name)], check=True, capture_output=True)
+            process.run(["age-keygen", "-o", self.path(name)], check=True, capture_output=True)
         self.recipient = re.search(r"age1\w+", self.path("key").read_text())[0]
-        subprocess.run(["age", "-r", self.recipient, "-o", self.path("for_key"), self.path("plain")], check=True)
+        process.run(["age", "-r", self.recipient, "-o", self.path("for_key"), self.path("plain")], check=True)
 
     def test_identities(self):
         data = self.read("for_key")
@@ -41,7 +42,7 @@ class KeysTest(AgefileCase):
         self.ends("test", self.run_agefile(*"test --identity key -".split(), input=data), 0)
         self.ends("age's words", self.run_agefile("-d", "-i", "key", input=data), 0, out=self.plain)
         os.mkfifo(self.path("fifo"))
-        run = subprocess.Popen([self.agefile, *"decrypt --identity key fifo new".split()], cwd=self.room, env=self.env)
+        run = process.Popen([self.agefile, *"decrypt --identity key fifo new".split()], cwd=self.room, env=self.env)
         with open(self.path("fifo"), "wb") as fifo:
             fifo.write(data)
         self.see("a named pipe", (run.wait(SECONDS), self.read("new")) == (0, self.plain))
@@ -75,10 +76,10 @@ class KeysTest(AgefileCase):
         for what, words in (("one", f"--recipient {self.recipient}"), ("a file", "--recipients-file list"), ("a key's own", "--identity key")):
             self.remove("new.age")
             self.ends(what, self.run_agefile("encrypt", *words.split(), "plain", "new.age"), 0)
-            by_age = subprocess.run(["age", "-d", "-i", "key", "new.age"], cwd=self.room, capture_output=True)
+            by_age = process.run(["age", "-d", "-i", "key", "new.age"], cwd=self.room, capture_output=True)
             self.see(f"age reads it: {what}", by_age.stdout == self.plain, by_age)
         run = self.run_agefile("encrypt", "--recipient", self.recipient, "-", "-", input=self.plain)
-        self.see("standard streams", subprocess.run(["age", "-d", "-i", self.path("key")], input=run.stdout, capture_output=True).stdout == self.plain, run)
+        self.see("standard streams", process.run(["age", "-d", "-i", self.path("key")], input=run.stdout, capture_output=True).stdout == self.plain, run)
         self.ends("age's words", self.run_agefile("-r", self.recipient, "-o", "new.age", "plain"), 0)
 
     def test_refused_recipients(self):
@@ -104,7 +105,7 @@ class KeysTest(AgefileCase):
         """A signal leaves nothing of a file for recipients, and an old one as it was."""
         for number in (signal.SIGINT, signal.SIGTERM, signal.SIGHUP):
             self.write("old", b"precious")
-            run = subprocess.Popen([self.agefile, *f"encrypt --overwrite --recipient {self.recipient} - old".split()], cwd=self.room, env=self.env,
+            run = process.Popen([self.agefile, *f"encrypt --overwrite --recipient {self.recipient} - old".split()], cwd=self.room, env=self.env,
                                    stdin=subprocess.PIPE, stderr=subprocess.PIPE)
             run.stdin.write(bytes(200_000))
             run.stdin.flush()
@@ -122,7 +123,7 @@ class KeysTest(AgefileCase):
         import tty
         tty.setraw(terminal)
         os.set_blocking(terminal, False)
-        run = subprocess.Popen([self.agefile, *"decrypt --identity key - new".split()], cwd=self.room, env=self.env, stdin=main, stderr=subprocess.PIPE)
+        run = process.Popen([self.agefile, *"decrypt --identity key - new".split()], cwd=self.room, env=self.env, stdin=main, stderr=subprocess.PIPE)
         data = self.read("for_key")[:100_000]
         until = time.monotonic() + SECONDS
         while data and time.monotonic() < until:
@@ -141,7 +142,7 @@ class KeysTest(AgefileCase):
         """A signal that ends what copies IN ends age_tool, too, which tells no cut file."""
         for number in (signal.SIGINT, signal.SIGTERM, signal.SIGKILL):
             self.remove("new")
-            run = subprocess.Popen([self.agefile, *"decrypt --identity key - new".split()], cwd=self.room, env=self.env, stdin=subprocess.PIPE,
+            run = process.Popen([self.agefile, *"decrypt --identity key - new".split()], cwd=self.room, env=self.env, stdin=subprocess.PIPE,
                                    stderr=subprocess.PIPE)
             run.stdin.write(self.read("for_key")[:100_000])
             run.stdin.flush()
@@ -159,7 +160,7 @@ class KeysTest(AgefileCase):
         """What copies IN doesn't wait for more of it once age_tool has ended."""
         data = bytearray(self.read("for_key")[:70_000])
         data[1000] ^= 1
-        run = subprocess.Popen([self.agefile, *"decrypt --identity key - new".split()], cwd=self.room, env=self.env, stdin=subprocess.PIPE,
+        run = process.Popen([self.agefile, *"decrypt --identity key - new".split()], cwd=self.room, env=self.env, stdin=subprocess.PIPE,
                                stderr=subprocess.PIPE)
         for piece in (data[:60_000], data[60_000:]):  # (the fault comes after the last of what there is)
             run.stdin.write(piece)
@@ -186,7 +187,7 @@ class KeysTest(AgefileCase):
         self.write("log", b"precious\n")
         for words, status in (("--pass pass age - >>log", 0), ("--pass pass age /dev/stdout >>log", 0), ("--pass pass age - >>age", 2), ("--pass pass age age", 2),
                               ("--pass pass age log 2>>log", 2)):
-            run = subprocess.run(["bash", "-c", f'"{self.agefile}" salvage {words}'], cwd=self.room, env=self.env, capture_output=True)
+            run = process.run(["bash", "-c", f'"{self.agefile}" salvage {words}'], cwd=self.room, env=self.env, capture_output=True)
             self.see(words, run.returncode == status, run)
         self.see("what was appended", self.read("log").startswith(b"precious\n" + 2 * self.plain) and self.read("age") == self.age)
         self.see("nothing is left", not self.is_there("none"))

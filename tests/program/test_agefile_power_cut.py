@@ -2,9 +2,9 @@
 age_tool: in each state of the disk after each of their calls OUT is as it was, or whole, and after status 0 it is whole. Without the waits for
 the disk some state shows another OUT, so the test can fail."""
 import os
-import subprocess
 import sys
 
+from tests import process
 from tests.program.agefile import AgefileCase
 from tests.bindings import setUpModule  # noqa: F401
 from tests.case import SECONDS, needs
@@ -35,7 +35,7 @@ class PowerCutTest(AgefileCase):
             (folder / "out").write_bytes(before)
         disk = Disk(folder)
         self.write("record", b"")
-        run = subprocess.run([sys.executable, "-c", program + RUNS, str(self.agefile), *words.split()], cwd=folder,
+        run = process.run([sys.executable, "-c", program + RUNS, str(self.agefile), *words.split()], cwd=folder,
                              env={**self.env, **shim.loaded(RECORD=self.path("record"))}, capture_output=True, timeout=SECONDS)
         self.see(f"{words}", run.returncode == 0 and os.listdir(folder) == ["out"], run, os.listdir(folder))
         return disk, [it for it in calls(self.path("record")) if it[0] != "close"], (folder / "out").read_bytes()

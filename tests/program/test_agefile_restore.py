@@ -7,6 +7,7 @@ import stat
 import subprocess
 import time
 
+from tests import process
 from tests.program.agefile import AgefileCase, form
 from tests.bindings import setUpModule  # noqa: F401
 from tests.case import SECONDS
@@ -32,7 +33,7 @@ class RestoreTest(AgefileCase):
     def begin(self, *words, **more):
         """A restore that waits for its input."""
         more = {"stdin": subprocess.PIPE, "stderr": subprocess.PIPE, "cwd": self.room, "env": self.env} | more
-        return subprocess.Popen([self.agefile, *(words or COMMAND)], **more)
+        return process.Popen([self.agefile, *(words or COMMAND)], **more)
 
     def feed(self, run, count):
         """Gives it so many bytes, and waits until its text has all chunks that are whole in these."""
@@ -162,7 +163,7 @@ class RestoreTest(AgefileCase):
     def test_full_disk(self):
         """A disk that fills up is told by age_tool, and the same command goes on once there is room."""
         line = f'ulimit -f 400; exec "{self.agefile}" restore --pass pass age out'
-        run = subprocess.run(["bash", "-c", line], cwd=self.room, env=self.env, capture_output=True)
+        run = process.run(["bash", "-c", line], cwd=self.room, env=self.env, capture_output=True)
         self.ends("full", run, 1, form("age_tool: 27 Write\nage_tool: can't write .*/out.restore/new-text: File too large\n" + KEPT))
         self.is_through("the same command", self.run_agefile(*"restore --pass pass age out".split()))
 
@@ -241,7 +242,7 @@ class RestoreTest(AgefileCase):
 
     def is_whole(self):
         """Whether OUT is the large text; it is removed."""
-        same = subprocess.run(["cmp", "large", "out"], cwd=self.room).returncode == 0
+        same = process.run(["cmp", "large", "out"], cwd=self.room).returncode == 0
         self.see("OUT is whole", same)
         self.remove("out")
         return same

@@ -1,8 +1,8 @@
 """Tries the completions of docs/completions in their shells: bash, and zsh and fish if they are installed."""
 import os
 import re
-import subprocess
 
+from tests import process
 from tests.case import Case, needs
 from tools import terminal
 from tools.workspace import CRATES, TOP
@@ -24,11 +24,11 @@ class CompletionsTest(Case):
             self.assertLessEqual(set(wanted.split()), set(offered.split()))
 
     def in_bash(self, *words):
-        return subprocess.run(["bash", "-c", IN_BASH, "bash", *words], cwd=FOLDER, capture_output=True, text=True).stdout
+        return process.run(["bash", "-c", IN_BASH, "bash", *words], cwd=FOLDER, capture_output=True, text=True).stdout
 
     def in_fish(self, typed):
         words = ["fish", "--no-config", "-c", f"source age_tool.fish; complete -C '{typed}'"]
-        lines = subprocess.run(words, cwd=FOLDER, capture_output=True, text=True, env=UTF_8).stdout.splitlines()
+        lines = process.run(words, cwd=FOLDER, capture_output=True, text=True, env=UTF_8).stdout.splitlines()
         return "\n".join(line.split("\t")[0] for line in lines)
 
     def in_zsh(self, typed):

@@ -4,8 +4,8 @@ import os
 import pathlib
 import random
 import stat
-import subprocess
 
+from tests import process
 from tests.case import needs, twice
 from tests.program.case import NO_FILE, PLAIN, FilesCase, unsaved, unsynced
 
@@ -14,10 +14,10 @@ class DevicesTest(FilesCase):
     def device(self, name, held):
         """A block device over a file until the test ends. The test is left out if there is none."""
         self.write(name, held + bytes(-len(held) % 4096))
-        made = subprocess.run(["losetup", "--show", "-f", self.path(name)], capture_output=True, text=True).stdout.strip()
+        made = process.run(["losetup", "--show", "-f", self.path(name)], capture_output=True, text=True).stdout.strip()
         if not made:
             self.skipTest("no loop device can be had")
-        self.addCleanup(subprocess.run, ["losetup", "-d", made], check=True)
+        self.addCleanup(process.run, ["losetup", "-d", made], check=True)
         return made
 
     @needs("losetup", root=True)

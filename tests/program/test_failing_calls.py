@@ -5,8 +5,8 @@ import hashlib
 import itertools
 import random
 import re
-import subprocess
 
+from tests import process
 from tests.case import Case, needs, without_advice
 from tests.standard import BLOCK, CHUNK, FAULTS, Position, chain_of, file_under, parts_of, position_in
 
@@ -54,7 +54,7 @@ class FailingCallsTest(Case):
             it.unlink()
         for name, held in (self.kept | command.files).items():
             self.write(name, held)
-        return subprocess.run(["strace", *options, self.program, *command.words], cwd=self.room, capture_output=True, timeout=60)
+        return process.run(["strace", *options, self.program, *command.words], cwd=self.room, capture_output=True, timeout=60)
 
     def places(self, command):
         """The calls that a command makes once it opens its first file: each name with its number among those of that name."""

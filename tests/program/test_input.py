@@ -6,6 +6,7 @@ import resource
 import subprocess
 import threading
 
+from tests import process
 from tests.case import SECONDS, needs
 from tests.program.case import PLAIN, FilesCase, ProgramCase
 
@@ -40,7 +41,7 @@ class InputTest(FilesCase):
         self.see("3 TiB: status", told.returncode == 0, told.stderr)
         self.see("3 TiB: the rest", b"\nrest %d\n" % rest in told.stdout, told.stdout)
         self.see("3 TiB: in a second of a processor", took < 1, took)
-        with subprocess.Popen(["cat", self.path("age")], stdout=subprocess.PIPE) as pipe:
+        with process.Popen(["cat", self.path("age")], stdout=subprocess.PIPE) as pipe:
             told = self.tool("inspect", "/dev/stdin", stdin=pipe.stdout)
         self.see("a pipe", told.stdout == self.tool("inspect", "age").stdout and b"\nrest %d\n" % (len(self.age) - header) in told.stdout, told)
 
@@ -78,6 +79,6 @@ class OrderTest(ProgramCase):
             ("resume --position position --old old --pass pass --save saved plain.age out", "pass position old plain.age saved.new out"),
             ("drill --pass pass script plain.age", "pass script plain.age"), ("inspect plain.age", "plain.age"),
         ):
-            subprocess.run(["strace", "-o", "log", "-e", "trace=open,openat", self.program, *words.split()], cwd=self.room, capture_output=True, timeout=SECONDS)
+            process.run(["strace", "-o", "log", "-e", "trace=open,openat", self.program, *words.split()], cwd=self.room, capture_output=True, timeout=SECONDS)
             opened = [it.decode() for it in re.findall(rb'(?m)^open(?:at\(AT_FDCWD, |\()"([^/"]+)"', self.read("log")) if it != b"."]
             self.see(words, opened == names.split(), opened)

@@ -7,6 +7,7 @@ import re
 import resource
 import subprocess
 
+from tests import process
 from tests.program.agefile import release
 from tests.case import SECONDS, Case, without_advice
 from tests.program.test_transcripts import Transcripts, unescaped
@@ -248,7 +249,7 @@ class ThroughAgefileTest(MessagesTest):
         if words[0] in ("encrypt", "decrypt", "resume") and "--no-clobber" not in itertools.takewhile("--".__ne__, words):
             words = (words[0], "--overwrite", *words[1:])
         more = {"stdin": subprocess.DEVNULL, "stdout": subprocess.PIPE, "stderr": subprocess.PIPE, "timeout": SECONDS} | more
-        ended = subprocess.run([self.agefile, *words], cwd=self.room, **more)
+        ended = process.run([self.agefile, *words], cwd=self.room, **more)
         self.see(f"no descriptor is named: {words}", b"/dev/fd" not in ended.stderr, ended.stderr)
         ended.stderr, ended.advice = without_advice(ended.stderr)
         return ended

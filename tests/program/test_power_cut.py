@@ -26,8 +26,9 @@ import tempfile
 import typing
 import unittest
 
+from tests import built, process
 from tests.case import SECONDS, claim, needs
-from tools import shim, workspace
+from tools import shim
 
 # Nothing has to reach a real disk.
 MEMORY = "/dev/shm" if os.access("/dev/shm", os.W_OK) else None
@@ -398,8 +399,8 @@ class Room:
         return run
 
     def run(self, folder, words, env=None):
-        words = [workspace.program(), *words.split()]
-        return subprocess.run(words, cwd=folder, env=env, stdin=subprocess.DEVNULL, capture_output=True, timeout=SECONDS)
+        words = [built.program(), *words.split()]
+        return process.run(words, cwd=folder, env=env, stdin=subprocess.DEVNULL, capture_output=True, timeout=SECONDS)
 
     def recorded(self, folder, words):
         """How a run ends, and its calls."""

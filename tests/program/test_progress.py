@@ -4,6 +4,7 @@ import re
 import subprocess
 import time
 
+from tests import process
 from tests.program.case import FilesCase, ProgramCase
 from tools import terminal
 
@@ -50,14 +51,14 @@ class ProgressTest(ProgramCase):
         self.see("progress on a closed standard error: the text", self.read("back") == large)
 
     def test_progress_of_a_pipe(self):
-        with subprocess.Popen(["head", "-c", "134217728", "/dev/zero"], stdout=subprocess.PIPE) as zeros:
+        with process.Popen(["head", "-c", "134217728", "/dev/zero"], stdout=subprocess.PIPE) as zeros:
             words = "encrypt --pass pass --log 10 --progress /dev/stdin /dev/null".split()
             ended = self.on_terminal("stderr", *words, stdin=zeros.stdout)
         shown = re.fullmatch(rb"  64\.0 MiB.{21}\r 128\.0 MiB.{21}\r\n", ended.stderr)
         self.see("progress of a pipe", ended.returncode == 0 and shown, ended.stderr)
         source, sink = os.pipe()
         words = "encrypt --pass pass --log 1 --progress /dev/stdin /dev/null".split()
-        run = subprocess.Popen([self.program, *words], cwd=self.room, stdin=source, stderr=subprocess.PIPE)
+        run = process.Popen([self.program, *words], cwd=self.room, stdin=source, stderr=subprocess.PIPE)
         os.write(sink, bytes(3000))
         os.close(sink)
         os.close(source)
@@ -70,7 +71,7 @@ class ProgressTest(ProgramCase):
         age = self.read("five.age")
         os.mkfifo(self.path("fifo"))
         ours, theirs = os.openpty()
-        run = subprocess.Popen([self.program, *"decrypt --pass pass --progress fifo /dev/null".split()], cwd=self.room, stderr=theirs)
+        run = process.Popen([self.program, *"decrypt --pass pass --progress fifo /dev/null".split()], cwd=self.room, stderr=theirs)
         os.close(theirs)
         with open(self.path("fifo"), "wb") as fifo:
             fifo.write(age[:3 << 20])

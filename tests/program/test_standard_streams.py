@@ -5,6 +5,7 @@ import stat
 import subprocess
 import time
 
+from tests import process
 from tests.case import SECONDS, needs, twice
 from tests.program.case import PLAIN, FilesCase, ProgramCase, unwritten
 
@@ -42,11 +43,11 @@ class StandardStreamsTest(FilesCase):
         for streams in ("<&-", ">&-", "2>&-", "<&- >&-", "<&- 2>&-", ">&- 2>&-", "<&- >&- 2>&-"):
             self.remove("saved", "out")
             words = f"{self.program} decrypt --progress --pass pass --save saved cut out {streams}"
-            ended = subprocess.run(["sh", "-c", words], cwd=self.room, stderr=subprocess.DEVNULL, timeout=SECONDS)
+            ended = process.run(["sh", "-c", words], cwd=self.room, stderr=subprocess.DEVNULL, timeout=SECONDS)
             self.see(f"closed: {streams}", ended.returncode == 1 and self.read("out") == PLAIN[:131072] and self.is_position("saved", 2))
             words = f"{self.program} decrypt --progress --pass wrong --save saved age out {streams}"
             held = self.read("saved"), self.read("out")
-            ended = subprocess.run(["sh", "-c", words], cwd=self.room, stderr=subprocess.DEVNULL, timeout=SECONDS)
+            ended = process.run(["sh", "-c", words], cwd=self.room, stderr=subprocess.DEVNULL, timeout=SECONDS)
             self.see(f"closed: {streams}, with a position and an OUT that are there", ended.returncode == 1 and (self.read("saved"), self.read("out")) == held)
 
     def test_offsets(self):
@@ -60,7 +61,7 @@ class StandardStreamsTest(FilesCase):
 
     def in_chroot(self, words, **more):
         """Runs the program in a folder that is its own system, without /proc."""
-        return subprocess.run(["chroot", self.path("root"), "/age_tool", *words.split()], stderr=subprocess.PIPE, timeout=SECONDS, **more)
+        return process.run(["chroot", self.path("root"), "/age_tool", *words.split()], stderr=subprocess.PIPE, timeout=SECONDS, **more)
 
     @needs("ldd", "chroot", root=True)
     def test_without_proc(self):
@@ -70,7 +71,7 @@ class StandardStreamsTest(FilesCase):
         for name, leads_to in (("fd", "/proc/self/fd"), ("stdin", "fd/0"), ("stdout", "fd/1"), ("stderr", "fd/2")):
             os.symlink(leads_to, root / "dev" / name)
         shutil.copy(self.program, root / "age_tool")
-        for word in subprocess.run(["ldd", self.program], capture_output=True, text=True).stdout.split():
+        for word in process.run(["ldd", self.program], capture_output=True, text=True).stdout.split():
             if word.startswith("/"):
                 (root / word[1:]).parent.mkdir(parents=True, exist_ok=True)
                 shutil.copy(word, root / word[1:])

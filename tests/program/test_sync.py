@@ -6,6 +6,7 @@ import os
 import pathlib
 import subprocess
 
+from tests import process
 from tests.case import SECONDS, needs, without_advice
 from tests.program.case import OWN, PLAIN, FilesCase, as_nobody, chunk_fault, unsaved, unsynced, unwaited, unwritten, waits_for
 
@@ -82,7 +83,7 @@ class SyncTest(FilesCase):
         self.mount("-t", "tmpfs", "-o", "size=8M", "none", self.path("pool"))
         with open(self.path("pool/image"), "wb") as image:
             image.truncate(200 << 20)
-        subprocess.run(["mkfs.ext4", "-q", "-F", self.path("pool/image")], check=True)
+        process.run(["mkfs.ext4", "-q", "-F", self.path("pool/image")], check=True)
         self.mount("-o", "loop", self.path("pool/image"), self.path("thin"))
         self.write("plain", os.urandom(14_000_000))
         self.expect(0, b"", "encrypt --pass pass --log 4 plain age", "a large file")
@@ -92,8 +93,8 @@ class SyncTest(FilesCase):
         run.stdin.write(age[:-1000])
         run.stdin.flush()
         waits_for(lambda: self.path("thin/out").stat().st_size > 13_500_000)
-        seen = subprocess.run(["sync", self.path("thin/out")], capture_output=True).returncode
-        subprocess.run(["mount", "-o", "remount,size=300M", self.path("pool")], check=True)
+        seen = process.run(["sync", self.path("thin/out")], capture_output=True).returncode
+        process.run(["mount", "-o", "remount,size=300M", self.path("pool")], check=True)
         run.stdin.write(age[-1000:])
         run.stdin.close()
         run.stdin = None

@@ -5,8 +5,8 @@ import os
 import pathlib
 import random
 import re
-import subprocess
 
+from tests import process
 from tests.case import SECONDS, needs
 from tests.program.case import PLAIN, WRITE, FilesCase, as_nobody, chunk_fault, reason, unsaved, unsynced, unwritten
 from tools import shim
@@ -16,10 +16,10 @@ class SystemErrorsTest(FilesCase):
     def device(self, name, held):
         """A block device over a file until the test ends. The test is left out if there is none."""
         self.write(name, held + bytes(-len(held) % 4096))
-        made = subprocess.run(["losetup", "--show", "-f", self.path(name)], capture_output=True, text=True).stdout.strip()
+        made = process.run(["losetup", "--show", "-f", self.path(name)], capture_output=True, text=True).stdout.strip()
         if not made:
             self.skipTest("no loop device can be had")
-        self.addCleanup(subprocess.run, ["losetup", "-d", made], check=True)
+        self.addCleanup(process.run, ["losetup", "-d", made], check=True)
         return made
 
     @needs("cc")
@@ -80,7 +80,7 @@ class SystemErrorsTest(FilesCase):
     def test_aborted(self):
         """A file system that became read-only as its disk failed, before what was written had reached it."""
         folder = self.mount_ext4("ext4", 64, options="loop,errors=remount-ro")
-        device = subprocess.run(["findmnt", "-n", "-o", "SOURCE", folder], capture_output=True, text=True).stdout.strip()
+        device = process.run(["findmnt", "-n", "-o", "SOURCE", folder], capture_output=True, text=True).stdout.strip()
         trigger = pathlib.Path("/sys/fs/ext4") / pathlib.Path(device).name / "trigger_fs_error"
         if not trigger.exists():
             self.skipTest("the system can't let an ext4 abort")
@@ -121,7 +121,7 @@ class SystemErrorsTest(FilesCase):
         for most in range(3, 9):
             self.remove("saved", "out")
             words = f"ulimit -n {most}; exec {self.program} decrypt --pass pass --save saved cut out"
-            ended = subprocess.run(["sh", "-c", words], cwd=self.room, capture_output=True, timeout=SECONDS)
+            ended = process.run(["sh", "-c", words], cwd=self.room, capture_output=True, timeout=SECONDS)
             held = self.read("out") if self.is_there("out") else b""
             self.see(f"{most} descriptors", ended.returncode in (1, 127) and PLAIN.startswith(held), ended)
             self.see(f"{most} descriptors: a position", self.is_position("saved", 2) or most < 6 and (self.is_position("saved", 0) or not self.is_there("saved")), ended)

@@ -3,10 +3,10 @@ import csv
 import io
 import os
 import shutil
-import subprocess
 import sys
 import threading
 
+from tests import process
 from tests.bindings import KEY, PYTHON, BindingsCase, agefile
 from tools.workspace import TOP
 
@@ -166,7 +166,7 @@ class ModuleCase(BindingsCase):
 
     def command(self, *words, given=None, env=os.environ, **more):
         more = {"env": {**env, "PYTHONPATH": str(PYTHON)}, **(more or {"input": given})}
-        return subprocess.run([sys.executable, "-B", "-m", "agefile", *words], cwd=self.room, capture_output=True, **more)
+        return process.run([sys.executable, "-B", "-m", "agefile", *words], cwd=self.room, capture_output=True, **more)
 
     def saved(self, data, **keys):
         """What is salvaged of a file, and what it says of it."""

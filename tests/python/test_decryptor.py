@@ -5,10 +5,10 @@ import copy
 import io
 import os
 import random
-import subprocess
 import sys
 from unittest import mock
 
+from tests import process
 from tests.bindings import LENGTHS, PYTHON, BindingsCase, agefile, plain_of, python_with, raised, setUpModule
 from tests.python.files import Interruption, interrupted_at, together
 from tools.workspace import LIBRARY
@@ -362,6 +362,6 @@ class DecryptorTest(BindingsCase):
         self.tool(*"encrypt --pass horse --log 1 --no-sync in notes.age".split(), check=True)
         self.path("served.py").write_text(SERVED)
         env = {**os.environ, "PYTHONPATH": str(PYTHON), "PYTHONDONTWRITEBYTECODE": "1", "AGEFILE_LIBRARY": str(LIBRARY / "libagefile.so")}
-        run = subprocess.run([python, "served.py"], cwd=self.room, env=env, capture_output=True, text=True, timeout=120)
+        run = process.run([python, "served.py"], cwd=self.room, env=env, capture_output=True, text=True, timeout=120)
         self.see("a whole upload, and a cut one", run.returncode == 0 and run.stdout == "200\n400\n", run.stdout, run.stderr[-2000:])
         self.see("what was restored", self.read("restored") == text[:196_608])

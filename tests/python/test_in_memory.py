@@ -3,9 +3,9 @@ import io
 import itertools
 import os
 import random
-import subprocess
 import sys
 
+from tests import process
 from tests.bindings import KEY, PYTHON, agefile, by_python, flipped, setUpModule
 from tests.python.files import AGE, RECIPIENT, SECRET, ModuleCase, Pieces, fault_of
 
@@ -45,7 +45,7 @@ class InMemoryTest(ModuleCase):
         script = "import agefile, io, resource\nresource.setrlimit(resource.RLIMIT_AS, (1 << 30, 1 << 30))\n" \
             "try: agefile.open(io.BytesIO(), 'wb', passphrase='pw', work=22)\n" \
             "except MemoryError as fault: print(isinstance(fault, agefile.AgeError), fault.number, fault)"
-        run = subprocess.run([sys.executable, "-B", "-c", script], env={**os.environ, "PYTHONPATH": str(PYTHON)}, capture_output=True, text=True)
+        run = process.run([sys.executable, "-B", "-c", script], env={**os.environ, "PYTHONPATH": str(PYTHON)}, capture_output=True, text=True)
         self.see("refused memory", run.stdout == "True 28 there isn't enough memory (28 Memory)\n", run.stdout, run.stderr)
 
     def test_changed_bits(self):

@@ -6,10 +6,9 @@ import os
 import pickle
 import pydoc
 import shutil
-import subprocess
 import sys
 
-from tests import bindings
+from tests import bindings, process
 from tests.bindings import BLOCK, CHUNK, KEY, PYTHON, agefile, raised, setUpModule
 from tests.case import needs
 from tests.python.files import AGE, RECIPIENT, SECRET, ModuleCase, fault_of
@@ -136,7 +135,7 @@ class InterfaceTest(ModuleCase):
     def test_types(self):
         program = PYTHON / "agefile" / "program"
         for words, folder, path in ((("--exclude", "/program/", "agefile"), PYTHON, ""), (("--no-namespace-packages", *program.glob("*.py")), program, PYTHON)):
-            run = subprocess.run(["mypy", "--strict", "--cache-dir", os.devnull, *words], cwd=folder, env={**os.environ, "MYPYPATH": str(path)},
+            run = process.run(["mypy", "--strict", "--cache-dir", os.devnull, *words], cwd=folder, env={**os.environ, "MYPYPATH": str(path)},
                                  capture_output=True, text=True)
             self.assertEqual(run.returncode, 0, run.stdout)
 
@@ -152,9 +151,9 @@ class InterfaceTest(ModuleCase):
             shutil.copytree(PYTHON / "agefile", top / folder / "agefile", dirs_exist_ok=True)
             shutil.copy(LIBRARY / "libagefile.so", top / library)
             words = [sys.executable, "-B", "-c", "import agefile; print(agefile._library.C._name)"]
-            run = subprocess.run(words, cwd=top / folder, env=there, capture_output=True, text=True)
+            run = process.run(words, cwd=top / folder, env=there, capture_output=True, text=True)
             self.see(f"the library in {library}", run.stdout.strip() == str((top / library).resolve()), run.stdout, run.stderr[-300:])
-            run = subprocess.run(words, cwd=top / folder, env={**there, "AGEFILE_LIBRARY": "/none.so"}, capture_output=True, text=True)
+            run = process.run(words, cwd=top / folder, env={**there, "AGEFILE_LIBRARY": "/none.so"}, capture_output=True, text=True)
             self.see(f"AGEFILE_LIBRARY, beside {library}", run.returncode != 0 and "/none.so" in run.stderr, run.stderr[-300:])
 
     def test_kinds(self):
@@ -201,7 +200,7 @@ class InterfaceTest(ModuleCase):
         self.path("user.py").write_text(USER)
         for more in ([], ["--disable-bytearray-promotion", "--disable-memoryview-promotion"]):
             words = ["mypy", "--strict", *more, "--cache-dir", os.devnull, "user.py"]
-            run = subprocess.run(words, cwd=self.room, env={**os.environ, "MYPYPATH": str(PYTHON)}, capture_output=True, text=True)
+            run = process.run(words, cwd=self.room, env={**os.environ, "MYPYPATH": str(PYTHON)}, capture_output=True, text=True)
             if run.returncode == 2 and "unrecognized arguments" in run.stderr:
                 self.leave_out(f"mypy with {more[0]}", "needs another mypy")
             else:

@@ -5,10 +5,10 @@ import io
 import os
 import random
 import re
-import subprocess
 import sys
 import unittest.mock
 
+from tests import process
 from tests.bindings import PYTHON, agefile, flipped, setUpModule
 from tests.case import needs
 from tests.python.files import AGE, ModuleCase, Pieces, fault_of
@@ -32,7 +32,7 @@ def bech32_of(prefix, held):
 
 def made_keys(count):
     """Keys and their recipients, by age-keygen."""
-    said = [subprocess.run(["age-keygen"], capture_output=True, text=True, check=True).stdout.split() for _ in range(count)]
+    said = [process.run(["age-keygen"], capture_output=True, text=True, check=True).stdout.split() for _ in range(count)]
     return [(it[-1], next(word for word in it if word.startswith("age1"))) for it in said]
 
 
@@ -101,10 +101,10 @@ class KeysTest(ModuleCase):
     @needs("age", "age-keygen")
     def test_many_recipients(self):
         """A header of 10,001 recipients is opened for the last of them, in time that is linear in its length."""
-        keys = [subprocess.run(["age-keygen"], capture_output=True, text=True, check=True).stdout for _ in range(2)]
+        keys = [process.run(["age-keygen"], capture_output=True, text=True, check=True).stdout for _ in range(2)]
         one, other = (next(word for word in it.split() if word.startswith("age1")) for it in keys)
         self.path("many").write_text(f"{other}\n" * 10_000 + f"{one}\n")
-        data = subprocess.run(["age", "-R", self.path("many")], input=b"text", capture_output=True, check=True).stdout
+        data = process.run(["age", "-R", self.path("many")], input=b"text", capture_output=True, check=True).stdout
         looked, real = [0], agefile._keys._opens
 
         def counted(key, body):
@@ -135,20 +135,20 @@ class KeysTest(ModuleCase):
     @needs("age", "age-keygen")
     def test_files_of_age(self):
         """What age makes for keys of its own."""
-        keys = [subprocess.run(["age-keygen"], capture_output=True, text=True, check=True).stdout for _ in range(3)]
+        keys = [process.run(["age-keygen"], capture_output=True, text=True, check=True).stdout for _ in range(3)]
         recipients = [word for it in keys for word in it.split() if word.startswith("age1")]
         for length in (0, 1, 65_536, 200_000):
             text = random.Random(length).randbytes(length)
             for count in (1, 3):
                 words = [part for it in recipients[-count:] for part in ("-r", it)]
-                data = subprocess.run(["age", *words], input=text, capture_output=True, check=True).stdout
+                data = process.run(["age", *words], input=text, capture_output=True, check=True).stdout
                 with agefile.open(io.BytesIO(data), identity=agefile._keys.identities_in(keys[-1])) as file:
                     self.see(f"a file of age of {length} bytes for {count}", file.read() == text)
 
     def read_by_age(self, data, key):
         """What age says of a file for a key of its own."""
         self.write("key", key.encode())
-        run = subprocess.run(["age", "-d", "-i", self.path("key")], input=data, capture_output=True)
+        run = process.run(["age", "-d", "-i", self.path("key")], input=data, capture_output=True)
         return run.stdout if run.returncode == 0 else run.stderr
 
     @needs("age", "age-keygen")
@@ -230,6 +230,6 @@ class KeysTest(ModuleCase):
             self.see(f"another {name}", isinstance(fault, agefile.AgeError) and path.read_bytes() == b"kept", repr(fault))
         program = "import sys, agefile; sys.modules['cryptography'] = sys.modules['cryptography.hazmat.primitives.asymmetric.x25519'] = None; agefile.open('kept', 'wb', recipient=sys.argv[1])"
         env = {**os.environ, "PYTHONPATH": str(PYTHON)}
-        run = subprocess.run([sys.executable, "-B", "-c", program, public], cwd=self.room, env=env, capture_output=True, text=True)
+        run = process.run([sys.executable, "-B", "-c", program, public], cwd=self.room, env=env, capture_output=True, text=True)
         said = run.stderr.splitlines()[-1]
         self.see("without cryptography", said == "ImportError: keys of age-keygen need the package cryptography" and path.read_bytes() == b"kept", said)

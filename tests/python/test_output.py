@@ -13,6 +13,7 @@ import time
 import types
 import unittest.mock
 
+from tests import process
 from tests.bindings import KEY, PYTHON, BindingsCase, agefile, plain_of, raised, setUpModule
 
 LENGTH = 300_000
@@ -51,7 +52,7 @@ class OutputTest(BindingsCase):
 
     def begin(self, *words):
         """Begins a run, whose standard input is a pipe."""
-        run = subprocess.Popen(words, cwd=self.room, env=self.env, stdin=subprocess.PIPE, stdout=subprocess.PIPE, stderr=subprocess.PIPE)
+        run = process.Popen(words, cwd=self.room, env=self.env, stdin=subprocess.PIPE, stdout=subprocess.PIPE, stderr=subprocess.PIPE)
         self.addCleanup(lambda: [it.close() for it in (run.stdin, run.stdout, run.stderr)])
         self.addCleanup(run.wait)
         self.addCleanup(run.kill)
@@ -64,7 +65,7 @@ class OutputTest(BindingsCase):
         self.assertTrue(what())
 
     def command(self, *words, program=RUNS, **more):
-        return subprocess.run([sys.executable, "-c", program, *words], cwd=self.room, env=self.env, capture_output=True, **more)
+        return process.run([sys.executable, "-c", program, *words], cwd=self.room, env=self.env, capture_output=True, **more)
 
     def names(self):
         return sorted(it.name for it in self.room.iterdir())

@@ -4,11 +4,11 @@ import io
 import os
 import random
 import shutil
-import subprocess
 import sys
 import unittest.mock
 from unittest import mock
 
+from tests import process
 from tests.bindings import BLOCK, CHUNK, KEY, PYTHON, BindingsCase, agefile, flipped, limited, plain_of, raised, setUpModule
 from tests.python.files import AGE, ModuleCase, Pieces, fault_of
 
@@ -171,10 +171,10 @@ class CutFilesTest(BindingsCase):
             (len(data), b""), (begin, b"agefile: no chunk of cut.age opens: out is as it was\n"),
         ):
             self.write("cut.age", data[:end])
-            run = subprocess.run([sys.executable, "-m", "agefile", *"salvage --overwrite --pass pw cut.age out".split()], cwd=self.room, env=env, capture_output=True)
+            run = process.run([sys.executable, "-m", "agefile", *"salvage --overwrite --pass pw cut.age out".split()], cwd=self.room, env=env, capture_output=True)
             self.see(f"cut at {end}", (run.returncode, run.stderr) == (bool(said), said), run.stderr)
         self.write("longer.age", sealed(plain_of(131_072)) + b"more")
-        run = subprocess.run([sys.executable, "-m", "agefile", *"salvage --overwrite --pass pw longer.age out".split()], cwd=self.room, env=env, capture_output=True)
+        run = process.run([sys.executable, "-m", "agefile", *"salvage --overwrite --pass pw longer.age out".split()], cwd=self.room, env=env, capture_output=True)
         self.see("something that was appended", run.stderr == b"agefile: something was appended to the file, and is left out\n", run.stderr)
 
 

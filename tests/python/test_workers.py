@@ -3,11 +3,11 @@ it. Then that by Dask, one of whose workers is killed."""
 import json
 import os
 import signal
-import subprocess
 import threading
 import time
 from unittest import mock
 
+from tests import process
 from tests.bindings import BLOCK, KEY, LENGTHS, PYTHON, BindingsCase, agefile, flipped, limited, plain_of, python_with, raised, setUpModule
 from tests.library.test_languages import sample_of
 from tests.python.files import fault_of
@@ -112,14 +112,14 @@ class DaskTest(BindingsCase):
         said = open(self.path(f"{kind}.log"), "ab")
         self.addCleanup(said.close)
         words = [self.python, "-m", f"distributed.cli.dask_{kind}", *words, "--host", "127.0.0.1", "--no-dashboard"]
-        run = subprocess.Popen(words, cwd=self.room, env=self.env, stdout=said, stderr=said)
+        run = process.Popen(words, cwd=self.room, env=self.env, stdout=said, stderr=said)
         self.addCleanup(run.wait)
         self.addCleanup(run.kill)
         return run
 
     def restored(self):
         words = [self.python, "restore.py", self.place]
-        run = subprocess.run(words, cwd=self.room, env=self.env, capture_output=True, timeout=120)
+        run = process.run(words, cwd=self.room, env=self.env, capture_output=True, timeout=120)
         return run.returncode, run.stderr[-500:], self.read("photos.tar") if self.is_there("photos.tar") else None
 
     def test_a_lost_worker(self):

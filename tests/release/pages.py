@@ -3,6 +3,7 @@ import os
 import re
 import subprocess
 
+from tests import process
 from tests.case import Case
 from tests.program.agefile import release
 from tools.workspace import LIBRARY, TOP
@@ -35,7 +36,7 @@ class PageCase(Case):
         """Begins to run commands in the folder `work`, in a group of processes of their own."""
         words = ["bash", "-euo", "pipefail", "-c", script]
         more = {"stdout": subprocess.PIPE, "stderr": subprocess.STDOUT, "text": True, "errors": "replace"}
-        return subprocess.Popen(words, cwd=self.path("work"), env=self.env, start_new_session=True, **more)
+        return process.Popen(words, cwd=self.path("work"), env=self.env, start_new_session=True, **more)
 
     def run_script(self, script):
         """Runs commands in the folder `work`."""

@@ -5,9 +5,9 @@ import importlib.util
 import os
 import re
 import shutil
-import subprocess
 import sys
 
+from tests import process
 from tests.case import needs
 from tests.release.pages import AGE, PageCase, blocks
 from tools import terminal
@@ -26,7 +26,7 @@ class RecipesTest(PageCase):
         if missing:
             return f"needs {' and '.join(missing)}"
         if re.search("agefile .*(--identity|--recipient|salvage)|agefile salvage", script):
-            run = subprocess.run([sys.executable, "-c", "import agefile"], env=self.env, capture_output=True, text=True)
+            run = process.run([sys.executable, "-c", "import agefile"], env=self.env, capture_output=True, text=True)
             if "--recipient" in script and not importlib.util.find_spec("cryptography"):
                 return "needs cryptography"
             return run.stderr.splitlines()[-1] if run.returncode else ""

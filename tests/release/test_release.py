@@ -10,8 +10,9 @@ import sys
 import tarfile
 import zipfile
 
+from tests import built, process
 from tests.case import Case, needs
-from tools.workspace import LIBRARY, PROGRAM, TOP, library, program
+from tools.workspace import LIBRARY, PROGRAM, TOP
 
 # In the place of what builds: the program and the library that were built.
 STUBS = {
@@ -24,7 +25,7 @@ SIGNER = "maintainers@users.noreply.kudebafon.example"
 
 
 def run(*words, **more):
-    return subprocess.run(words, stdout=subprocess.PIPE, stderr=subprocess.STDOUT, text=True, errors="replace", **more)
+    return process.run(words, stdout=subprocess.PIPE, stderr=subprocess.STDOUT, text=True, errors="replace", **more)
 
 
 class ReleaseTest(Case):
@@ -32,8 +33,8 @@ class ReleaseTest(Case):
 
     def setUp(self):
         super().setUp()
-        library()
-        program()
+        built.library()
+        built.program()
         self.top = self.path("a b")
         shutil.copytree(TOP, self.top, ignore=shutil.ignore_patterns("out", ".git", "target", "__pycache__", "libagefile_*.a", "tests", "edits"))
         for name, script in STUBS.items():
@@ -44,7 +45,7 @@ class ReleaseTest(Case):
 
     def git(self, *words):
         env = {**os.environ, "GIT_COMMITTER_DATE": "@1700000000 +0000"}
-        subprocess.run(["git", *words], cwd=self.top, env=env, check=True, stdout=subprocess.DEVNULL)
+        process.run(["git", *words], cwd=self.top, env=env, check=True, stdout=subprocess.DEVNULL)
 
     def pack(self, folder, **more):
         """Runs release/build in the folder that it is in."""
@@ -96,7 +97,7 @@ class ReleaseTest(Case):
         self.assertEqual(self.pack("out", SOURCE_DATE_EPOCH=EARLIER).returncode, 0)
         held = {"NOTICES": self.read("out/NOTICES")}
         for package in self.path("out").glob("*.deb"):
-            subprocess.run(["dpkg-deb", "-x", package, self.path("root")], check=True)
+            process.run(["dpkg-deb", "-x", package, self.path("root")], check=True)
         held |= {str(it): it.read_bytes() for it in self.path("root").glob("usr/share/doc/*/copyright")}
         for archive in self.path("out").glob("*.tar.gz"):
             with tarfile.open(archive) as tar:
@@ -156,7 +157,7 @@ class ReleaseTest(Case):
             self.assertEqual(self.pack("out", SOURCE_DATE_EPOCH=epoch).returncode, 0)
             [package] = self.path("out").glob("python3-agefile_*.deb")
             packages.append(package.name.split("_")[1])
-            subprocess.run(["dpkg-deb", "-x", package, self.path("root")], check=True)
+            process.run(["dpkg-deb", "-x", package, self.path("root")], check=True)
             ended = run(sys.executable, "-c", program, env=env)
             self.see(f"the module with {number}", ended.stdout.split() == [number.replace("_", ""), "2.0.0", "debian", "(of", f"{build})"], ended.stdout)
         self.see("the version rises", run("dpkg", "--compare-versions", packages[0], "lt", packages[1]).returncode == 0, packages)

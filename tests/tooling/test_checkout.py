@@ -7,10 +7,11 @@ import time
 import types
 import unittest.mock
 
+from tests import built, process
 from tests.case import Case, needs
-from tools import libraries, workspace
+from tools import libraries
 from tools.libraries import MADE
-from tools.workspace import CRATES, TOP, library
+from tools.workspace import CRATES, TOP
 
 # What `rt ci` refuses of a checkout before it proves anything.
 REFUSALS = """
@@ -45,7 +46,7 @@ class CheckoutTest(Case):
     def refusals(self, folder):
         room = self.path("of-refusals")
         room.mkdir(exist_ok=True)
-        run = subprocess.run([sys.executable, "-B", "-c", REFUSALS, room], cwd=folder, env={**os.environ, "PYTHONPATH": str(TOP)}, capture_output=True, text=True)
+        run = process.run([sys.executable, "-B", "-c", REFUSALS, room], cwd=folder, env={**os.environ, "PYTHONPATH": str(TOP)}, capture_output=True, text=True)
         return run.stderr if run.returncode else ""
 
     def copy_of_sources(self, name):
@@ -58,7 +59,7 @@ class CheckoutTest(Case):
     @needs("cc")
     def test_used_checkout(self):
         """After `bindings/build` and all other tests the gate still begins."""
-        library()
+        built.library()
         said = self.refusals(TOP)
         self.see("rt ci takes a checkout that was built and used", not said, said)
 
@@ -67,38 +68,38 @@ class CheckoutTest(Case):
         top = self.copy_of_sources("fresh")
         (top / "build").write_text("#!/bin/sh\necho building; exit 1\n")
         told = (TOP / "docs/help.txt").read_text()
-        version = subprocess.run([workspace.program(), "--version"], capture_output=True, text=True).stdout
+        version = process.run([built.program(), "--version"], capture_output=True, text=True).stdout
         for word, wanted in (("--help", told), ("-h", told), ("help", told), ("--version", version), ("-V", version), ("inspect", "building\n")):
-            run = subprocess.run([top / "age_tool", word], capture_output=True, text=True, stdin=subprocess.DEVNULL)
+            run = process.run([top / "age_tool", word], capture_output=True, text=True, stdin=subprocess.DEVNULL)
             self.see(f"{word} in a checkout that isn't built", run.stdout == wanted and (wanted == "building\n") != ("isn't built" in run.stderr), run)
 
     @needs("cc")
     def test_space(self):
         """The library that was proved here is taken in a folder with a space; a C program links it by what pkg-config says."""
-        library()
+        built.library()
         top = self.copy_of_sources("a b/shal low")
         if MADE.exists():
             shutil.copytree(MADE, top / "bindings/out/made")
         for turn in ("once", "twice"):
-            run = subprocess.run([top / "bindings/build"], capture_output=True, text=True)
+            run = process.run([top / "bindings/build"], capture_output=True, text=True)
             self.see(f"bindings/build, {turn}", run.returncode == 0, run.stderr[-2000:])
             said = self.refusals(top)
             self.see(f"rt ci takes it, {turn}", not said, said)
         if not shutil.which("pkg-config"):
             return self.leave_out("pkg-config", "needs pkg-config")
         words = "eval cc -o user \\'bindings/c/decrypt.c\\' $(pkg-config --cflags --libs agefile)"
-        run = subprocess.run(["sh", "-c", words], cwd=top, env={**os.environ, "PKG_CONFIG_PATH": str(top / "bindings/out/pkgconfig")}, capture_output=True, text=True)
+        run = process.run(["sh", "-c", words], cwd=top, env={**os.environ, "PKG_CONFIG_PATH": str(top / "bindings/out/pkgconfig")}, capture_output=True, text=True)
         self.see("a program by pkg-config", run.returncode == 0, run.stderr)
 
     def test_another_clone(self):
         """Another checkout of the same sources takes the library that was proved here, also at another time; what differs in a byte doesn't,
         nor does another processor, and a damaged file isn't taken."""
-        library()
+        built.library()
         top = self.copy_of_sources("clone")
 
         def takes(word="age_c", **more):
             env = {**os.environ, "PYTHONPATH": str(top), "TARGET": "", **more}
-            return subprocess.run([sys.executable, "-B", "-c", TAKES, word], cwd=top, env=env, capture_output=True, text=True).stdout
+            return process.run([sys.executable, "-B", "-c", TAKES, word], cwd=top, env=env, capture_output=True, text=True).stdout
 
         if MADE.exists():
             shutil.copytree(MADE, top / "bindings/out/made")
@@ -200,7 +201,7 @@ class CheckoutTest(Case):
         """`check` tests what it proved, and not what a variable names."""
         words = "import runpy, sys; runpy.run_path('check'); it = sys.modules['tools.workspace']; import os; print(it.PROGRAM, it.LIBRARY, os.getenv('TARGET'), sep='\\n')"
         env = {**os.environ, "AGE_TOOL": "/usr/bin/false", "AGE_C_DIR": "/nowhere", "TARGET": "another"}
-        run = subprocess.run([sys.executable, "-B", "-c", words], cwd=TOP, env=env, capture_output=True, text=True)
+        run = process.run([sys.executable, "-B", "-c", words], cwd=TOP, env=env, capture_output=True, text=True)
         self.see("check tests what it proved", run.stdout.splitlines() == [str(CRATES / "age_tool/out/age_tool"), str(TOP / "bindings/out"), "None"], run)
 
     def test_stale_program(self):
@@ -214,7 +215,7 @@ class CheckoutTest(Case):
         env = {**os.environ, "PATH": f"{self.room}:{os.environ['PATH']}"}
 
         def has_built(name, wanted):
-            said = subprocess.run([top / "age_tool"], capture_output=True, text=True, env=env)
+            said = process.run([top / "age_tool"], capture_output=True, text=True, env=env)
             self.see(name, ("built" in said.stdout) == wanted, said)
             shutil.copy("/usr/bin/true", program)
             later = time.time() + 0.01

@@ -12,7 +12,7 @@ import types
 import unittest
 import unittest.mock
 
-from tests import counted
+from tests import counted, process
 from tests.program import test_transcripts
 from tests.case import SECONDS, Case
 from tools import older_kit, promises, sources, version
@@ -36,7 +36,7 @@ class ChecksTest(unittest.TestCase):
                 (folder / name).write_text((TOP / "tests" / name).read_text())
             (folder / "tooling" / "test_it.py").write_text(text)
             words = [sys.executable, "-m", "tests.counted", "test_it"]
-            run = subprocess.run(words, cwd=made, capture_output=True, text=True, env=more)
+            run = process.run(words, cwd=made, capture_output=True, text=True, env=more)
             self.lines = run.stdout.splitlines()
             self.assertEqual(run.returncode != 0, ", 0 failed," not in self.lines[-1])
             return self.lines[-1]
@@ -152,7 +152,7 @@ for _ in range(600):
     time.sleep(0.1)''')
 check.main()"""
         for stop in (signal.SIGINT, signal.SIGTERM):
-            with self.subTest(stop), subprocess.Popen([sys.executable, "-c", words], cwd=TOP, stdout=subprocess.PIPE, stderr=subprocess.DEVNULL, text=True) as run:
+            with self.subTest(stop), process.Popen([sys.executable, "-c", words], cwd=TOP, stdout=subprocess.PIPE, stderr=subprocess.DEVNULL, text=True) as run:
                 proofs = pathlib.Path("/proc", run.stdout.readline().strip())
                 self.assertTrue(proofs.exists())
                 run.send_signal(stop)

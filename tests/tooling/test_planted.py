@@ -2,12 +2,12 @@
 whether that check names each of them. None of it needs the program."""
 import os
 import shutil
-import subprocess
 import sys
 import tempfile
 import pathlib
 import unittest
 
+from tests import process
 from tools.workspace import TOP
 
 # Of each check: a file, an old text in it and a new one (both are appended to if there is no old one), and what the check has to say.
@@ -82,7 +82,7 @@ class PlantedTest(unittest.TestCase):
     def test_each_is_named(self):
         for check, planted in PLANTED.items():
             env = {**os.environ, "PYTHONDONTWRITEBYTECODE": "1"}
-            run = subprocess.run([sys.executable, f"checks/{check}"], cwd=self.copy, capture_output=True, text=True, env=env)
+            run = process.run([sys.executable, f"checks/{check}"], cwd=self.copy, capture_output=True, text=True, env=env)
             with self.subTest(check):
                 self.assertEqual(run.returncode, 1, run.stderr)
             for file, _, new, said in planted:
