@@ -11,6 +11,7 @@ import unittest
 from tests import built, process
 
 SECONDS = 60
+CLAIMED = []
 # What is made has the modes that tests compare, whatever the mask of the one who runs them.
 os.umask(0o022)
 
@@ -63,8 +64,8 @@ def feed(data, size):
 
 
 def claim(page, phrase):
-    """Prints what a page says of the tests: `check` fails if the page doesn't have this phrase."""
-    print(f"{page} says: {phrase}")
+    """Notes what a page says of the tests of a file: a run of all of them fails if the page doesn't have this phrase (tests/counted.py)."""
+    CLAIMED.append((page, phrase))
 
 
 class Case(unittest.TestCase):
@@ -98,7 +99,7 @@ class Case(unittest.TestCase):
         return ended
 
     def path(self, name):
-        return self.room / name
+        return self.room / process.in_utf_8(name)
 
     def read(self, name):
         return self.path(name).read_bytes()

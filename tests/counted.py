@@ -10,12 +10,13 @@ import importlib
 import json
 import os
 import pathlib
+import re
 import sys
 import threading
 import time
 import unittest
 
-from tests import pages
+from tests import case, pages
 
 LISTED = [it for it in pathlib.Path(__file__).with_name("optional").read_text().splitlines() if it and not it.startswith("#")]
 
@@ -70,12 +71,19 @@ def counting(check):
     return counted
 
 
+def says(page, phrase):
+    """Whether a page has a phrase. ("24 calls" isn't what "224 calls" says.)"""
+    return re.search(rf"(?<![\w,.]){re.escape(phrase)}(?!\w)", " ".join((pages.TOP / page).read_text().split()))
+
+
 def wrong_beside(result, module, read):
-    """What no test says is wrong: pages that were read and aren't listed, what was left out without being listed, and that nothing was checked."""
+    """What no test says is wrong: pages that lack a phrase, or were read and aren't listed, what was left out without being listed, and that
+    nothing was checked."""
+    yield from (f"{page} doesn't say: {phrase}" for page, phrase in case.CLAIMED if not says(page, phrase))
     yield from (f"{it} is read, and READS doesn't list it" for it in sorted(read) if not pages.is_listed(it, module))
     if os.environ.get("AGE_TEST_ALL"):
         yield from (f"{test}: left out, and tests/optional doesn't list this: {why}" for test, why in result.skipped if not may_lack(why))
-    if not (result.passed or result.skipped or result.failures or result.errors):
+    if not (result.testsRun or result.skipped):
         yield "no check was made"
 
 

@@ -45,7 +45,7 @@ def is_listed(page, module):
 
 def listed_in(file):
     """READS of a file of tests, which isn't loaded for that."""
-    found = [it.value for it in ast.parse(file.read_text()).body if isinstance(it, ast.Assign) and it.targets[0].id == "READS"]
+    found = [it.value for it in ast.parse(file.read_text()).body if isinstance(it, ast.Assign) and getattr(it.targets[0], "id", None) == "READS"]
     return ast.literal_eval(found[0]) if found else []
 
 

@@ -15,6 +15,7 @@ from tests import bindings, process
 from tests.case import Case, claim, needs
 from tools.workspace import LIBRARY, TOP
 
+READS = ["README.md"]
 ARCHIVE = TOP / "tests" / "cctv.tar.gz"
 SUM = "29e1ddb94bef5c2932d3b7c4f42577567fed220ce833edeb38458dd320269263"
 

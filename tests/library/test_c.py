@@ -15,6 +15,7 @@ from tests.bindings import BLOCK, KEY, LENGTHS, BindingsCase, agefile, by_python
 from tests.case import needs
 from tools.workspace import LIBRARY, TOP
 
+READS = ["docs/FAULTS.md"]
 INCLUDE = f"-I{TOP / 'include'}"
 FLAGS = ["-std=c11", "-g", "-O1", "-Wall", "-Wextra", INCLUDE]
 SANITIZED = [*FLAGS, "-fsanitize=address,undefined", "-fno-sanitize-recover=all"]

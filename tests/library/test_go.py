@@ -4,6 +4,7 @@ age_tool says."""
 import os
 import pathlib
 import re
+import shlex
 import shutil
 import subprocess
 import unittest
@@ -14,6 +15,7 @@ from tests.case import needs
 from tests.library.test_languages import ModulesCase
 from tools.workspace import LIBRARY, TOP, go_module
 
+READS = ["bindings/*.md"]
 MODULE = TOP / "bindings" / "go"
 # Where Debian's packages have their sources of Go, and what is needed of them: golang-filippo-age-dev and what that uses.
 DEBIAN = pathlib.Path("/usr/share/gocode")
@@ -53,7 +55,7 @@ class GoTest(ModulesCase):
         user = self.path("user")
         write_user(user, "../module")
         commands = [["go", "vet", "./..."], "go test -race -vet=off -count=1 .".split(),
-                    ["sh", "-c", f"cd '{user}' && go mod vendor && go build -mod=vendor -o decrypt ."]]
+                    ["sh", "-c", f"cd {shlex.quote(str(user))} && go mod vendor && go build -mod=vendor -o decrypt ."]]
         if shutil.which("gofmt"):
             commands.append(["sh", "-c", 'test -z "$(gofmt -l .)"'])
         else:

@@ -12,6 +12,8 @@ from tests.case import needs
 from tests.library.test_c import MEANINGS, STRICT, ProgramsCase
 from tools.workspace import LIBRARY, TOP
 
+READS = ["bindings/*.md"]
+
 
 def sample_of(language, number=1, page="bindings/README.md"):
     """A program in a page."""

@@ -6,6 +6,8 @@ from tests.program.case import ProgramCase
 from tools.manual import tables
 from tools.workspace import TOP
 
+READS = ["docs/FAULTS.md"]
+
 
 class ArgumentsTest(ProgramCase):
     def test_words(self):

@@ -20,6 +20,7 @@ from tests.case import claim, needs
 from tools import definitions, shim
 from tools.workspace import CRATES
 
+READS = ["docs/PROVED.md"]
 AFTER_CALL = definitions.read(CRATES / "age_calls/specs/Disk.antt")["after_call"]
 ANYTHING = "anything"
 NOTHING = ("None",)

@@ -5,6 +5,8 @@ from tests.program.case import ProgramCase
 from tools.manual import sentence, tables
 from tools.workspace import TOP
 
+READS = ["docs/FAULTS.md"]
+
 
 class HelpTest(ProgramCase):
     def test_usage(self):

@@ -14,6 +14,7 @@ from tests.program.test_transcripts import Transcripts, unescaped
 from tools.manual import tables
 from tools.workspace import TOP
 
+READS = ["docs/FAULTS.md"]
 ZEROS = "A" * 43
 VERSION, SCRYPT, END = "age-encryption.org/v1\n", f"-> scrypt {22 * 'A'} ", f"--- {ZEROS}\n"
 NEEDS = "a passphrase with work factor N takes 2^N KiB of memory"

@@ -30,6 +30,7 @@ from tests import built, process
 from tests.case import SECONDS, claim, needs
 from tools import shim
 
+READS = ["docs/PROVED.md"]
 # Nothing has to reach a real disk.
 MEMORY = "/dev/shm" if os.access("/dev/shm", os.W_OK) else None
 BLOCK = 4096

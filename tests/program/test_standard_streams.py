@@ -42,10 +42,10 @@ class StandardStreamsTest(FilesCase):
         self.write("wrong", b"wrong\n")
         for streams in ("<&-", ">&-", "2>&-", "<&- >&-", "<&- 2>&-", ">&- 2>&-", "<&- >&- 2>&-"):
             self.remove("saved", "out")
-            words = f"{self.program} decrypt --progress --pass pass --save saved cut out {streams}"
+            words = f'"{self.program}" decrypt --progress --pass pass --save saved cut out {streams}'
             ended = process.run(["sh", "-c", words], cwd=self.room, stderr=subprocess.DEVNULL, timeout=SECONDS)
             self.see(f"closed: {streams}", ended.returncode == 1 and self.read("out") == PLAIN[:131072] and self.is_position("saved", 2))
-            words = f"{self.program} decrypt --progress --pass wrong --save saved age out {streams}"
+            words = f'"{self.program}" decrypt --progress --pass wrong --save saved age out {streams}'
             held = self.read("saved"), self.read("out")
             ended = process.run(["sh", "-c", words], cwd=self.room, stderr=subprocess.DEVNULL, timeout=SECONDS)
             self.see(f"closed: {streams}, with a position and an OUT that are there", ended.returncode == 1 and (self.read("saved"), self.read("out")) == held)

@@ -120,7 +120,7 @@ class SystemErrorsTest(FilesCase):
         """With too few descriptors a run stops, and what it left is right."""
         for most in range(3, 9):
             self.remove("saved", "out")
-            words = f"ulimit -n {most}; exec {self.program} decrypt --pass pass --save saved cut out"
+            words = f'ulimit -n {most}; exec "{self.program}" decrypt --pass pass --save saved cut out'
             ended = process.run(["sh", "-c", words], cwd=self.room, capture_output=True, timeout=SECONDS)
             held = self.read("out") if self.is_there("out") else b""
             self.see(f"{most} descriptors", ended.returncode in (1, 127) and PLAIN.startswith(held), ended)

@@ -12,6 +12,8 @@ from tests.bindings import KEY, BindingsCase, agefile, by_python, plain_of, rais
 from tests.python.files import WAYS
 from tools.workspace import TOP
 
+READS = ["docs/*"]
+
 
 class ReaderTest(BindingsCase):
     def test_files(self):

@@ -13,6 +13,7 @@ from tests.library.test_languages import sample_of
 from tests.python.files import fault_of
 from tools.workspace import LIBRARY
 
+READS = ["docs/RECIPES.md"]
 LENGTH = 9 * 65_536 + 1_000
 
 

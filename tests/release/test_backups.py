@@ -5,8 +5,9 @@ import signal
 import time
 
 from tests.case import SECONDS
-from tests.release.pages import PageCase, blocks
+from tests.release.recipes import PageCase, blocks
 
+READS = ["docs/RECIPES.md"]
 # Programs that stand before those of the same name, in a run that a test stops or holds at one place.
 HELD = {
     # What tar gives first, and then nothing more.

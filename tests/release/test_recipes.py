@@ -9,10 +9,11 @@ import sys
 
 from tests import process
 from tests.case import needs
-from tests.release.pages import AGE, PageCase, blocks
+from tests.release.recipes import AGE, PageCase, blocks
 from tools import terminal
 from tools.workspace import TOP
 
+READS = ["README.md", "docs/RECIPES.md", "docs/FORMAT.md"]
 # What a block may need that a machine can lack.
 TOOLS = ("age", "age-keygen", "curl", "openssl", "python3", "rclone")
 

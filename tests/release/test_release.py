@@ -14,6 +14,7 @@ from tests import built, process
 from tests.case import Case, needs
 from tools.workspace import LIBRARY, PROGRAM, TOP
 
+READS = ["*"]
 # In the place of what builds: the program and the library that were built.
 STUBS = {
     "bindings/build": f"#!/bin/sh\nmkdir -p bindings/out && cp '{LIBRARY}'/libage* bindings/out && cp '{LIBRARY}/libagefile.a' bindings/go/libagefile_amd64.a\n",

@@ -13,6 +13,7 @@ from tools import libraries
 from tools.libraries import MADE
 from tools.workspace import CRATES, TOP
 
+READS = ["*"]
 # What `rt ci` refuses of a checkout before it proves anything.
 REFUSALS = """
 import inspect, os, shutil, sys

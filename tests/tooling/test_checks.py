@@ -1,9 +1,9 @@
 """Tries what the gate itself rests on: that what is gone, left out or published by another way is noticed. None of it needs the program."""
 import contextlib
 import io
+import json
 import os
 import pathlib
-import re
 import signal
 import subprocess
 import sys
@@ -12,55 +12,55 @@ import types
 import unittest
 import unittest.mock
 
-from tests import counted, process
-from tests.program import test_transcripts
+from tests import counted, pages, process
 from tests.case import SECONDS, Case
-from tools import older_kit, promises, sources, version
+from tests.program import test_transcripts
+from tools import older_kit, sources, version
 from tools.workspace import TOP, loaded
 
-EMPTY = "import unittest\n\nclass EmptyTest(unittest.TestCase):\n    pass\n"
-LEFT_OUT = "import unittest\n\nclass LeftOutTest(unittest.TestCase):\n    @unittest.skip('needs %s')\n    def test_it(self): pass\n"
+READS = ["README.md"]
+# A file of tests.
+FILE = """
+import threading, unittest
+from tests.case import claim
 
-# What `check` hears if all goes well: of its proofs, of the edits, and of a file of tests.
-PROOFS, EDITS, WELL = "print('3 passed, 0 failed')", "print('2 passed, 0 failed')", "1 tests ran: test_it\n0 tests were left out:\n1 passed, 0 failed, 0 skipped\n"
+class ItTest(unittest.TestCase):
+    %s
+"""
+# What is in it, and how many of its checks pass, fail and are left out in the gate.
+FILES = {
+    "pass": (0, 1, 0), "def test_it(self): raise KeyError\n    def test_more(self): self.assertTrue(True)": (1, 1, 0),
+    "def test_it(self):\n        for it in []: self.assertTrue(it)": (0, 1, 0), "def test_it(self): yield self.fail()": (0, 1, 0),
+    "def test_it(self): self.assertIsNone(threading.Thread(target=self.fail).run())": (0, 1, 0),
+    "def test_it(self):\n        it = threading.Thread(target=self.fail); it.start(); it.join(); self.assertTrue(it)": (1, 1, 0),
+    "@unittest.expectedFailure\n    def test_it(self): self.assertTrue(True)": (0, 1, 0), "@unittest.expectedFailure\n    def test_it(self): self.fail()": (0, 1, 0),
+    "@unittest.skip('needs go and mypy')\n    def test_it(self): pass": (0, 0, 1), "@unittest.skip('needs go and cc')\n    def test_it(self): pass": (0, 1, 1),
+    "def test_it(self): self.assertTrue(open('README.md').close() is None)": (1, 1, 0), "def test_it(self): self.assertTrue(claim('docs/PAGE.md', '24 calls') is None)": (1, 1, 0),
+}
 
 
 class ChecksTest(unittest.TestCase):
-    def said(self, text, **more):
-        """The last line of what `tests.counted` says of a file of tests with this text."""
+    def test_counted(self):
+        """What `tests.counted` says of files of tests: what checks nothing, what unittest wouldn't count, what a gate's machine mustn't lack,
+        what reads a page that it doesn't list, and a page without a number that the tests have."""
         with tempfile.TemporaryDirectory() as made:
-            folder = pathlib.Path(made, "tests")
-            (folder / "tooling").mkdir(parents=True)
-            (folder / "tooling" / "__init__.py").touch()
-            for name in ("__init__.py", "counted.py", "optional"):
-                (folder / name).write_text((TOP / "tests" / name).read_text())
-            (folder / "tooling" / "test_it.py").write_text(text)
-            words = [sys.executable, "-m", "tests.counted", "test_it"]
-            run = process.run(words, cwd=made, capture_output=True, text=True, env=more)
-            self.lines = run.stdout.splitlines()
-            self.assertEqual(run.returncode != 0, ", 0 failed," not in self.lines[-1])
-            return self.lines[-1]
-
-    def test_nothing_is_tried(self):
-        self.assertEqual(self.said(EMPTY), "0 passed, 1 failed, 0 skipped")
-
-    def test_nothing_is_told(self):
-        """A test that checks nothing, or whose failure unittest wouldn't count, has failed."""
-        head = "import threading, unittest\n\nclass ItTest(unittest.TestCase):\n"
-        for body in ("for it in []: self.assertTrue(it)", "yield self.fail()", "it = threading.Thread(target=self.fail); it.start(); it.join()"):
-            with self.subTest(body):
-                self.assertRegex(self.said(f"{head}    def test_it(self):\n        {body}\n"), r" [1-9]\d* failed, 0 skipped$")
-        for holds in ("True", "False"):
-            text = f"{head}    @unittest.expectedFailure\n    def test_it(self): self.assertTrue({holds})\n"
-            with self.subTest(f"expected to fail, {holds}"):
-                self.assertEqual(self.said(text), "0 passed, 1 failed, 0 skipped")
-
-    def test_left_out(self):
-        """What the gate's machine may lack is counted as left out, and the rest has failed there."""
-        for needed, failed in (("go", 0), ("cc", 1), ("go and cc", 1), ("go and mypy", 0)):
-            with self.subTest(needed):
-                self.assertEqual(self.said(LEFT_OUT % needed, AGE_TEST_ALL="1"), f"0 passed, {failed} failed, 1 skipped")
-                self.assertEqual(self.said(LEFT_OUT % needed), "0 passed, 0 failed, 1 skipped")
+            room = pathlib.Path(made)
+            (room / "docs").mkdir()
+            (room / "docs/PAGE.md").write_text("in 224 calls")
+            (room / "README.md").touch()
+            (room / "tests/tooling").mkdir(parents=True)
+            for name in ("__init__", "built", "case", "counted", "pages", "process"):
+                (room / f"tests/{name}.py").write_text((TOP / f"tests/{name}.py").read_text())
+            (room / "tests/optional").write_text((TOP / "tests/optional").read_text())
+            for name in ("tools", "crates.txt", "crates"):
+                (room / name).symlink_to(TOP / name)
+            for number, (text, (passed, failed, skipped)) in enumerate(FILES.items()):
+                (room / f"tests/tooling/test_it{number}.py").write_text(FILE % text + "\nREADS = ['docs/*']\n")
+                words = [sys.executable, "-m", "tests.counted", f"test_it{number}", f"{made}/told"]
+                run = process.run(words, cwd=made, capture_output=True, text=True, env={"AGE_TEST_ALL": "1"})
+                with self.subTest(text):
+                    self.assertEqual(run.stdout.splitlines()[-1:], [f"{passed} passed, {failed} failed, {skipped} skipped"], run.stdout + run.stderr)
+                    self.assertEqual((run.returncode != 0, json.loads((room / "told").read_text())["failed"]), (failed != 0, failed))
         self.assertTrue(counted.may_lack("no file of 3 TiB can be made: File too large"))
 
     def test_see(self):
@@ -74,70 +74,67 @@ class ChecksTest(unittest.TestCase):
         ItTest("test_it").run(result)
         self.assertEqual((len(result.failures), result.passed), (3, 1))
 
-    def test_errors(self):
-        text = EMPTY.replace("pass", "def test_it(self): raise KeyError\n    def test_more(self): self.assertTrue(True)")
-        self.assertEqual(self.said(text), "1 passed, 1 failed, 0 skipped")
+    def test_limits(self):
+        """A process that doesn't end is killed with what it began; and no test starts one without that limit."""
+        with tempfile.TemporaryDirectory() as made:
+            with self.assertRaises(TimeoutError):
+                process.run(["sh", "-c", "sleep 600 & echo $! >began; wait"], cwd=made, timeout=1, capture_output=True)
+            self.assertFalse(pathlib.Path("/proc", pathlib.Path(made, "began").read_text().strip(), "cwd").exists())
+        others = [it for it in (TOP / "tests").glob("*/*.py") if f"{subprocess.__name__}.run(" in it.read_text()]
+        self.assertEqual(others, [])
 
-    def check_told(self, proofs=PROOFS, edits=EDITS, said=WELL, promised=(), last=""):
-        """The status of `check`, what it says and what it keeps, if its commands are these scripts, the first file of tests says this, and these
-        tests are promised."""
-        check, files = loaded(TOP / "check"), sorted(TOP.glob("tests/*/test_*.py"))
-        self.ran, room = [], tempfile.TemporaryDirectory()
-        self.addCleanup(room.cleanup)
-        kept, released = pathlib.Path(room.name, "out", "ran"), pathlib.Path(room.name, "last")
-        released.write_text(last)
-        scripts = {name: (sys.executable, "-c", it) for name, it in (("PROOFS", proofs), ("EDITS", f"import sys; told = sys.stdin.read(); {edits}"))}
-        tests = {"run_file": lambda it: self.ran.append(it) or (said if it == files[0] else WELL), "program": str, "library": str}
-        tests |= {"promises": lambda: [types.SimpleNamespace(promise="it holds", test=it) for it in promised], "RAN": kept, "LAST": released}
-        patched = unittest.mock.patch.multiple(check, kit=lambda: types.SimpleNamespace(Kept=None), **scripts, **tests)
-        with contextlib.redirect_stdout(io.StringIO()) as shown, unittest.mock.patch.dict("os.environ"), patched:
-            status = check.main()
-        self.assertEqual(sorted(self.ran), files)
-        return status, shown.getvalue().splitlines(), kept.read_text() if kept.exists() else None
+    def test_pages(self):
+        """If nothing but pages changed since the gate passed, the tests that read them are run, and else all."""
+        with tempfile.TemporaryDirectory() as made:
+            passed = {"others": "it", "pages": {"README.md": "a", "docs/SPEED.md": "b"}}
+            with unittest.mock.patch.multiple(pages, place=lambda: pathlib.Path(made, "passed"), sums=lambda: passed):
+                self.assertIsNone(pages.changed(passed))
+                pages.keep({**passed, "others": "changed meanwhile"})
+                self.assertIsNone(pages.changed(passed))
+                pages.keep(passed)
+                self.assertIsNone(pages.changed(passed))
+                now = {"README.md": "new", "docs/SPEED.md": "b"}
+                self.assertIn("test_recipes", pages.changed({**passed, "pages": now}))
+                self.assertNotIn("test_links", pages.changed({**passed, "pages": now}))
+                self.assertIsNone(pages.changed({"others": "other", "pages": now}))
+            with unittest.mock.patch.object(pages, "place", lambda: None):
+                self.assertIsNone(pages.changed(passed))
+        self.assertTrue(pages.is_page("docs/SPEED.md") and pages.is_page("docs/cut.svg") and not pages.is_page("docs/age_tool.1"))
+
+    def check_told(self, proofs="print('3 passed, 0 failed')", edits="print('2 passed, 0 failed')", first=None, promised=(), last=()):
+        """The status of `check` and what it says, if its commands are these scripts, this came of the first file of tests, and these tests are
+        promised."""
+        check, files = loaded(TOP / "check"), sorted(it.stem for it in TOP.glob("tests/*/test_*.py"))
+        well = {"passed": 1, "failed": 0, "skipped": 0, "ran": ["test_it"], "left out": [], "seconds": {}}
+        with tempfile.TemporaryDirectory() as made:
+            released = pathlib.Path(made, "last")
+            released.write_text(json.dumps({"ran": dict(last), "seconds": {}}))
+            told = {"PROOFS": (sys.executable, "-c", proofs), "EDITS": (sys.executable, "-c", f"import sys; told = sys.stdin.read(); {edits}"), "program": str, "library": str}
+            told |= {"run_file": lambda it, _: ("", first if first and it == files[0] else well), "RAN": pathlib.Path(made, "out", "ran"), "LAST": released}
+            told |= {"promises": lambda: [types.SimpleNamespace(promise="it holds", test=it) for it in promised], "kit": lambda: types.SimpleNamespace(Kept=None)}
+            with contextlib.redirect_stdout(io.StringIO()) as shown, unittest.mock.patch.dict("os.environ"), unittest.mock.patch.multiple(check, **told):
+                return check.main([]), shown.getvalue().splitlines(), len(files)
 
     def test_check(self):
-        """`check` tries the core of the edits and runs all files of tests; whatever fails, ends early or has no count shows in its status."""
-        check, files = loaded(TOP / "check"), [*TOP.glob("tests/*/test_*.py")]
-        self.assertEqual(check.EDITS, ("checks/edits", "--core", "--beside"))
-        self.assertLessEqual({*check.LONGEST}, {it.stem for it in files})
-        for what, well in (("proofs", PROOFS), ("edits", EDITS)):
-            count = 5 + len(files)
-            of = int(re.search(r"\d+", well)[0])
-            for script, less, failed in (
-                (well, 0, 0), (f"{well}; exit(1)", 0, 1), ("", of, 1), (f"print('{of - 1} passed, 1 failed'); exit(1)", 1, 1), (f"print('{of - 1} passed, 0 failed')", 1, 0),
-            ):
+        """Whatever fails, ends early or has no count shows in the status of `check` and in its last line."""
+        for what, of in (("proofs", 3), ("edits", 2)):
+            for script, less, failed in ((f"print('{of} passed, 0 failed')", 0, 0), (f"print('{of} passed, 0 failed'); exit(1)", 0, 1), ("", of, 1), (f"print('{of - 1} passed, 1 failed'); exit(1)", 1, 1)):
                 with self.subTest(script, what=what):
-                    status, shown, kept = self.check_told(**{what: script})
-                    self.assertEqual((status, shown[-1], kept is None), (failed != 0, f"{count - less} passed, {failed} failed", failed != 0))
-        for script, word in ((PROOFS, "proved"), ("print('3 passed, 1 failed'); exit(1)", "failed")):
-            with self.subTest(f"the edits hear: {word}"):
-                self.assertEqual(self.check_told(script, f"exit(1) if told != '{word}' else {EDITS}")[1][-1], f"{count} passed, {int(word == 'failed')} failed")
-        for said, less in (("1 passed, 1 failed, 0 skipped\n", 0), ("it was killed\n", 1), (f"README.md says: nothing of that\n{WELL}", 0), ("", 1)):
-            with self.subTest(said):
-                # (a file that doesn't come to its end has no count, and fails)
-                self.assertEqual(self.check_told(said=said)[1][-1], f"{count - less} passed, 1 failed")
+                    status, shown, files = self.check_told(**{what: script})
+                    self.assertEqual((status, shown[-1]), (failed != 0, f"{5 + files - less} passed, {failed} failed"))
+        status, shown, files = self.check_told(first=loaded(TOP / "check").LOST)
+        self.assertEqual((status, shown[-1]), (True, f"{4 + files} passed, 1 failed"))
 
     def test_vanished(self):
         """A test that is promised and neither ran nor was left out is named, and fails; a number that became smaller is shown, and doesn't."""
-        crate_test = sorted(promises.tests_of_crates())[0]
-        said = "1 tests ran: test_one\n1 tests were left out: test_two\n1 passed, 0 failed, 0 skipped\n"
-        first = sorted(TOP.glob("tests/*/test_*.py"))[0].stem
-        for test, is_there in ((f"{first}.test_one", True), (f"{first}.test_two", True), (f"{first}.test_three", False), (crate_test, True), ("age_tests.gone", False), ("-", True)):
+        first = sorted(it.stem for it in TOP.glob("tests/*/test_*.py"))[0]
+        came = {"passed": 1, "failed": 0, "skipped": 1, "ran": ["test_one"], "left out": ["test_two"], "seconds": {}}
+        for test, is_there in ((f"{first}.test_one", True), (f"{first}.test_two", True), (f"{first}.test_three", False), ("age_tests.gone", False), ("-", True)):
             with self.subTest(test):
-                status, shown, _ = self.check_told(said=said, promised=[test])
+                status, shown, _ = self.check_told(first=came, promised=[test])
                 self.assertEqual((status, f"checks/promises: it holds: {test} neither ran nor was left out" in shown), (not is_there, not is_there))
-        status, shown, kept = self.check_told(said=said, last=f"# head\ncrates 3\nedits of the core 9\n{first} 10\ntest_gone 4\n")
-        self.assertFalse(status)
-        told = {" ".join(it.split()) for it in shown}
-        self.assertLessEqual({"crates 3 3", "edits of the core 2 9 fewer", f"{first} 1 10 fewer", "test_gone 0 4 fewer", "test_checks 1 -"}, told)
-        self.assertIn(f"crates 3\nedits of the core 2\n{first} 1\n", kept)
-
-    def test_names_of_tests(self):
-        """Which tests of a file ran, and which were left out for want of what tests/optional lists."""
-        text = EMPTY.replace("pass", "\n    ".join(("def test_it(self): self.assertTrue(True)", "def test_wrong(self): self.assertTrue(False)", "def test_none(self): pass", *(
-            f"@unittest.skip('needs {needed}')\n    def test_{needed}(self): pass" for needed in ("go", "cc")))))
-        self.said(text)
-        self.assertEqual(self.lines[-3:-1], ["2 tests ran: test_it test_wrong", "1 tests were left out: test_go"])
+        status, shown, _ = self.check_told(last={"crates": 3, "test_gone": 4}.items())
+        self.assertEqual((status, [it for it in shown if "last release" in it]), (False, ["test_gone: 0, and 4 before the last release"]))
 
     def test_interrupt(self):
         """Whatever ends `check` early ends what it started."""
@@ -150,7 +147,7 @@ for _ in range(600):
     with contextlib.suppress(OSError):
         print(os.getpid(), flush=True)
     time.sleep(0.1)''')
-check.main()"""
+check.main([])"""
         for stop in (signal.SIGINT, signal.SIGTERM):
             with self.subTest(stop), process.Popen([sys.executable, "-c", words], cwd=TOP, stdout=subprocess.PIPE, stderr=subprocess.DEVNULL, text=True) as run:
                 proofs = pathlib.Path("/proc", run.stdout.readline().strip())
@@ -250,9 +247,3 @@ check.main()"""
             self.assertEqual(version.replaced(new, "98.76.54", old), text)
         self.assertGreater(changed, 5)
         self.assertRegex(version.version(), r"^\d+\.\d+\.\d+$")
-
-    def test_claims(self):
-        """A number that a page has and the tests don't is noticed."""
-        check = loaded(TOP / "check")
-        said = "CONTRIBUTING.md says: # Working on this repository\nCONTRIBUTING.md says: 9,999 runs of nothing\nREADME.md says: 24 calls\n"
-        self.assertEqual([*check.unsaid(said)], ["CONTRIBUTING.md doesn't say: 9,999 runs of nothing", "README.md doesn't say: 24 calls"])

@@ -10,6 +10,7 @@ import unittest
 from tests import process
 from tools.workspace import TOP
 
+READS = ["*"]
 # Of each check: a file, an old text in it and a new one (both are appended to if there is no old one), and what the check has to say.
 PLANTED = {
     "documents": (
