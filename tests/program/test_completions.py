@@ -34,7 +34,7 @@ class CompletionsTest(Case):
     def in_zsh(self, typed):
         """It shows its completions at a terminal alone."""
         child, tty = terminal.start(["env", "-C", str(FOLDER), "zsh", "-f", "-i"], {"TERM": "dumb", **UTF_8})
-        begin = f"PS1='% '; fpath=('{FOLDER}' $fpath); autoload -Uz compinit; compinit -u -D; LISTMAX=1000; bindkey '^I' list-choices; echo rea''dy\n"
+        begin = "PS1='% '; fpath=(\"$PWD\" $fpath); autoload -Uz compinit; compinit -u -D; LISTMAX=1000; bindkey '^I' list-choices; echo rea''dy\n"
         os.write(tty, begin.encode())
         terminal.output(tty, b"ready\r\n", 10)
         os.write(tty, typed.encode() + b"\t")
