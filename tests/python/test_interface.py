@@ -160,7 +160,7 @@ class InterfaceTest(ModuleCase):
         """Faults that a program asks for are classes."""
         data = self.sealed(bytes(70_000))
         payload = len(data) - BLOCK - (70_000 - CHUNK) - 16
-        other = agefile.WrongKey
+        other, flipped = agefile.WrongKey, data[:-1] + bytes([data[-1] ^ 1])
         for what, given, keys, kind, number in (
             ("another passphrase", data, {"passphrase": "other"}, other, 13), ("another file key", data, {"file_key": bytes(16)}, other, 14),
             ("another kind of key", data, {"shared": (KEY * 2, KEY * 2)}, other, 12),
@@ -168,7 +168,7 @@ class InterfaceTest(ModuleCase):
             ("no payload", data[:payload], {"file_key": KEY}, agefile.Truncated, 20),
             ("a missing chunk", data[:payload + BLOCK], {"file_key": KEY}, agefile.Truncated, 20),
             ("a cut chunk", data[:payload + BLOCK + 9], {"file_key": KEY}, agefile.Truncated, 18),
-            ("a changed byte", {"file_key": KEY}, agefile.NotWhole, 17),
+            ("a changed byte", flipped, {"file_key": KEY}, agefile.NotWhole, 17),
             ("bytes after the end", self.sealed(bytes(CHUNK)) + b"0", {"file_key": KEY}, agefile.NotWhole, 21),
             ("a changed header", data.replace(b"\n-> scrypt", b"\n-> scrYpt"), {"passphrase": "pw"}, other, 12),
             ("no age file", b"x\n", {"passphrase": "pw"}, agefile.NotWhole, 1),
