@@ -2,7 +2,9 @@
 command to run."""
 import functools
 import os
+import pathlib
 import shutil
+import tempfile
 import unittest
 
 from tools.workspace import CRATES, LIBRARY, PROGRAM, TOP, with_used
@@ -15,6 +17,11 @@ def see_fresh(made, command, crate, *more):
     sources += [it for name in with_used(crate) for part in ("src", "specs", "proofs") for it in (CRATES / name / part).rglob("*")]
     if not made.exists() or max(os.stat(it).st_ctime for it in sources) > made.stat().st_mtime:
         raise unittest.SkipTest(f"run {command}: {made.relative_to(TOP)} isn't there, or is older than its sources")
+
+
+def cache(name):
+    """A folder for what a compiler keeps: beside the library, or among temporary files if that is another user's."""
+    return LIBRARY / name if os.access(LIBRARY, os.W_OK) else pathlib.Path(tempfile.gettempdir(), f"age-{name}-{os.getuid()}")
 
 
 @functools.cache

@@ -11,7 +11,7 @@ import pathlib
 import tarfile
 import zlib
 
-from tests import bindings, process
+from tests import bindings, built, process
 from tests.case import Case, claim, needs
 from tools.workspace import LIBRARY, TOP
 
@@ -200,11 +200,11 @@ class VectorsTest(Case):
         self.write("src/main.rs", RUST.encode())
         self.write("Cargo.toml", f'[package]\nname = "cctv"\nversion = "0.0.0"\nedition = "2021"\n\n[dependencies]\n'
                                  f'agefile = {{ path = "{TOP}/bindings/rust/agefile" }}\n'.encode())
-        words = ["cargo", "build", "--release", "--offline", "--quiet", "--target-dir", LIBRARY / "target"]
+        words = ["cargo", "build", "--release", "--offline", "--quiet", "--target-dir", built.cache("target")]
         process.run(words, cwd=self.room, env={**os.environ, "AGEFILE_DIR": str(LIBRARY)}, check=True)
         for vector in self.vectors:
             if vector.passphrase is None and vector.expected not in ("success", "payload failure", "HMAC failure") and not vector.is_armored:
                 continue
             by = ["key", vector.key.hex()] if vector.passphrase is None else ["word", vector.passphrase]
-            ended = process.run([LIBRARY / "target" / "release" / "cctv", *by], input=vector.file, capture_output=True)
+            ended = process.run([built.cache("target") / "release" / "cctv", *by], input=vector.file, capture_output=True)
             Case.see(self, f"{vector.name} in Rust", ended.returncode == 0 and self.judge(vector, int(ended.stderr), ended.stdout), ended.stderr)

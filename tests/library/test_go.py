@@ -9,7 +9,7 @@ import shutil
 import subprocess
 import unittest
 
-from tests import process
+from tests import built, process
 from tests.bindings import setUpModule
 from tests.case import needs
 from tests.library.test_languages import ModulesCase
@@ -46,7 +46,7 @@ class GoTest(ModulesCase):
 
     def setUp(self):
         super().setUp()
-        self.env = {"GOCACHE": str(LIBRARY / "gocache"), "GOPROXY": "off", "GOFLAGS": "-buildvcs=false", "GOTOOLCHAIN": "local"}
+        self.env = {"GOCACHE": str(built.cache("gocache")), "GOPROXY": "off", "GOFLAGS": "-buildvcs=false", "GOTOOLCHAIN": "local"}
 
     def test_module(self):
         """Its own tests, under the race detector; and its program, from a vendored copy."""
@@ -97,7 +97,7 @@ class GoTest(ModulesCase):
         own = go_module()
         spelled = re.compile(r"[\w.]+\.\w+/agefile\b(?!-)")
         for file in [*MODULE.rglob("*.go"), *MODULE.rglob("go.mod"), MODULE / "README.md", TOP / "bindings" / "README.md"]:
-            others = {it for it in spelled.findall(file.read_text()) if it != own}
+            others = {it for it in spelled.findall(file.read_text("utf-8")) if it != own}
             self.see(f"{file.name} names {own} alone", not others, others)
 
     def test_fetched(self):

@@ -6,7 +6,7 @@ import re
 import shutil
 import sys
 
-from tests import process
+from tests import built, process
 from tests.bindings import LENGTHS, PYTHON, plain_of, setUpModule
 from tests.case import needs
 from tests.library.test_c import MEANINGS, STRICT, ProgramsCase
@@ -117,7 +117,7 @@ class LanguagesTest(ModulesCase):
     @needs("cargo")
     def test_rust(self):
         """Builds the Rust crates and their example, and runs their tests, and the first program of their page."""
-        to, sample, rust = LIBRARY / "target", self.path("sample-rust"), TOP / "bindings" / "rust"
+        to, sample, rust = built.cache("target"), self.path("sample-rust"), TOP / "bindings" / "rust"
         (sample / "src").mkdir(parents=True)
         (sample / "Cargo.toml").write_text(
             f'[package]\nname = "sample"\nversion = "0.0.0"\nedition = "2021"\n\n[dependencies]\nagefile = {{ path = "{rust}/agefile" }}\n')
@@ -164,10 +164,10 @@ class LanguagesTest(ModulesCase):
             shutil.copytree(TOP / "bindings" / "rust" / "examples" / name, folder)
             words = (folder / "Cargo.toml").read_text().replace("../../agefile", f"{TOP}/bindings/rust/agefile")
             (folder / "Cargo.toml").write_text(words)
-            to = ["--target-dir", LIBRARY / "target"]
+            to = ["--target-dir", built.cache("target")]
             self.succeed(f"Rust over {name}", folder, {"AGEFILE_DIR": str(LIBRARY)}, ["cargo", *config, "build", "--release", "--offline", "--quiet", *to])
             if name == "tokio":
-                self.see_over_tokio(LIBRARY / "target" / "release" / "over-tokio")
+                self.see_over_tokio(built.cache("target") / "release" / "over-tokio")
 
     def see_over_tokio(self, program):
         for length in LENGTHS:

@@ -6,7 +6,7 @@ import shutil
 import sys
 import unittest
 
-from tests import process
+from tests import built, process
 from tests.library import test_go
 from tests.bindings import PYTHON, BindingsCase, plain_of, setUpModule
 from tests.case import needs
@@ -69,7 +69,7 @@ class ProcessorTest(BindingsCase):
 
     @needs("cargo")
     def test_rust(self):
-        to = LIBRARY / "target"
+        to = built.cache("target")
         words = ["cargo", "build", "--release", "--examples", "--offline", "--quiet", "--target-dir", to]
         process.run(words, cwd=TOP / "bindings" / "rust", env={**os.environ, "AGEFILE_DIR": str(LIBRARY)}, check=True, capture_output=True)
         self.see_refused("Rust", [to / "release" / "examples" / "decrypt", "pw"], 1, b"isn't made for this processor (252 NoProcessor)")
@@ -79,7 +79,7 @@ class ProcessorTest(BindingsCase):
         module, user = self.path("go"), self.path("user")
         shutil.copytree(TOP / "bindings" / "go", module)
         shutil.copy(LIBRARY / "libagefile.a", module / "libagefile_amd64.a")
-        env = {**os.environ, "GOCACHE": str(LIBRARY / "gocache"), "GOPROXY": "off", "GOFLAGS": "-buildvcs=false"}
+        env = {**os.environ, "GOCACHE": str(built.cache("gocache")), "GOPROXY": "off", "GOFLAGS": "-buildvcs=false"}
         (module / "processor_test.go").write_text(GO_TEST)
         test_go.write_user(user, "../go")
         for words, folder in ((["build", "-o", self.path("decrypt-go"), "."], user), (["test", "-c", "-o", self.path("tests-go"), "."], module)):
