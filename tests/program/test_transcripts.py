@@ -45,6 +45,8 @@ import resource
 import shlex
 import shutil
 import signal
+import tempfile
+import unittest
 
 from tests.case import Case, feed
 
@@ -253,6 +255,34 @@ class RunsTest(Case):
                 with self.subTest(f"{where}: {verb} {rest}"):
                     self.compare(verb, *words)
         self.assertEqual(self.given, {}, "what no run was given")
+
+
+class LinesTest(unittest.TestCase):
+    """What may stand in a transcript."""
+
+    def transcript(self, text):
+        """The cases of a transcript, with their lines joined."""
+        with tempfile.TemporaryDirectory() as made:
+            path = pathlib.Path(made, "it.run")
+            path.write_text(text)
+            told = Transcripts([path])
+        return [joined(told.steps(block)) for block in told.cases.values()]
+
+    def test_transcripts(self):
+        """A case may not stand twice, and each line belongs to a run or compares something by itself."""
+        self.assertEqual(len(self.transcript("case one\n    $ inspect\n    ? 1\ncase two\n    absent it\n")), 2)
+        for text in ("case one\n    $ inspect\ncase one\n    $ inspect\n", "case one\n    ? 1\n", "case one\n    absent it\n    | text\n"):
+            with self.subTest(text), self.assertRaises(ValueError):
+                self.transcript(text)
+
+    def test_given_to_no_run(self):
+        case = RunsTest("setUp")
+        case.setUp()
+        self.addCleanup(case.doCleanups)
+        for line in ("limit 5", "stdin none", "stdout none"):
+            case.given = {}
+            with self.subTest(line), self.assertRaises(AssertionError):
+                case.go_through(self.transcript(f"case one\n    {line}\n")[0])
 
 
 PATHS = sorted(pathlib.Path(__file__).with_name("transcripts").glob("*.run"))

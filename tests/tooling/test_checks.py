@@ -14,11 +14,9 @@ import unittest.mock
 
 from tests import counted, pages, process
 from tests.case import SECONDS, Case
-from tests.program import test_transcripts
-from tools import older_kit, sources, version
+from tools import older_kit
 from tools.workspace import TOP, loaded
 
-READS = ["README.md"]
 # A file of tests.
 FILE = """
 import threading, unittest
@@ -175,75 +173,3 @@ check.main([])"""
                 os.write(begins, word.encode())
                 os.close(begins)
                 self.assertEqual(([*found], ended), (rest, ["after"] if word else ["it has", "after"]))
-
-    def transcript(self, text):
-        """The cases of a transcript, with their lines joined."""
-        with tempfile.TemporaryDirectory() as made:
-            path = pathlib.Path(made, "it.run")
-            path.write_text(text)
-            told = test_transcripts.Transcripts([path])
-        return [test_transcripts.joined(told.steps(block)) for block in told.cases.values()]
-
-    def test_transcripts(self):
-        """A case may not stand twice, and each line belongs to a run or compares something by itself."""
-        self.assertEqual(len(self.transcript("case one\n    $ inspect\n    ? 1\ncase two\n    absent it\n")), 2)
-        for text in ("case one\n    $ inspect\ncase one\n    $ inspect\n", "case one\n    ? 1\n", "case one\n    absent it\n    | text\n"):
-            with self.subTest(text), self.assertRaises(ValueError):
-                self.transcript(text)
-
-    def test_given_to_no_run(self):
-        case = test_transcripts.RunsTest("setUp")
-        case.setUp()
-        self.addCleanup(case.doCleanups)
-        for line in ("limit 5", "stdin none", "stdout none"):
-            case.given = {}
-            with self.subTest(line), self.assertRaises(AssertionError):
-                case.go_through(self.transcript(f"case one\n    {line}\n")[0])
-
-    def test_names_in_use(self):
-        """Whatever a `pub use` calls a name, it is known by the one that its contract has."""
-        for tree, names in (
-            ("crate::hidden::promised as vow", ["promised"]),
-            ("crate::{hidden::{promised}}", ["promised"]),
-            ("crate::a::{b, c as d, e::{f, g,}, h::*}", ["b", "c", "f", "g", "*"]),
-            ("{a::b, c}", ["b", "c"]),
-            ("a::{self, x}", ["self", "x"]),
-        ):
-            with self.subTest(tree):
-                self.assertEqual([it[-1] for it in sources.used(tree)], names)
-
-    def test_unnoted_calls(self):
-        """A call that changes files is found if it stands where no machine notes it."""
-        check = loaded(TOP / "checks/noted")
-        spoiling = ("let _ = File::create(rt, path);", "file.set_len(0)?;", "fs::rename(rt, one, other)?;", "calls::remove(rt, path)?;")
-        spoiling += ("use age_machine::calls::{cut, close};", "use age_machine::calls as harmless;", "let _ = open_to_write(rt, name, 0o600);")
-        spoiling += ("use std::io::{self, Write};", "io::Write::write(&mut file, b\"x\")?;", "use std::io::prelude::*;", "Writing::new(file).put(b\"x\")?;")
-        spoiling += ("use std::fs::{self, remove_file};", "use std::{fs::{self, remove_file}, io};", "use std::fs::{self, rename as moved};")
-        spoiling += ("use std::fs as disk;", "use std::{fs as disk, fs, io};", "use std::fs::File as Opened;", "use std::{io as sys};", "use std::fs::*;")
-        spoiling += ("std::os::unix::fs::FileExt::write_at(file, from, 0)?;", "use std::os::unix::fs::{chown};", "fs :: rename(rt, one, other)?;")
-        spoiling += ("use crate::output::HostOut as Own;", "use age_machine::Machine as Own;")
-        opening = ("let mut own = Machine::new(self.rt);", "let _ = HostOut::to_make(alloc, rt, name, durability);", "let mut log = HostOut::faults(rt);")
-        spoiling += ("use std::fs::{File, rename};", "File::set_len(&file, 0)?;", "file.write_vectored(&held)?;", "fs::create(rt, path)?;")
-        spoiling += ("file.write_all_at(b\"x\", 0)?;", "let it = calls :: remove;", "libc::unlink(path);", "std::fs::remove_file(rt, name)?;")
-        spoiling += ("use std::process::Command;", "let _ = std::env::var(\"HOME\");", "use std::{net, io};", "rt.stdin().read(into)?;", "std::thread::spawn(it);", "let _ = eprint!(rt; \"{byte}\");")
-        for place, lines in (("age_disk/src/files", spoiling), ("age_prepared/src/position_file", opening), ("age_host_out/src/output", ("calls::remove(rt, path)?;", "use age_machine::calls::{close, cut};"))):
-            for line in lines:
-                with self.subTest(line, place=place), tempfile.TemporaryDirectory() as room:
-                    path = pathlib.Path(room) / f"{place}.rt"
-                    path.parent.mkdir(parents=True)
-                    path.write_text(f"{line}\nfn spoil() {{\n    {line}\n}}\n")
-                    self.assertNotEqual([*check.unnoted([sources.Source(path, pathlib.Path(room))])], [])
-
-    def test_version(self):
-        """A version is written wherever another stands, in each form, and nothing else is changed."""
-        for text, new in (("1.3.0 v1.3.0, (10300)", "12.10.9 v1.3.0, (121009)"), ("1_03_00 10_300u 10300u", "12_10_09 121_009u 121009u"),
-                          ("11.3.0 1.3.0.1 1.3.01 103000 10300_1", "11.3.0 1.3.0.1 1.3.01 103000 10300_1"), ("tool-1.3.0-x.tar", "tool-12.10.9-x.tar")):
-            self.assertEqual(version.replaced(text, "1.3.0", "12.10.9"), new)
-        old, changed = version.version_of_program(), 0
-        for it in version.files():
-            text = it.read_text()
-            new = version.replaced(text, old, "98.76.54")
-            changed += new != text
-            self.assertEqual(version.replaced(new, "98.76.54", old), text)
-        self.assertGreater(changed, 5)
-        self.assertRegex(version.version(), r"^\d+\.\d+\.\d+$")
