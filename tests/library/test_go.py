@@ -8,6 +8,7 @@ import shlex
 import shutil
 import subprocess
 import unittest
+import urllib.parse
 
 from tests import built, process
 from tests.bindings import setUpModule
@@ -107,7 +108,7 @@ class GoTest(ModulesCase):
         user = self.path("new")
         user.mkdir()
         (user / "main.go").write_text(sample())
-        env = {"PATH": "/usr/local/go/bin:/usr/bin:/bin", "HOME": str(home), "GOPROXY": f"file://{folder}/goproxy", "GONOSUMDB": go_module(),
+        env = {"PATH": "/usr/local/go/bin:/usr/bin:/bin", "HOME": str(home), "GOPROXY": f"file://{urllib.parse.quote(str(folder))}/goproxy", "GONOSUMDB": go_module(),
                "GOFLAGS": "-modcacherw", "GOTOOLCHAIN": "local", "GOCACHE": self.env["GOCACHE"]}
         for words in ("go mod init new", f"go get {go_module()}", "go build -o decrypt ."):
             run = process.run(words.split(), cwd=user, env=env, capture_output=True, text=True)

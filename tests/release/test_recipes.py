@@ -6,6 +6,7 @@ import os
 import re
 import shutil
 import sys
+import urllib.parse
 
 from tests import process
 from tests.case import needs
@@ -44,7 +45,8 @@ class RecipesTest(PageCase):
                 self.leave_out(title, why)
                 continue
             with self.subTest(title):
-                run = self.run_script(script)
+                # (a URL has no blank)
+                run = self.run_script(script.replace("file://$PWD", f"file://{urllib.parse.quote(str(self.path('work')))}"))
                 self.assertEqual(run.returncode, 0, run.stdout)
                 self.assertLessEqual({line[2:] for line in script.splitlines() if line.startswith("# ")}, set(run.stdout.splitlines()))
         self.run_again()
