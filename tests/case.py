@@ -99,7 +99,7 @@ class Case(unittest.TestCase):
         return ended
 
     def path(self, name):
-        return self.room / process.in_utf_8(name)
+        return self.room / name
 
     def read(self, name):
         return self.path(name).read_bytes()

@@ -10,11 +10,6 @@ import threading
 LIMIT = 600
 
 
-def in_utf_8(word):
-    """A word or a name whose bytes are those of UTF-8, whatever the locale."""
-    return os.fsdecode(word.encode("utf-8", "surrogateescape")) if isinstance(word, str) else word
-
-
 def kill(process):
     """Kills a process, by its number, and all that it began."""
     began = []
@@ -31,7 +26,7 @@ class Popen(subprocess.Popen):
     """A process that goes on meanwhile."""
 
     def __init__(self, words, timeout=LIMIT, **more):
-        super().__init__([*map(in_utf_8, words)], **more)
+        super().__init__(words, **more)
         self.is_late, self.clock = False, threading.Timer(timeout, self.end)
         self.clock.daemon = True
         self.clock.start()

@@ -98,7 +98,7 @@ class GoTest(ModulesCase):
         own = go_module()
         spelled = re.compile(r"[\w.]+\.\w+/agefile\b(?!-)")
         for file in [*MODULE.rglob("*.go"), *MODULE.rglob("go.mod"), MODULE / "README.md", TOP / "bindings" / "README.md"]:
-            others = {it for it in spelled.findall(file.read_text("utf-8")) if it != own}
+            others = {it for it in spelled.findall(file.read_text()) if it != own}
             self.see(f"{file.name} names {own} alone", not others, others)
 
     def test_fetched(self):

@@ -92,8 +92,8 @@ class AgefileCase(Case):
         cls.addClassCleanup(made.cleanup)
         os.chmod(made.name, 0o755)
         cls.agefile = release(f"{made.name}/release", cls.is_lighter)
-        # (what is typed is UTF-8 in any locale, and a recorded run writes no cache)
-        cls.env = {**os.environ, "PYTHONUTF8": "1", "PYTHONDONTWRITEBYTECODE": "1", "AGEFILE_LIBRARY": str(built.library() / "libagefile.so")}
+        # (a recorded run writes no cache)
+        cls.env = {**os.environ, "PYTHONDONTWRITEBYTECODE": "1", "AGEFILE_LIBRARY": str(built.library() / "libagefile.so")}
 
     def setUp(self):
         super().setUp()
