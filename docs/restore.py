@@ -4,7 +4,7 @@
 usage: python3 restore.py IN OUT
 
 It is slow (about a minute for 10 MB), takes work factors up to 20, and isn't proved;
-tests/test_restore.py compares it with age_tool. If it ends without a message, OUT is the complete
+tests/format/test_restore_script.py compares it with age_tool. If it ends without a message, OUT is the complete
 plaintext. Otherwise OUT isn't made, and OUT.part holds the chunks before the damage or the cut. An
 OUT or OUT.part that exists is refused.
 The format is https://c2sp.org/age, the arithmetic RFC 8439.

@@ -5,26 +5,26 @@ import io
 import os
 import random
 import signal
-import subprocess
 import sys
 import threading
 import time
 
+from tests import built, process
 from tests.case import Case
-from tools import workspace
+from tests.standard import BLOCK, CHUNK  # noqa: F401
+from tools.workspace import TOP
 
 LENGTHS = (0, 1, 65_535, 65_536, 65_537, 131_072, 200_000)
-CHUNK, BLOCK = 65_536, 65_552
 KEY = b"\7" * 16
 RANDOM = KEY + bytes(range(32))
 # The folder of the Python module.
-PYTHON = workspace.TOP / "bindings" / "python"
+PYTHON = TOP / "bindings" / "python"
 
 
 @functools.cache
 def module():
     """The Python module, over the library as it is now."""
-    os.environ["AGEFILE_LIBRARY"] = str(workspace.library() / "libagefile.so")
+    os.environ["AGEFILE_LIBRARY"] = str(built.library() / "libagefile.so")
     sys.path.insert(0, str(PYTHON))
     import agefile._keys, agefile._output
     return agefile
@@ -48,7 +48,7 @@ def setUpModule():
 def python_with(module):
     """A Python that has this module: this one, or the system's."""
     found = f"import importlib.util; raise SystemExit(importlib.util.find_spec('{module}') is None)"
-    return next((it for it in (sys.executable, "/usr/bin/python3") if os.path.exists(it) and subprocess.run([it, "-c", found]).returncode == 0), None)
+    return next((it for it in (sys.executable, "/usr/bin/python3") if os.path.exists(it) and process.run([it, "-c", found]).returncode == 0), None)
 
 
 def plain_of(length):

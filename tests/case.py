@@ -5,11 +5,13 @@ import re
 import shutil
 import subprocess
 import tempfile
+import threading
 import unittest
 
-from tools import workspace
+from tests import built, process
 
 SECONDS = 60
+CLAIMED = []
 # What is made has the modes that tests compare, whatever the mask of the one who runs them.
 os.umask(0o022)
 
@@ -31,7 +33,7 @@ def twice(one, other):
     return f"age_tool: same file named twice\nage_tool: {one} and {other} are the same file\n".encode()
 
 
-# The lines that are advice for people: they may change, and have tests of their own (tests/test_program.py).
+# The lines that are advice for people: they may change, and have tests of their own (tests/program/test_advice.py).
 ADVICE = re.compile(
     rb"age_tool: (?:.* \(age_tool help \d+\)$|position saved in |resume reads only |no position was saved|- is a file |--max-log does nothing "
     rb"|to save the position elsewhere: |the passphrase in |work factor |OUT was moved: |none of them was given|only one of them )"
@@ -44,9 +46,26 @@ def without_advice(said):
     return b"".join(it for it in lines if not ADVICE.match(it)), b"".join(it for it in lines if ADVICE.match(it))
 
 
+def feed(data, size):
+    """A pipe that gives these bytes, at most this many to each read, and the thread that fills it."""
+    source, sink = os.pipe2(os.O_DIRECT | os.O_CLOEXEC)
+
+    def fill():
+        try:
+            for at in range(0, len(data), size):
+                os.write(sink, data[at : at + size])
+        except BrokenPipeError:
+            pass
+        os.close(sink)
+
+    thread = threading.Thread(target=fill)
+    thread.start()
+    return source, thread
+
+
 def claim(page, phrase):
-    """Prints what a page says of the tests: `check` fails if the page doesn't have this phrase."""
-    print(f"{page} says: {phrase}")
+    """Notes what a page says of the tests of a file: a run of all of them fails if the page doesn't have this phrase (tests/counted.py)."""
+    CLAIMED.append((page, phrase))
 
 
 class Case(unittest.TestCase):
@@ -54,7 +73,7 @@ class Case(unittest.TestCase):
 
     @property
     def program(self):
-        return workspace.program()
+        return built.program()
 
     def setUp(self):
         made = tempfile.TemporaryDirectory(prefix="age-test-")
@@ -74,7 +93,7 @@ class Case(unittest.TestCase):
     def tool(self, *words, **more):
         """Runs the program. What it says on standard error is `stderr`, and the advice in it `advice`."""
         more = {"stdin": subprocess.DEVNULL, "stdout": subprocess.PIPE, "stderr": subprocess.PIPE, "timeout": SECONDS} | more
-        ended = subprocess.run([self.program, *words], cwd=self.room, **more)
+        ended = process.run([self.program, *words], cwd=self.room, **more)
         if ended.stderr is not None:
             ended.stderr, ended.advice = without_advice(ended.stderr)
         return ended

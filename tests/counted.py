@@ -1,21 +1,30 @@
-"""Runs the tests of one file, and counts each check of a test that has a name of its own (`subTest`), and a test without any as one. A
-file, or a test, that made no check has failed. So has a test that is expected to fail, that returns something (a generator, say, of which
-nothing ran), or one of whose threads ended by an exception; and, if AGE_TEST_ALL is set, each check that was left out for want of
-something that tests/optional doesn't list.
+"""Runs the tests of one file. Each check with a name of its own (`subTest`) counts, and a test without any counts as one. What unittest lets
+pass fails: a file or a test that checks nothing, one that is expected to fail, one of whose threads ended by an exception, one that reads a page
+which READS of its file doesn't list; and, if AGE_TEST_ALL is set, what is left out for want of something that tests/optional doesn't list.
 
-usage: python3 -m tests.counted FILE     as test_disk; the last line is `N passed, M failed, K skipped`, and the status 0 if none failed;
-                                         each test that took a second or more has a line before it, `S s TEST`, and before those stand
-                                         `N tests ran: TEST ..` and `N tests were left out: TEST ..`, for want of what tests/optional lists
+usage: python3 -m tests.counted FILE [RESULT]     as test_links; the last line is `N passed, M failed, K skipped`, and the status 0 if none
+                                                  failed; RESULT gets the same as JSON, with the names of the tests
 """
 import functools
+import importlib
+import json
 import os
 import pathlib
+import re
 import sys
 import threading
 import time
 import unittest
 
-OPTIONAL = pathlib.Path(__file__).with_name("optional")
+from tests import case, pages
+
+LISTED = [it for it in pathlib.Path(__file__).with_name("optional").read_text().splitlines() if it and not it.startswith("#")]
+
+
+def may_lack(reason):
+    """Whether tests/optional has this reason to leave a check out, or all that the check needs and lacks."""
+    lacks = reason.removeprefix("needs ").split(" and ")
+    return all(it in LISTED for it in lacks) or any(it.endswith(":") and reason.startswith(it) for it in LISTED)
 
 
 class Counted(unittest.TextTestResult):
@@ -23,7 +32,7 @@ class Counted(unittest.TextTestResult):
 
     def __init__(self, *words):
         super().__init__(*words)
-        self.took, self.ran, self.left_out = [], [], []
+        self.ran, self.left_out, self.seconds = [], [], {}
 
     def startTest(self, test):
         super().startTest(test)
@@ -32,9 +41,8 @@ class Counted(unittest.TextTestResult):
 
     def stopTest(self, test):
         threading.excepthook = threading.__excepthook__
-        if (took := time.monotonic() - self.begun) >= 1:
-            self.took.append((took, test.id().removeprefix("tests.")))
-        name, reasons = test.id().rpartition(".")[2], [why for it, why in self.skipped if it is test or getattr(it, "test_case", None) is test]
+        name, reasons = test.id().rpartition(".")[2], [why for it, why in self.skipped if test in (it, getattr(it, "test_case", None))]
+        self.seconds[name] = round(time.monotonic() - self.begun, 1)
         if self.checks or Counted.asserted:
             self.ran.append(name)
         elif reasons and all(map(may_lack, reasons)):
@@ -47,11 +55,10 @@ class Counted(unittest.TextTestResult):
         self.passed += error is None
 
     def addSuccess(self, test):
-        if self.checks or Counted.asserted:
-            super().addSuccess(test)
-            self.passed += self.checks == 0
-        else:
-            self.failures.append((test, "no check was made"))
+        if not (self.checks or Counted.asserted):
+            return self.addFailure(test, (AssertionError, AssertionError("no check was made"), None))
+        super().addSuccess(test)
+        self.passed += self.checks == 0
 
 
 def counting(check):
@@ -64,37 +71,37 @@ def counting(check):
     return counted
 
 
-def may_lack(reason):
-    """Whether the list has this reason to leave a check out, or all that the check needs and lacks."""
-    listed = [it for it in OPTIONAL.read_text().splitlines() if it and not it.startswith("#")]
-    lacks = reason.removeprefix("needs ").split(" and ")
-    return all(it in listed for it in lacks) or any(it.endswith(":") and reason.startswith(it) for it in listed)
+def says(page, phrase):
+    """Whether a page has a phrase. ("24 calls" isn't what "224 calls" says.)"""
+    return re.search(rf"(?<![\w,.]){re.escape(phrase)}(?!\w)", " ".join((pages.TOP / page).read_text().split()))
 
 
-def main():
+def wrong_beside(result, module, read):
+    """What no test says is wrong: pages that lack a phrase, or were read and aren't listed, what was left out without being listed, and that
+    nothing was checked."""
+    yield from (f"{page} doesn't say: {phrase}" for page, phrase in case.CLAIMED if not says(page, phrase))
+    yield from (f"{it} is read, and READS doesn't list it" for it in sorted(read) if not pages.is_listed(it, module))
+    if os.environ.get("AGE_TEST_ALL"):
+        yield from (f"{test}: left out, and tests/optional doesn't list this: {why}" for test, why in result.skipped if not may_lack(why))
+    if not (result.testsRun or result.skipped):
+        yield "no check was made"
+
+
+def main(file, result_file=None):
     for name in (it for it in dir(unittest.TestCase) if it.startswith("assert")):
         setattr(unittest.TestCase, name, counting(getattr(unittest.TestCase, name)))
-    tests = unittest.defaultTestLoader.loadTestsFromName(f"tests.{sys.argv[1]}")
-    result = unittest.TextTestRunner(sys.stdout, verbosity=2, resultclass=Counted).run(tests)
-    failed = sum(map(len, (result.failures, result.errors, result.expectedFailures, result.unexpectedSuccesses)))
-    for test, why in result.failures:
-        if why == "no check was made":
-            print(f"{test}: {why}")
-    if os.environ.get("AGE_TEST_ALL"):
-        unlisted = [(test, reason) for test, reason in result.skipped if not may_lack(reason)]
-        for test, reason in unlisted:
-            print(f"{test}: left out, and tests/optional doesn't list this: {reason}")
-        failed += len(unlisted)
-    if not result.passed + failed + len(result.skipped):
-        print(f"{sys.argv[1]}: no check was made")
-        failed += 1
-    for names, what in ((result.ran, "ran"), (result.left_out, "were left out")):
-        print(f"{len(names)} tests {what}:", *names)
-    for took, test in sorted(result.took, reverse=True):
-        print(f"{took:.1f} s {test}")
-    print(f"{result.passed} passed, {failed} failed, {len(result.skipped)} skipped")
+    [path] = pathlib.Path(__file__).parent.glob(f"*/{file}.py")
+    read = pages.watched()
+    module = importlib.import_module(f"tests.{path.parent.name}.{file}")
+    result = unittest.TextTestRunner(sys.stdout, verbosity=2, resultclass=Counted).run(unittest.defaultTestLoader.loadTestsFromModule(module))
+    wrong = [*wrong_beside(result, module, read)]
+    failed = len(wrong) + sum(map(len, (result.failures, result.errors, result.expectedFailures, result.unexpectedSuccesses)))
+    print(*wrong, f"{result.passed} passed, {failed} failed, {len(result.skipped)} skipped", sep="\n")
+    if result_file:
+        told = {"passed": result.passed, "failed": failed, "skipped": len(result.skipped), "ran": result.ran, "left out": result.left_out, "seconds": result.seconds}
+        pathlib.Path(result_file).write_text(json.dumps(told))
     return failed != 0
 
 
 if __name__ == "__main__":
-    sys.exit(main())
+    sys.exit(main(*sys.argv[1:]))

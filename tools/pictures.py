@@ -4,7 +4,7 @@ leaves, and docs/crates.svg, the crates with the way of a chunk through them.
 usage: python3 -m tools.pictures [--check]
 
 With --check it writes nothing, and fails if a picture isn't what it would write. The layers are those of crates.txt, and each crate has
-a few words here. The cuts, and the faults of `resume`, are data, too: tests/test_pictures.py makes each, and compares what age_tool says and leaves.
+a few words here. The cuts, and the faults of `resume`, are data, too: tests/format/test_pictures.py makes each, and compares what age_tool says and leaves.
 """
 import sys
 import typing

@@ -39,7 +39,7 @@ def tests_of_crates():
 
 def tests_of_files():
     """The tests in tests/ whose names stand in their file, as FILE.FUNCTION, and the cases of the transcripts by the names of their tests."""
-    for path in sorted(TOP.glob("tests/test_*.py")):
+    for path in sorted(TOP.glob("tests/*/test_*.py")):
         yield from (f"{path.stem}.{name}" for name in re.findall(r"(?m)^ *def (test_\w+)", path.read_text()))
-    for path in sorted(TOP.glob("tests/runs.d/*.run")):
-        yield from (f"test_runs.test_{path.stem}_{name}" for name in re.findall(r"(?m)^case (\w+)$", path.read_text()))
+    for path in sorted(TOP.glob("tests/program/transcripts/*.run")):
+        yield from (f"test_transcripts.test_{path.stem}_{name}" for name in re.findall(r"(?m)^case (\w+)$", path.read_text()))

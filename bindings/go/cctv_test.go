@@ -21,7 +21,7 @@ type vector struct {
 	file []byte
 }
 
-// vectors are those of tests/cctv.tar.gz, which tests/test_cctv.py explains.
+// vectors are those of tests/cctv.tar.gz, which tests/format/test_cctv.py explains.
 func vectors(t *testing.T) []vector {
 	archive, err := os.Open("../../tests/cctv.tar.gz")
 	if errors.Is(err, os.ErrNotExist) {

@@ -1,7 +1,7 @@
 package agefile
 
 // Files that are damaged, cut, exchanged and lengthened in ways that a fuzzer chooses, read in ways that it chooses: what has to come is told
-// by comparing their blocks with those that were written. tests/test_go.py runs it for a while:
+// by comparing their blocks with those that were written. tests/library/test_go.py runs it for a while:
 //
 //	go test -fuzz FuzzDecode -fuzztime 20s
 

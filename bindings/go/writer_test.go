@@ -221,7 +221,7 @@ func ownFiles(number int) error {
 	return nil
 }
 
-// Goroutines with files of their own. tests/test_go.py runs it under the race detector.
+// Goroutines with files of their own. tests/library/test_go.py runs it under the race detector.
 func TestFilesOfTheirOwn(t *testing.T) {
 	var all sync.WaitGroup
 	for i := 0; i < 8; i++ {

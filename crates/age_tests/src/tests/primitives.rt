@@ -89,7 +89,7 @@ fn derived(alloc: Global) -> Result<[u8; 32], Memory> {
     derive(alloc, b"correct horse", &[], 1, &mut Steps::new())
 }
 
-/// Compares a key with that of Python's `hashlib.scrypt`. `tests/test_allocations.py` runs it with
+/// Compares a key with that of Python's `hashlib.scrypt`. `tests/library/test_allocations.py` runs it with
 /// each allocation refused in turn: the call that met the refusal says so, and the next one makes
 /// the key.
 #[test]

@@ -1,4 +1,4 @@
-//! Tests of calls that are refused memory. `tests/test_allocations.py` runs them with each
+//! Tests of calls that are refused memory. `tests/library/test_allocations.py` runs them with each
 //! allocation refused in turn: the call that meets the refusal says so, and the next one returns as
 //! ever.
 

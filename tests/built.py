@@ -1,0 +1,41 @@
+"""The program and the C library that are tested. No test builds them: what isn't built, or is older than its sources, is left out with the
+command to run."""
+import functools
+import os
+import pathlib
+import shutil
+import tempfile
+import unittest
+
+from tools.workspace import CRATES, LIBRARY, PROGRAM, TOP, with_used
+
+
+def see_fresh(made, command, crate, *more):
+    """Leaves tests out if a file isn't there, or a source of what it is made of has changed since, by the time that nothing sets back."""
+    kit = shutil.which("rt")
+    sources = [*more, TOP / "crates.txt", TOP / "HANDLES", *([os.path.realpath(kit)] if kit else [])]
+    sources += [it for name in with_used(crate) for part in ("src", "specs", "proofs") for it in (CRATES / name / part).rglob("*")]
+    if not made.exists() or max(os.stat(it).st_ctime for it in sources) > made.stat().st_mtime:
+        raise unittest.SkipTest(f"run {command}: {made.relative_to(TOP)} isn't there, or is older than its sources")
+
+
+def cache(name):
+    """A folder for what a compiler keeps: beside the library, or among temporary files if that is another user's."""
+    return LIBRARY / name if os.access(LIBRARY, os.W_OK) else pathlib.Path(tempfile.gettempdir(), f"age-{name}-{os.getuid()}")
+
+
+@functools.cache
+def program():
+    """The program, unless it isn't built; AGE_TOOL names another."""
+    if "AGE_TOOL" not in os.environ:
+        see_fresh(PROGRAM, "./build", "age_tool")
+    return PROGRAM
+
+
+@functools.cache
+def library():
+    """The folder of the C library, unless it isn't built; AGE_C_DIR names another."""
+    if "AGE_C_DIR" not in os.environ:
+        parts = [it for at in (TOP / "bindings" / "c", TOP / "include") for it in at.glob("*.[ch]")]
+        see_fresh(LIBRARY / "libagefile.so", "bindings/build", "age_c", TOP / "bindings" / "build", *parts)
+    return LIBRARY

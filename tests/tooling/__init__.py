@@ -1,0 +1,1 @@
+"""Tests of the gate itself: the checks, and the builds of a checkout."""
