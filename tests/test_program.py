@@ -12,7 +12,7 @@ import time
 from tests.case import SECONDS, Case, needs, twice, without_advice
 from tests.files import Feeding, FilesCase, waits_for
 from tools import terminal
-from tools.manual import sentence, tables
+from tools.manual import faults, sentence
 from tools.workspace import TOP
 
 
@@ -232,15 +232,14 @@ class ProgramTest(Case):
 
     def test_help_of_faults(self):
         """`help N` prints the row of FAULTS."""
-        for row in tables((TOP / "docs" / "FAULTS.md").read_text()):
-            if "No." in row:
-                ended = self.tool("help", row["No."])
-                said = " ".join(ended.stdout.decode().split())
-                wanted = f"{row['No.']} {row['Name']} {sentence(row['What it means'])} OUT: {row['What is left in OUT']}. What to do: {row['What to do']}."
-                wanted = re.sub(r"\[([^]]*)\]\([^)]*\)", r"\1", wanted).replace("`", "").replace(r"\|", "|")
-                self.see(f"help {row['No.']}", (ended.returncode, ended.stderr, said) == (0, b"", wanted), ended.stderr, said)
-                self.see(f"help {row['Name']}", self.tool("help", row["Name"]).stdout == ended.stdout)
-                self.see(f"help {row['No.']} fits a terminal", all(len(it) <= 80 for it in ended.stdout.splitlines()), ended.stdout)
+        for row in faults((TOP / "docs" / "FAULTS.md").read_text()):
+            ended = self.tool("help", row["No."])
+            said = " ".join(ended.stdout.decode().split())
+            wanted = f"{row['No.']} {row['Name']} {sentence(row['What it means'])} OUT: {row['What is left in OUT']}. What to do: {row['What to do']}."
+            wanted = re.sub(r"\[([^]]*)\]\([^)]*\)", r"\1", wanted).replace("`", "").replace(r"\|", "|")
+            self.see(f"help {row['No.']}", (ended.returncode, ended.stderr, said) == (0, b"", wanted), ended.stderr, said)
+            self.see(f"help {row['Name']}", self.tool("help", row["Name"]).stdout == ended.stdout)
+            self.see(f"help {row['No.']} fits a terminal", all(len(it) <= 80 for it in ended.stdout.splitlines()), ended.stdout)
         for words in ("help 0", "help 32", "help 256", "help x", "help 17 18", "17", "help wrongkey", "help WrongKey 1", "WrongKey"):
             self.see(words, self.tool(*words.split()).returncode == 2)
         self.see("help of a command", self.tool("help", "drill").stdout == self.tool("drill", "--help").stdout)
@@ -320,7 +319,7 @@ class ProgramTest(Case):
         listed = self.tool("--help").stdout.decode().partition("\nCommands:\n")[2].partition("\n\n")[0]
         *commands, last = re.findall(r"(?m)^  (\w+) ", listed)
         known = f"the commands are {', '.join(commands)} and {last}"
-        last_fault = max(int(it["No."]) for it in tables((TOP / "docs" / "FAULTS.md").read_text()) if "No." in it)
+        last_fault = max(int(it["No."]) for it in faults((TOP / "docs" / "FAULTS.md").read_text()))
         for words, what, hint in (
             ("verify plain.age", "no such command: 'verify'", "age_tool decrypt --pass FILE IN /dev/null checks all of IN"),
             ("test plain.age", "no such command: 'test'", "age_tool decrypt --pass FILE IN /dev/null checks all of IN"),
