@@ -1,4 +1,4 @@
-"""Makes docs/age_tool-faults.7, the manual page of the faults, and what `age_tool help N` prints, from the tables of docs/FAULTS.md, so that
+"""Makes docs/age_tool-faults.7, the manual page of the faults, and what `age_tool help N` prints, from the tables and the list of docs/FAULTS.md, so that
 each is described once."""
 import re
 import textwrap
@@ -39,6 +39,12 @@ def tables(text):
             yield dict(zip(heads, cells(line)))
 
 
+def faults(text):
+    """The row of each fault in a page, with what it leaves in OUT: nothing new, unless the page's list of exceptions names its number."""
+    left = {number: " ".join(said.split()) for numbers, said in re.findall(r"(?m)^- \*\*([\d, ]+)\*\*: (.*(?:\n  .*)*)", text) for number in numbers.split(", ")}
+    return [{**row, "What is left in OUT": left.get(row["No."], "unchanged")} for row in tables(text) if "No." in row]
+
+
 def roff(text):
     """Markdown as a line of roff: code in bold, links as their words."""
     text = re.sub(r"\[([^]]*)\]\([^)]*\)", r"\1", text).replace(r"\|", "|").replace("\\", r"\e").replace("-", r"\-")
@@ -53,12 +59,12 @@ def sentence(text):
 
 def text_of_faults():
     """The page as it has to be."""
-    parts, faults = [HEAD], list(tables(SOURCE.read_text()))
-    for row in (it for it in faults if "No." in it):
+    parts, page = [HEAD], SOURCE.read_text()
+    for row in faults(page):
         parts.append(f".SS {row['No.']} {row['Name']}\n{roff(sentence(row['What it means']))}\n")
         parts.append(f".br\nOUT: {roff(row['What is left in OUT'])}.\n.br\nWhat to do: {roff(row['What to do'])}.\n")
     parts.append(".SH STATUS 2\nA command line that can't be obeyed ends with status 2, and a message from the parser or one of these.\n")
-    for row in (it for it in faults if "Message" in it):
+    for row in (it for it in tables(page) if "Message" in it):
         parts.append(f".TP\n{roff(row['Message'])}\n{roff(sentence(row['What it means']))}\n")
     parts.append(".SH SEE ALSO\n.BR age_tool (1)\n")
     return "".join(parts)
@@ -90,7 +96,7 @@ def plain(text):
 def rows_of_faults():
     """The file of the program that has a row for each fault."""
     rows, last = [], 0
-    for row in (it for it in tables(SOURCE.read_text()) if "No." in it):
+    for row in faults(SOURCE.read_text()):
         said = [f"{row['No.']} {row['Name']}", sentence(row["What it means"]), f"OUT: {row['What is left in OUT']}.", f"What to do: {row['What to do']}."]
         text = "\n".join(map(plain, said)).replace("\\", "\\\\").replace('"', '\\"')
         last = max(last, int(row["No."]))

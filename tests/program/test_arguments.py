@@ -3,7 +3,7 @@ import random
 import re
 
 from tests.program.case import ProgramCase
-from tools.manual import tables
+from tools.manual import faults
 from tools.workspace import TOP
 
 READS = ["docs/FAULTS.md"]
@@ -71,7 +71,7 @@ class ArgumentsTest(ProgramCase):
         listed = self.tool("--help").stdout.decode().partition("\nCommands:\n")[2].partition("\n\n")[0]
         *commands, last = re.findall(r"(?m)^  (\w+) ", listed)
         known = f"the commands are {', '.join(commands)} and {last}"
-        last_fault = max(int(it["No."]) for it in tables((TOP / "docs" / "FAULTS.md").read_text()) if "No." in it)
+        last_fault = max(int(it["No."]) for it in faults((TOP / "docs" / "FAULTS.md").read_text()))
         for words, what, hint in (
             ("verify plain.age", "no such command: 'verify'", "age_tool decrypt --pass FILE IN /dev/null checks all of IN"),
             ("test plain.age", "no such command: 'test'", "age_tool decrypt --pass FILE IN /dev/null checks all of IN"),

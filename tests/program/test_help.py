@@ -2,7 +2,7 @@
 import re
 
 from tests.program.case import ProgramCase
-from tools.manual import sentence, tables
+from tools.manual import faults, sentence
 from tools.workspace import TOP
 
 READS = ["docs/FAULTS.md"]
@@ -23,15 +23,14 @@ class HelpTest(ProgramCase):
 
     def test_help_of_faults(self):
         """`help N` prints the row of FAULTS."""
-        for row in tables((TOP / "docs" / "FAULTS.md").read_text()):
-            if "No." in row:
-                ended = self.tool("help", row["No."])
-                said = " ".join(ended.stdout.decode().split())
-                wanted = f"{row['No.']} {row['Name']} {sentence(row['What it means'])} OUT: {row['What is left in OUT']}. What to do: {row['What to do']}."
-                wanted = re.sub(r"\[([^]]*)\]\([^)]*\)", r"\1", wanted).replace("`", "").replace(r"\|", "|")
-                self.see(f"help {row['No.']}", (ended.returncode, ended.stderr, said) == (0, b"", wanted), ended.stderr, said)
-                self.see(f"help {row['Name']}", self.tool("help", row["Name"]).stdout == ended.stdout)
-                self.see(f"help {row['No.']} fits a terminal", all(len(it) <= 80 for it in ended.stdout.splitlines()), ended.stdout)
+        for row in faults((TOP / "docs" / "FAULTS.md").read_text()):
+            ended = self.tool("help", row["No."])
+            said = " ".join(ended.stdout.decode().split())
+            wanted = f"{row['No.']} {row['Name']} {sentence(row['What it means'])} OUT: {row['What is left in OUT']}. What to do: {row['What to do']}."
+            wanted = re.sub(r"\[([^]]*)\]\([^)]*\)", r"\1", wanted).replace("`", "").replace(r"\|", "|")
+            self.see(f"help {row['No.']}", (ended.returncode, ended.stderr, said) == (0, b"", wanted), ended.stderr, said)
+            self.see(f"help {row['Name']}", self.tool("help", row["Name"]).stdout == ended.stdout)
+            self.see(f"help {row['No.']} fits a terminal", all(len(it) <= 80 for it in ended.stdout.splitlines()), ended.stdout)
         for words in ("help 0", "help 32", "help 256", "help x", "help 17 18", "17", "help wrongkey", "help WrongKey 1", "WrongKey"):
             self.see(words, self.tool(*words.split()).returncode == 2)
         self.see("help of a command", self.tool("help", "drill").stdout == self.tool("drill", "--help").stdout)

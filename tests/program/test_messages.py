@@ -11,7 +11,7 @@ from tests import process
 from tests.program.agefile import release
 from tests.case import SECONDS, Case, without_advice
 from tests.program.test_transcripts import Transcripts, unescaped
-from tools.manual import tables
+from tools.manual import faults
 from tools.workspace import TOP
 
 READS = ["docs/FAULTS.md"]
@@ -173,7 +173,7 @@ class MessagesTest(Case):
             row = re.search(rf"^\| {number} \| .*$", page, re.M)[0]
             to_do = {11: RETRY, 28: NEEDS}.get(number) or sentence.partition(": ")[2]
             self.see(f"FAULTS says to do the same after {number} of {name}", to_do in row or "above 22" in sentence, to_do, row)
-        known = {int(row["No."]) for row in tables((TOP / "docs" / "FAULTS.md").read_text()) if "No." in row}
+        known = {int(row["No."]) for row in faults((TOP / "docs" / "FAULTS.md").read_text())}
         self.see("each fault", {it[0] for it in (*ROWS, *UNMADE, *MACHINE)} == known, known)
         for number, sentence, reason in UNMADE:
             row, said = re.search(rf"^\| {number} \| .*$", page, re.M)[0], (TOP / "crates/age_hints/src/sentences.rt").read_text()

@@ -9,11 +9,10 @@ from unittest import mock
 
 from tests import process
 from tests.bindings import BLOCK, KEY, LENGTHS, PYTHON, BindingsCase, agefile, flipped, limited, plain_of, python_with, raised, setUpModule
-from tests.library.test_languages import sample_of
 from tests.python.files import fault_of
-from tools.workspace import LIBRARY
+from tools.workspace import LIBRARY, TOP
 
-READS = ["docs/RECIPES.md"]
+READS = []
 LENGTH = 9 * 65_536 + 1_000
 
 
@@ -85,7 +84,7 @@ class WorkersTest(BindingsCase):
 
 
 class DaskTest(BindingsCase):
-    """The program for several machines in docs/RECIPES.md, with a scheduler and two workers on loopback."""
+    """The program for several machines, docs/dask/restore.py, with a scheduler and two workers on loopback."""
 
     # What happens in the middle of a part: the first time its worker is killed; once there is another file, that takes the place of what is
     # read.
@@ -99,7 +98,7 @@ class DaskTest(BindingsCase):
         if self.python is None:
             self.skipTest("needs Dask")
         self.env = {**os.environ, "PYTHONPATH": str(PYTHON), "PYTHONDONTWRITEBYTECODE": "1", "AGEFILE_LIBRARY": str(LIBRARY / "libagefile.so")}
-        program = sample_of("python", page="docs/RECIPES.md").replace("1 << 30, 4 << 20", "1 << 17, 1 << 16").replace(self.WRITES, self.WRITES + self.HAPPENS)
+        program = (TOP / "docs" / "dask" / "restore.py").read_text().replace("1 << 30, 4 << 20", "1 << 17, 1 << 16").replace(self.WRITES, self.WRITES + self.HAPPENS)
         self.write("restore.py", program.encode())
         self.begin("scheduler", "--port", "0", "--scheduler-file", "scheduler.json")
         with limited(60):

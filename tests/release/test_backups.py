@@ -1,11 +1,12 @@
 """Backups by the commands of docs/RECIPES.md: twice at once, stopped, with a clock that is wrong, and of files that change."""
 import os
+import re
 import shutil
 import signal
 import time
 
 from tests.case import SECONDS
-from tests.release.recipes import PageCase, blocks
+from tests.release.recipes import AGE, PageCase, blocks
 
 READS = ["docs/RECIPES.md"]
 # Programs that stand before those of the same name, in a run that a test stops or holds at one place.
@@ -110,12 +111,16 @@ while they are encrypted or are replaced. No age file that is there afterwards, 
     def test_no_photos(self):
         """A folder that is empty, or a link to one: neither is a backup, and nothing is deleted."""
         self.write_backup_script()
+        sealed = self.blocks["A backup that its server can't read"].split("> recipients)\n")[1].split("bash sealed.sh")[0]
+        self.assertEqual(self.run_script(sealed).returncode, 0)
+        self.write("work/recipients", re.search(r"age1\w+", (AGE / "key.txt").read_text())[0].encode())
         shutil.move(self.path("work/photos"), self.path("elsewhere"))
         for kind, make in (("no folder", lambda it: None), ("an empty folder", os.mkdir), ("a link", lambda it: (it.rmdir(), it.symlink_to("../elsewhere")))):
             make(self.path("work/photos"))
-            run = self.run_script("bash backup.sh")
-            self.see(f"{kind}: no backup", run.returncode != 0 and "no new backup" in run.stdout, run.stdout)
-            self.see_whole(kind, "photos-*.tar.age", 0)
+            for script in ("backup.sh", "sealed.sh"):
+                run = self.run_script(f"bash {script}")
+                self.see(f"{kind}, {script}: no backup", run.returncode != 0 and f"{script}: no new backup" in run.stdout, run.stdout)
+            self.see_whole(kind, "*.tar.age", 0)
 
     def test_checked_again(self):
         """The newest backup is checked, also where an earlier one has the short name and the shell goes on after a failure."""

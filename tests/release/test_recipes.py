@@ -17,7 +17,7 @@ from tools.workspace import TOP
 
 READS = ["README.md", "docs/RECIPES.md", "docs/FORMAT.md"]
 # What a block may need that a machine can lack.
-TOOLS = ("age", "age-keygen", "curl", "openssl", "python3", "rclone")
+TOOLS = ("age", "age-keygen", "curl", "openssl", "par2", "python3", "rclone")
 
 
 class RecipesTest(PageCase):
@@ -54,7 +54,7 @@ class RecipesTest(PageCase):
 
     def run_again(self):
         """Runs all of them again, where all files are there: none is lost or changed but the list of the backup's files, the one of an odd
-        name, and the backup of the day. Each age file still opens."""
+        name, and the backups of the day. Each age file still opens."""
         anew = {"files", "caf\udce9.txt"}
         self.write("work/shared", b"another's")
         held = {it: it.read_bytes() for it in self.path("work").rglob("*") if it.is_file() and it.name not in anew}
@@ -62,7 +62,7 @@ class RecipesTest(PageCase):
             if not self.lacking(script) and title != "Changing the passphrase":
                 self.run_script(script)
         for path, text in held.items():
-            is_made_anew = re.fullmatch(r"photos-....-..-..\.tar\.age", path.name)
+            is_made_anew = re.fullmatch(r"(photos|sealed)-....-..-..\.tar\.age", path.name)
             self.see(f"{path.name} is as it was", path.exists() and (is_made_anew or path.read_bytes() == text))
         # (there are two if midnight came in between)
         today = self.run_script('age_tool decrypt --pass passphrase.txt "$(ls photos-????-??-??.tar.age | tail -n 1)" /dev/null')

@@ -1,0 +1,42 @@
+"""Restores photos.tar.age on several machines, and checks the folder of backups, by the workers of Dask: each opens a part of the file, and
+another writes that part again if one is lost. They have the module agefile and the current folder in common.
+
+usage: python3 restore.py ADDRESS_OF_THE_SCHEDULER
+"""
+import glob, os, sys
+import agefile
+from dask.distributed import Client
+
+NAME, OUT, PART, PIECE = "photos.tar.age", "photos.tar", 1 << 30, 4 << 20
+
+def opened(name, head=b""):
+    with open("passphrase.txt", "rb") as file:
+        passphrase = file.read().removesuffix(b"\n")
+    file = open(name, "rb")
+    if not file.read(1024).startswith(head):
+        raise ValueError(f"{name} was replaced")
+    file.seek(0)
+    return agefile.open(file, passphrase=passphrase)
+
+def restore(at, head):
+    with opened(NAME, head) as file, open(OUT + ".part", "r+b") as out:
+        file.seek(at)
+        out.seek(at)
+        while piece := file.read(min(PIECE, at + PART - file.tell())):
+            out.write(piece)
+        out.flush()
+        os.fsync(out.fileno())
+
+def check(name):
+    with opened(name) as file:
+        while file.read(PIECE):
+            pass
+
+if __name__ == "__main__":
+    with Client(sys.argv[1]) as client, open(NAME, "rb") as file:
+        head = file.read(1024)  # which no other age file begins with
+        with opened(NAME, head) as text, open(OUT + ".part", "xb") as out:
+            parts = range(0, out.truncate(text.size), PART)
+        client.gather(client.map(restore, parts, head=head))
+        os.rename(OUT + ".part", OUT)
+        client.gather(client.map(check, glob.glob("backups/*.age")))
