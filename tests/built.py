@@ -3,11 +3,33 @@ command to run."""
 import functools
 import os
 import pathlib
+import shlex
 import shutil
 import tempfile
 import unittest
 
 from tools.workspace import CRATES, LIBRARY, PROGRAM, TOP, with_used
+
+
+# In the place of what builds: the program and the library that were built.
+STUBS = {
+    "bindings/build": f"""#!/bin/sh
+mkdir -p bindings/out && cp {shlex.quote(str(LIBRARY))}/libage* bindings/out && cp include/agefile.h bindings/go
+cp {shlex.quote(str(LIBRARY))}/libagefile.a bindings/go/libagefile_amd64.a
+""",
+    "release/static": f"""#!/bin/sh
+for it in "$1" "$2" "$2.o"; do cp {shlex.quote(str(PROGRAM))} "$it"; done
+""",
+}
+
+
+def copy_to_pack(to):
+    """Makes a copy of this checkout that packs what was built, and builds nothing."""
+    library()
+    program()
+    shutil.copytree(TOP, to, ignore=shutil.ignore_patterns("out", ".git", "target", "__pycache__", "libagefile_*.a", "tests", "edits"))
+    for name, script in STUBS.items():
+        (to / name).write_text(script)
 
 
 def see_fresh(made, command, crate, *more):

@@ -16,7 +16,7 @@ from tests.case import needs
 from tests.library.test_languages import ModulesCase
 from tools.workspace import LIBRARY, TOP, go_module
 
-READS = ["bindings/*.md"]
+READS = ["*"]
 MODULE = TOP / "bindings" / "go"
 # Where Debian's packages have their sources of Go, and what is needed of them: golang-filippo-age-dev and what that uses.
 DEBIAN = pathlib.Path("/usr/share/gocode")
@@ -104,7 +104,8 @@ class GoTest(ModulesCase):
     def test_fetched(self):
         """`go get` takes the packed module from a folder, in an environment that has no repository and no kit; and its program decrypts."""
         folder, home = self.path("proxy"), self.path("home")
-        process.run([TOP / "release" / "go", folder], check=True, stdout=subprocess.DEVNULL, env={**os.environ, "SOURCE_DATE_EPOCH": "1800000000"})
+        built.copy_to_pack(self.path("packed"))
+        process.run([self.path("packed") / "release" / "go", folder], cwd=self.path("packed"), check=True, stdout=subprocess.DEVNULL, env={**os.environ, "SOURCE_DATE_EPOCH": "1800000000"})
         user = self.path("new")
         user.mkdir()
         (user / "main.go").write_text(sample())

@@ -12,14 +12,9 @@ import zipfile
 
 from tests import built, process
 from tests.case import Case, needs
-from tools.workspace import LIBRARY, PROGRAM, TOP
+from tools.workspace import LIBRARY, TOP
 
 READS = ["*"]
-# In the place of what builds: the program and the library that were built.
-STUBS = {
-    "bindings/build": f"#!/bin/sh\nmkdir -p bindings/out && cp '{LIBRARY}'/libage* bindings/out && cp '{LIBRARY}/libagefile.a' bindings/go/libagefile_amd64.a\n",
-    "release/static": f"#!/bin/sh\nfor it in \"$1\" \"$2\" \"$2.o\"; do cp '{PROGRAM}' \"$it\"; done\n",
-}
 EARLIER, LATER, DAY = 1_800_000_000, 1_800_000_100, "2027-01-15"
 # Who signs.
 SIGNER = "maintainers@users.noreply.kudebafon.example"
@@ -34,12 +29,8 @@ class ReleaseTest(Case):
 
     def setUp(self):
         super().setUp()
-        built.library()
-        built.program()
         self.top = self.path("a b")
-        shutil.copytree(TOP, self.top, ignore=shutil.ignore_patterns("out", ".git", "target", "__pycache__", "libagefile_*.a", "tests", "edits"))
-        for name, script in STUBS.items():
-            (self.top / name).write_text(script)
+        built.copy_to_pack(self.top)
         self.git("init", "-q")
         self.git("add", "-A")
         self.git("-c", "user.name=a", "-c", "user.email=a@b", "commit", "-q", "-m", "all", "--date", "@1700000000 +0000")
