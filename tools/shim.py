@@ -6,8 +6,9 @@ import subprocess
 import tempfile
 
 SOURCE = pathlib.Path(__file__).with_suffix(".c")
-# Its folder goes when this ends.
-ROOM = tempfile.TemporaryDirectory(prefix="age-shim-")
+# Its folder goes when this ends. (LD_PRELOAD is split at blanks and colons, and TMPDIR may have some.)
+PLACE = tempfile.gettempdir()
+ROOM = tempfile.TemporaryDirectory(prefix="age-shim-", dir="/tmp" if {*" :"} & {*PLACE} else PLACE)
 
 
 @functools.cache
