@@ -14,14 +14,14 @@ import unittest.mock
 
 from tests import counted, test_runs
 from tests.case import SECONDS, Case
-from tools import older_kit, promises, sources, version
+from tools import promises, sources, version
 from tools.workspace import TOP, loaded
 
 EMPTY = "import unittest\n\nclass EmptyTest(unittest.TestCase):\n    pass\n"
 LEFT_OUT = "import unittest\n\nclass LeftOutTest(unittest.TestCase):\n    @unittest.skip('needs %s')\n    def test_it(self): pass\n"
 
 # What `check` hears if all goes well: of its proofs, of the edits, and of a file of tests.
-PROOFS, EDITS, WELL = "print('3 passed, 0 failed')", "print('2 passed, 0 failed')", "1 tests ran: test_it\n0 tests were left out:\n1 passed, 0 failed, 0 skipped\n"
+PROOFS, EDITS, WELL = "print('rt: age_kdf proved\\n3 passed, 0 failed')", "print('2 passed, 0 failed')", "1 tests ran: test_it\n0 tests were left out:\n1 passed, 0 failed, 0 skipped\n"
 
 
 class ChecksTest(unittest.TestCase):
@@ -87,7 +87,7 @@ class ChecksTest(unittest.TestCase):
         scripts = {name: (sys.executable, "-c", it) for name, it in (("PROOFS", proofs), ("EDITS", f"import sys; told = sys.stdin.read(); {edits}"))}
         tests = {"run_file": lambda it: self.ran.append(it) or (said if it == files[0] else WELL), "program": str, "library": str}
         tests |= {"promises": lambda: [types.SimpleNamespace(promise="it holds", test=it) for it in promised], "RAN": kept, "LAST": released}
-        patched = unittest.mock.patch.multiple(check, kit=lambda: types.SimpleNamespace(Kept=None), **scripts, **tests)
+        patched = unittest.mock.patch.multiple(check, **scripts, **tests)
         with contextlib.redirect_stdout(io.StringIO()) as shown, unittest.mock.patch.dict("os.environ"), patched:
             status = check.main()
         self.assertEqual(sorted(self.ran), files)
@@ -100,16 +100,17 @@ class ChecksTest(unittest.TestCase):
         self.assertLessEqual({*check.LONGEST}, {it.stem for it in files})
         for what, well in (("proofs", PROOFS), ("edits", EDITS)):
             count = 5 + len(files)
-            of = int(re.search(r"\d+", well)[0])
+            of = int(re.search(r"(\d+) passed", well)[1])
             for script, less, failed in (
                 (well, 0, 0), (f"{well}; exit(1)", 0, 1), ("", of, 1), (f"print('{of - 1} passed, 1 failed'); exit(1)", 1, 1), (f"print('{of - 1} passed, 0 failed')", 1, 0),
             ):
                 with self.subTest(script, what=what):
                     status, shown, kept = self.check_told(**{what: script})
                     self.assertEqual((status, shown[-1], kept is None), (failed != 0, f"{count - less} passed, {failed} failed", failed != 0))
-        for script, word in ((PROOFS, "proved"), ("print('3 passed, 1 failed'); exit(1)", "failed")):
-            with self.subTest(f"the edits hear: {word}"):
-                self.assertEqual(self.check_told(script, f"exit(1) if told != '{word}' else {EDITS}")[1][-1], f"{count} passed, {int(word == 'failed')} failed")
+        kept = "print('rt: age_kdf is kept: an earlier run proved it\\nrt: age_io NOT PROVED\\n3 passed, 1 failed'); exit(1)"
+        for script, told, failed in ((PROOFS, "age_kdf\\nend\\n", 0), (kept, "age_kdf\\nend\\n", 1), ("print('3 passed, 0 failed')", "end\\n", 0)):
+            with self.subTest(f"the edits hear: {told}", script=script):
+                self.assertEqual(self.check_told(script, f"exit(1) if told != '{told}' else {EDITS}")[1][-1], f"{count} passed, {failed} failed")
         for said, less in (("1 passed, 1 failed, 0 skipped\n", 0), ("it was killed\n", 1), (f"README.md says: nothing of that\n{WELL}", 0), ("", 1)):
             with self.subTest(said):
                 # (a file that doesn't come to its end has no count, and fails)
@@ -158,24 +159,18 @@ check.main()"""
                 self.assertFalse(proofs.exists())
 
     def test_beside(self):
-        """Edits are tried once their crate is proved and kept; in the end what wasn't kept is proved if `check` says that all is, and else isn't
-        tried. If it says nothing, they end with it."""
+        """Edits hear which crates are proved, and take their libraries at once. If they hear no end, they end with `check`."""
         edits = loaded(TOP / "checks/edits")
-        for word, rest, is_older in (("proved", ["c"], False), ("failed", [], False), ("", [], False), ("proved", ["a", "b", "c"], True), ("failed", ["a", "b"], True)):
-            (ends, begins), kept, ended = os.pipe(), ["a"], []
-            libraries = types.SimpleNamespace(is_kept=lambda it: it in kept, is_proved=lambda it: it != "d")
-            patched = unittest.mock.patch.multiple(edits, PAUSE=0.01, kit=lambda: types.SimpleNamespace(Kept=older_kit.Kept if is_older else None))
-            with self.subTest(word, is_older=is_older), open(ends) as told, unittest.mock.patch("sys.stdin", told), patched:
-                proofs = edits.Proofs(lambda: ended.append("it has"), lambda: ended.append("after"))
-                found = proofs.arriving(libraries, ["a", "b", "c", "d"])
-                if not is_older:
-                    self.assertEqual(next(found), "a")
-                kept.append("b")
-                if not is_older:
-                    self.assertEqual(next(found), "b")
-                os.write(begins, word.encode())
-                os.close(begins)
-                self.assertEqual(([*found], ended), (rest, ["after"] if word else ["it has", "after"]))
+        for heard, ends in (("a\nb\nend\n", ["after"]), ("a\nb\n", ["it has ended"]), ("", ["it has ended"])):
+            with self.subTest(heard), tempfile.TemporaryDirectory() as made, unittest.mock.patch("sys.stdin", io.StringIO(heard)):
+                crates, ended = pathlib.Path(made, "crates"), []
+                (crates / "a" / "out" / "rlib" / "a.rlib").mkdir(parents=True)
+                (crates / "a" / "out" / "rlib" / "a.rlib" / "format").write_text("it")
+                workspace = types.SimpleNamespace(library=lambda it: pathlib.Path(made, "copy", it))
+                with unittest.mock.patch.object(edits, "CRATES", crates):
+                    found = [*edits.proved_beside(workspace, lambda: ended.append("it has ended"), lambda: ended.append("after"))]
+                self.assertEqual((found, ended), (["a", "b"] if heard else [], ends))
+                self.assertEqual(pathlib.Path(made, "copy", "a", "a.rlib", "format").exists(), bool(heard))
 
     def transcript(self, text):
         """The cases of a transcript, with their lines joined."""
