@@ -75,7 +75,8 @@ class Workspace:
     """A copy of some crates, without their edits, in which `rt ci` proves them and `rattle` checks and compiles what stands on them."""
 
     def __init__(self, room, names):
-        self.top, self.run = pathlib.Path(room), None
+        self.top, self.names, self.run = pathlib.Path(room), names, None
+        self.top.mkdir(exist_ok=True)
         copy_into(self.top, names)
         # (`rt ci` wants the top of a repository)
         (self.top / ".git").mkdir(exist_ok=True)
@@ -83,6 +84,8 @@ class Workspace:
     def prove(self):
         """Proves all crates by `rt ci`, which takes what it kept of the same: each as soon as it is proved, and whether it was kept. Raises Unproved at
         the first that isn't proved."""
+        if not self.names:
+            return
         how = {"stdin": subprocess.DEVNULL, "stdout": subprocess.PIPE, "stderr": subprocess.STDOUT, "text": True, "errors": "replace"}
         # In a session of its own, an interrupt at the terminal doesn't reach it: it would wait for its checks, which end with it.
         with subprocess.Popen(["rt", "ci"], cwd=self.top, start_new_session=True, **how) as run:
@@ -127,7 +130,7 @@ class Workspace:
         words += ["--toolchain", kit() / "toolchain", "--target", TARGET, "--backend", "llvm", "-o", made]
         run = subprocess.run(words, cwd=made.parent.parent, stdin=subprocess.DEVNULL, stdout=subprocess.PIPE, stderr=subprocess.STDOUT, text=True, errors="replace")
         if run.returncode or "\nlogic=proved " not in f"\n{run.stdout}" or BEYOND.search(run.stdout):
-            raise Unproved(f"{run.stdout}{crate} NOT PROVED\n")
+            raise Unproved(f"{run.stdout}{crate} NOT PROVED: rattle ended with status {run.returncode}\n")
         return made
 
 
