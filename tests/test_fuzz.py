@@ -56,8 +56,10 @@ class FuzzTest(Case):
             for it in ("agefile.c", "once.c", "look.c"):
                 shutil.copy(SOURCES / it, sources / it)
             text = (sources / name).read_text()
-            self.assertEqual(text.count(old), 1, flaw)
-            (sources / name).write_text(text.replace(old, new))
+            # (whatever the form of its lines)
+            pattern = r"\s+".join(map(re.escape, old.split()))
+            self.assertEqual(len(re.findall(pattern, text)), 1, flaw)
+            (sources / name).write_text(re.sub(pattern, lambda _: new, text))
             run = self.fuzz("0", by, SOURCES=str(sources))
             self.see(f"fuzzed: {flaw}", run.returncode == 1 and ("not so: " in run.stdout or "ERROR: " in run.stdout), run.stdout[-1000:], run.stderr[-2000:])
 

@@ -43,6 +43,15 @@ def kit():
 
 
 @functools.cache
+def note_older_kit():
+    """Says once that this kit keeps nothing of what it proves, if that is so."""
+    said = subprocess.run(["rt", "help"], capture_output=True, text=True)
+    if "What a run passed is kept" not in said.stdout + said.stderr:
+        name = (kit() / "KIT-ID").read_text().split()[0]
+        print(f"note: {name} keeps nothing of what it proves: all is proved anew, which takes longer", file=sys.stderr, flush=True)
+
+
+@functools.cache
 def sum_of_kit():
     """A sum of what names the kit, and of the sizes and times of what proves and compiles by it."""
     parts = [it for pattern in ("KIT-ID", "bin/*", "toolchain/bin/*", "logic_built/*", "rlibs/*/format") for it in sorted(kit().glob(pattern))]
@@ -86,6 +95,7 @@ class Workspace:
         the first that isn't proved."""
         if not self.names:
             return
+        note_older_kit()
         how = {"stdin": subprocess.DEVNULL, "stdout": subprocess.PIPE, "stderr": subprocess.STDOUT, "text": True, "errors": "replace"}
         # In a session of its own, an interrupt at the terminal doesn't reach it: it would wait for its checks, which end with it.
         with subprocess.Popen(["rt", "ci"], cwd=self.top, start_new_session=True, **how) as run:

@@ -135,7 +135,7 @@ def pushed(data, text, size, fault, pieces):
         for piece in itertools.cycle(pieces):
             if at >= len(data):
                 break
-            got, at = got + decryptor.update(data[at : at + piece + 1]), at + piece + 1
+            got, at = got + decryptor.update(data[at : at + piece + 99]), at + piece + 99
         got += decryptor.finish()
     except agefile.AgeError as it:
         number = it.number
