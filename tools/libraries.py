@@ -97,8 +97,9 @@ class Workspace:
             return
         note_older_kit()
         how = {"stdin": subprocess.DEVNULL, "stdout": subprocess.PIPE, "stderr": subprocess.STDOUT, "text": True, "errors": "replace"}
+        env = {**os.environ, "PYTHONPATH": str(TOP)}
         # In a session of its own, an interrupt at the terminal doesn't reach it: it would wait for its checks, which end with it.
-        with subprocess.Popen(["rt", "ci"], cwd=self.top, start_new_session=True, **how) as run:
+        with subprocess.Popen([sys.executable, "-m", "tools.rt_ci"], cwd=self.top, start_new_session=True, env=env, **how) as run:
             self.run, said = run, ""
             try:
                 for line in run.stdout:
