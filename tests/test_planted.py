@@ -33,6 +33,7 @@ PLANTED = {
         ("docs/age_tool.1", "1 to 65,536 bytes", "1 to 65,535 bytes", "docs/age_tool.1: PASSPHRASE_LIMIT"),
         ("docs/crates.svg", ">age_kdf<", ">age_kdm<", "docs/crates.svg: age_kdm is no crate"),
         ("docs/cut.svg", ">in the nonce<", ">in the pinch<", "docs/cut.svg doesn't say: in the nonce"),
+        ("bindings/c/names.c", '"Trailing"', '"Appended"', "bindings/c/names.c: no 21 Trailing"),
         ("crates/age_hints/src/sentences.rt", "17 =>", "18 =>", "docs/FAULTS.md: row 18 hasn't the hint of the code"),
         ("crates/age_cli_args/src/help.rt", "One of --pass, --file-key", "One of --passing, --file-key", "names --passing"),
         ("crates/age_kdf/edits/all.edit", "old: ", "old: nothing of ", "an old text isn't in its file exactly once"),

@@ -251,20 +251,36 @@ func (it fuzzed) seeAt(t *testing.T, tape *tape, file []byte, fault int) {
 	}
 }
 
+func hasType(h *Header, kind string) bool {
+	for _, it := range h.Stanzas {
+		if it.Type == kind {
+			return true
+		}
+	}
+	return false
+}
+
 // Any bytes as a header: Inspect and Decrypt say the same of it, and what Inspect says is what stands there.
 func FuzzInspect(f *testing.F) {
 	addCorpus(f, "FuzzInspect")
+	for _, it := range readVectors() {
+		f.Add(it.file[:least(len(it.file), 4000)])
+	}
 	for _, it := range []Recipient{pw(), &keyHolder{kind: "x"}, given{{Type: "X25519", Args: []string{"a"}, Body: make([]byte, 100)}}} {
 		f.Add(sealed(nil, it))
 	}
 	f.Fuzz(func(t *testing.T, data []byte) {
 		h, err := Inspect(iotest.OneByteReader(bytes.NewReader(data)))
-		by := failingKey{errFull}
-		if _, other := Decrypt(bytes.NewReader(data), by); err != nil && (numberOf(err) == 0 || numberOf(other) != numberOf(err)) || err == nil && other != errFull {
-			t.Fatalf("%v, and by a key %v", err, other)
-		}
+		_, other := Decrypt(bytes.NewReader(data), failingKey{errFull})
 		if err != nil {
+			if numberOf(err) == 0 || numberOf(other) != numberOf(err) {
+				t.Fatalf("%v, and by a key %v", err, other)
+			}
 			return
+		}
+		// (before it asks a key, Decrypt sees that a passphrase's stanza is alone)
+		if other != errFull && (numberOf(other) != 9 || len(h.Stanzas) < 2 || !hasType(h, "scrypt")) {
+			t.Fatalf("nothing, and by a key %v", other)
 		}
 		text := []byte("age-encryption.org/v1\n")
 		for _, it := range h.Stanzas {
