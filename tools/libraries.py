@@ -1,272 +1,234 @@
-"""The libraries of the workspace as `rt ci` proves and keeps them; and a static library, or a program's object, over them.
+"""The kit, used by its commands alone: the libraries of the workspace as `rt ci` proves them in a copy, and what `rattle` makes over these.
 
 usage: python3 -m tools.libraries CRATE     prints the path of a static library, or of a program's object, for the processor that TARGET
-                                            says: as a run left it that proved the same sources, or proved and compiled now
-       python3 -m tools.libraries --all     proves the workspace in which it is called, as `rt ci` does, in less time
-       python3 -m tools.libraries --build   the same for a program that is to be used, which only LLVM compiles
+                                            says: as a run on this machine made it of the same sources, or proved and compiled now
 """
-import collections
-import concurrent.futures
 import contextlib
 import functools
 import hashlib
 import os
 import pathlib
+import re
 import shutil
+import signal
+import subprocess
 import sys
 import tempfile
 import time
 
-from tools import older_kit
-from tools.workspace import TOP, loaded, with_used
+from tools.workspace import CRATES, TOP, copy_into, lines, uses, with_used
 
 # What a static library or an object is made for.
 OWN_TARGET = "x86_64-unknown-linux-gnu"
 TARGET = os.environ.get("TARGET") or OWN_TARGET
-# Where it is kept if that can't be beside what the kit keeps; and how many files are, those used last.
-MADE, MOST = TOP / "bindings" / "out" / "made", 32
+# What a proof reads of a crate.
+PARTS = ("src", "specs", "proofs")
+# What `rattle` says of code that it proves and that `rt ci` refuses: that a contract says nothing, in a line of its own, or in the last line that
+# the code does what HANDLES doesn't allow, or what no contract tells.
+BEYOND = re.compile(r"(?m)^warning: no call of `(?![^`]*::fn::)|^note: the search for empty contracts did not end"
+                    r"|^logic=proved .* (?:foreign|hides|partial|may-abort|may-wait|may-serve|bugs|main)=")
+# How many of the files that were made are kept, those used last.
+MOST = 32
+SAID = re.compile(r"rt: (\w+) (proved|is kept: .*)\n")
 
 
-def command():
-    """`rt` as a module."""
-    return loaded(pathlib.Path(os.path.realpath(shutil.which("rt"))))
+class Unproved(Exception):
+    """A crate isn't proved: what was said of it."""
 
 
 @functools.cache
 def kit():
-    """The same with its crates, its calls of the prover, and what earlier checks have proved."""
-    rt = command()
-    if not hasattr(rt, "Kept"):
-        older_kit.complete(rt)
-    return rt
+    """The folder of the kit."""
+    return pathlib.Path(os.path.realpath(shutil.which("rt"))).parent.parent
 
 
-class Libraries:
-    """The workspace in a copy, whose libraries are proved as `rt ci` proves them: what the gate kept is taken, and the crates above load
-    statements and not proofs."""
+@functools.cache
+def note_older_kit():
+    """Says once that this kit keeps nothing of what it proves, if that is so."""
+    said = subprocess.run(["rt", "help"], capture_output=True, text=True)
+    if "What a run passed is kept" not in said.stdout + said.stderr:
+        name = (kit() / "KIT-ID").read_text().split()[0]
+        print(f"note: {name} keeps nothing of what it proves: all is proved anew, which takes longer", file=sys.stderr, flush=True)
 
-    def __init__(self, room):
-        rt = kit()
-        rt.copy_crates(str(TOP), f"{room}/repo")
-        # (it is the top of a repository)
-        os.mkdir(f"{room}/repo/.git")
-        rt.rtlib.Crate, rt.Crate.cuts_libraries, rt.Crate.allowed = rt.Crate, True, rt.handles_of(f"{room}/repo")
-        self.crates = rt.crates_of(f"{room}/repo")
-        # `given` are those that an earlier run kept.
-        self.kept, self.proved, self.given = rt.Kept(self.crates), {}, set()
 
-    def is_proved(self, crate):
-        """Whether a library is proved; proves it if it isn't yet, and shows what is said if that fails."""
-        if crate.name not in self.proved:
-            self.proved[crate.name] = all(map(self.is_proved, crate.below())) and self.is_given(crate)
-        return self.proved[crate.name]
+@functools.cache
+def sum_of_kit():
+    """A sum of what names the kit, and of the sizes and times of what proves and compiles by it."""
+    parts = [it for pattern in ("KIT-ID", "bin/*", "toolchain/bin/*", "logic_built/*", "rlibs/*/format") for it in sorted(kit().glob(pattern))]
+    known = [(str(it), it.stat().st_size, it.stat().st_mtime_ns) for it in parts]
+    return sum_of((kit() / "KIT-ID").read_text(), known)
 
-    def is_kept(self, crate):
-        """Whether a library is proved, or a run kept it, this moment too: then it is taken. Nothing is proved for that."""
-        if crate.name not in self.proved and all(map(self.is_kept, crate.below())) and self.takes(crate):
-            self.proved[crate.name] = True
-        return self.proved.get(crate.name, False)
 
-    def takes(self, crate):
-        """Takes the library if a run kept it: whether one did."""
-        os.makedirs(f"{crate.folder}/out", exist_ok=True)
-        if not self.kept.give(crate, False, self.kept.key(crate)):
-            return False
-        self.kept.is_built(crate)
-        self.given.add(crate.name)
-        return True
+def sum_of(*what):
+    return hashlib.sha256(repr(what).encode()).hexdigest()
 
-    def is_given(self, crate):
-        """Whether an earlier run kept the library, or it is proved now, and then kept."""
-        if self.takes(crate):
-            return True
-        key = self.kept.key(crate)
-        with tempfile.TemporaryFile("w+", errors="replace") as crate.out:
-            if crate.ci(["--jobs", str(len(os.sched_getaffinity(0)))], False):
-                crate.out.seek(0)
-                print(crate.out.read())
-                return False
-        self.kept.is_built(crate)
-        self.kept.keep(crate, False, key)
-        return True
+
+def sum_of_file(path):
+    return hashlib.sha256(path.read_bytes()).hexdigest()
+
+
+def sum_of_sources(crate, top=TOP):
+    """A sum of all that a proof of a crate reads in a workspace: its sources and those of the crates that it uses, what crates.txt and HANDLES say
+    of them, and the kit."""
+    of = with_used(crate)
+    files = [it for name in of for part in PARTS for it in sorted((top / "crates" / name / part).rglob("*")) if it.is_file()]
+    held = [(str(it.relative_to(top)), sum_of_file(it)) for it in files]
+    return sum_of(sum_of_kit(), [lines()[it] for it in of], (top / "HANDLES").read_text(), held)
+
+
+def is_program(crate):
+    return (CRATES / crate / "src" / "main.rt").is_file()
+
+
+class Workspace:
+    """A copy of some crates, without their edits, in which `rt ci` proves them and `rattle` checks and compiles what stands on them."""
+
+    def __init__(self, room, names):
+        self.top, self.names, self.run = pathlib.Path(room), names, None
+        self.top.mkdir(exist_ok=True)
+        copy_into(self.top, names)
+        # (`rt ci` wants the top of a repository)
+        (self.top / ".git").mkdir(exist_ok=True)
+
+    def prove(self):
+        """Proves all crates by `rt ci`, which takes what it kept of the same: each as soon as it is proved, and whether it was kept. Raises Unproved at
+        the first that isn't proved."""
+        if not self.names:
+            return
+        note_older_kit()
+        how = {"stdin": subprocess.DEVNULL, "stdout": subprocess.PIPE, "stderr": subprocess.STDOUT, "text": True, "errors": "replace"}
+        env = {**os.environ, "PYTHONPATH": str(TOP)}
+        # In a session of its own, an interrupt at the terminal doesn't reach it: it would wait for its checks, which end with it.
+        with subprocess.Popen([sys.executable, "-m", "tools.rt_ci"], cwd=self.top, start_new_session=True, env=env, **how) as run:
+            self.run, said = run, ""
+            try:
+                for line in run.stdout:
+                    said = line if line.startswith("== ") else said + line
+                    if found := SAID.fullmatch(line):
+                        yield found[1], found[2] != "proved"
+                    elif line.endswith(" NOT PROVED\n"):
+                        raise Unproved(said.replace(str(self.top), str(TOP)))
+            except BaseException:
+                run.terminate()
+                raise
+        if run.returncode:
+            raise Unproved(said.replace(str(self.top), str(TOP)))
+
+    def library(self, crate):
+        """The folder in which `rt ci` leaves a library."""
+        return self.top / "crates" / crate / "out" / "rlib"
+
+    def words(self, crate, jobs):
+        """What `rattle` is told of a crate, whatever it is to do with it, once the libraries below it are proved."""
+        listed = lines()[crate].partition(":")[2].split()
+        words = ["--crate-name", crate, "src/main.rt" if is_program(crate) else "src/lib.rt"]
+        for it in ["std", *(it for it in listed if it not in lines())]:
+            words += ["--extern", f"{it}={kit()}/rlibs/{it}.rlib"]
+        words += ["-L", f"dependency={kit()}/rlibs"]
+        for it in uses(crate):
+            words += ["--extern", f"{it}={self.library(it)}/{it}.rlib"]
+        for it in with_used(crate)[:-1]:
+            words += ["-L", f"dependency={self.library(it)}"]
+        words += ["--antt-project", f"{kit()}/rattle/logic/antt-project.json", "--logic-built", f"{kit()}/logic_built"]
+        words += ["--jobs", str(jobs), "--links", f"{crate}="]
+        return words + ["--crate-type", "staticlib"] * (lines()[crate].partition(":")[0].split()[1:2] == ["staticlib"])
+
+    def compile(self, crate, jobs):
+        """Proves a program or a static library, and compiles it in the same run: the path of its object or library."""
+        made = self.top / "crates" / crate / "out" / f"{crate}.{'o' if is_program(crate) else 'a'}"
+        made.parent.mkdir(exist_ok=True)
+        words = [kit() / "bin" / "rattle", "build", *self.words(crate, jobs), "--empty-contracts"]
+        words += ["--toolchain", kit() / "toolchain", "--target", TARGET, "--backend", "llvm", "-o", made]
+        run = subprocess.run(words, cwd=made.parent.parent, stdin=subprocess.DEVNULL, stdout=subprocess.PIPE, stderr=subprocess.STDOUT, text=True, errors="replace")
+        if run.returncode or "\nlogic=proved " not in f"\n{run.stdout}" or BEYOND.search(run.stdout):
+            raise Unproved(f"{run.stdout}{crate} NOT PROVED: rattle ended with status {run.returncode}\n")
+        return made
+
+
+def places():
+    """Where it is kept what runs made of proved sources: for all checkouts of this user, or else in this one."""
+    cache = pathlib.Path(os.environ.get("XDG_CACHE_HOME") or os.path.expanduser("~/.cache"))
+    return [*([cache / "age_tool"] if cache.is_absolute() else []), TOP / "bindings" / "out" / "kept"]
+
+
+def kept(kind, name):
+    """The files of a kind that are kept and whose names begin so."""
+    for place in places():
+        with contextlib.suppress(OSError):
+            yield from (place / kind).glob(f"{name}*")
+
+
+def keep(kind, name, write):
+    """Keeps a file, which `write` writes at a path, and removes those of its kind that weren't used for longest: its path, if there was a place."""
+    for place in places():
+        with contextlib.suppress(OSError):
+            (place / kind).mkdir(parents=True, exist_ok=True)
+            new = place / kind / f"new-{os.getpid()}-{name[-8:]}"
+            write(new)
+            return new.rename(place / kind / name)
+    return None
 
 
 class Made:
-    """What was made of a crate by runs that proved it, on this machine, beside what the kit keeps, or else in this checkout. Each file's name
-    has the checksum of all that it was made of, and that of its bytes; it is written apart and then renamed."""
+    """What was made of a crate by runs that proved it. The name of each file has the sum of all that it was made of, and that of its bytes."""
 
-    def __init__(self, rt, kept, crate):
-        # (the sources of the crate and of those below it, the kit, and what HANDLES and crates.txt say of them)
-        of = hashlib.sha256(repr((rt.stamp_of(crate, {}), TARGET, "llvm")).encode()).hexdigest()
-        self.name, at = f"{crate.name}-{of}-", getattr(kept, "at", None)
-        self.places = [pathlib.Path(at, "made"), MADE] if at else [MADE]
+    def __init__(self, crate, top=TOP):
+        self.name = f"{crate}-{sum_of(sum_of_sources(crate, top), TARGET)}-"
 
     def found(self):
         """The file, if an earlier run left it."""
-        for it in (it for place in self.places for it in place.glob(f"{self.name}*")):
+        for it in kept("made", self.name):
             with contextlib.suppress(OSError):
-                if sum_of(it) == it.name.removeprefix(self.name):
+                if sum_of_file(it) == it.name.removeprefix(self.name):
                     os.utime(it)
                     return it
         return None
 
     def keep(self, made):
-        """Keeps a file, and removes those that weren't used for longest: its path."""
-        name = self.name + sum_of(made)
-        for place in self.places:
-            with contextlib.suppress(OSError):
-                place.mkdir(parents=True, exist_ok=True)
-                os.replace(shutil.copy(made, place / f"new-{os.getpid()}"), place / name)
-                for it in sorted(place.iterdir(), key=lambda it: -it.stat().st_mtime)[MOST:]:
-                    it.unlink()
-                return place / name
-        return None
+        """Keeps a file: its path."""
+        found = keep("made", self.name + sum_of_file(made), lambda to: shutil.copy(made, to))
+        for it in sorted(found.parent.iterdir(), key=lambda it: -it.stat().st_mtime)[MOST:] if found else ():
+            it.unlink()
+        return found
 
 
-def sum_of(file):
-    return hashlib.sha256(pathlib.Path(file).read_bytes()).hexdigest()
+def processors():
+    return int(os.environ.get("JOBS") or len(os.sched_getaffinity(0)))
 
 
-def made_by(crate):
-    """What a run that proves a program or a static library leaves of it."""
-    return f"{crate.folder}/out/{crate.name}{'.a' if crate.is_static else '.o'}"
-
-
-def prove_and_compile(rt, crate, flags):
-    """Proves a program or a static library, over libraries that are proved, and compiles it in the same run: the status."""
-    words = ["build", *crate.words(flags, keeps=False), "--toolchain", f"{rt.KIT}/toolchain", "--target", TARGET, "--backend", "llvm"]
-    return crate.prove([*words, "-o", made_by(crate)])
-
-
-def make(name):
-    """Takes what was made of a crate; or proves what it uses, or takes what `rt ci` kept of it, and then proves and compiles it: the path, if
-    that went well."""
-    start, of = time.monotonic(), len(with_used(name))
-    # Its first call sets the handler of a signal, which only the main thread may.
-    kit().rtlib.guarded()
-
-    def tell(count, crate, how):
-        print(f"[{count}/{of}] {crate} {how}, {int((time.monotonic() - start) / 60)} min", file=sys.stderr, flush=True)
-
+def make(crate, tell=lambda crate, is_kept: None):
+    """Takes what was made of a static library or of a program's object, or proves it, over what it uses, and compiles it: the path. Each crate is
+    told as soon as it is proved."""
+    if made := Made(crate).found():
+        tell(crate, True)
+        return made
+    *below, _ = with_used(crate)
     with tempfile.TemporaryDirectory(prefix="age-library-") as room:
-        libraries = Libraries(room)
-        crate = next(it for it in libraries.crates if it.name == name)
-        known = Made(kit(), libraries.kept, crate)
-        if made := known.found():
-            tell(of, name, "was proved before")
-            return made
-        os.makedirs(f"{crate.folder}/out", exist_ok=True)
-        for count, it in enumerate(crate.below(), 1):
-            if not libraries.is_proved(it):
-                return None
-            tell(count, it.name, "was proved before" if it.name in libraries.given else "proved")
-        jobs = os.environ.get("JOBS") or str(len(os.sched_getaffinity(0)))
-        with tempfile.TemporaryFile("w+", errors="replace") as crate.out:
-            if prove_and_compile(kit(), crate, ["--jobs", jobs]):
-                crate.out.seek(0)
-                print(crate.out.read(), file=sys.stderr)
-                return None
-        tell(of, name, "proved")
-        return known.keep(made_by(crate))
+        workspace = Workspace(room, below)
+        for it in workspace.prove():
+            tell(*it)
+        copy_into(workspace.top, [*below, crate])
+        made = workspace.compile(crate, processors())
+        tell(crate, False)
+        return Made(crate, workspace.top).keep(made)
 
 
-def at_once(compile_by, backends):
-    """What compiles the one program by a compiler, with all of them at work from the first call on."""
-    begun, pool = {}, concurrent.futures.ThreadPoolExecutor()
+def main(crate):
+    begun, of, done = time.monotonic(), len(with_used(crate)), []
 
-    def compiled(crate, backend, *words):
-        if not begun:
-            begun.update({it: pool.submit(compile_by, crate, it, *words) for it in backends})
-        return begun[backend].result()
+    def tell(it, is_kept):
+        done.append(it)
+        how = "was proved before" if is_kept else "proved"
+        taken = f"{(time.monotonic() - begun) / 60:.0f} min"
+        print(f"[{of if it == crate else len(done)}/{of}] {it} {how}, {taken}", file=sys.stderr, flush=True)
 
-    return compiled
-
-
-def made_as_proved(rt, prove, makes_program):
-    """What proves a crate, or its tests, and makes a static library in the run that proves it, so that it isn't proved once more for that;
-    and a program, which doesn't read all libraries again then."""
-
-    def proved(crate, flags, tests):
-        if tests or not (crate.is_static or crate.is_program and makes_program):
-            return prove(crate, flags, tests)
-        return prove_and_compile(rt, crate, flags) or (crate.is_program and crate.link(made_by(crate), f"out/{crate.name}"))
-
-    return proved
-
-
-def given_as_made(rt, give):
-    """What gives a crate that an earlier run proved: a program also if only LLVM compiled it, which is linked again."""
-
-    def given(kept, crate, tests, key):
-        if give(kept, crate, tests, key):
-            return True
-        made = Made(rt, kept, crate).found() if crate.is_program and not tests else None
-        return made is not None and not crate.link(str(made), f"out/{crate.name}")
-
-    return given
-
-
-def kept_as_made(rt, keep):
-    """What keeps a crate that was proved just now, and what was made of it, unless a file that the proof read was touched meanwhile."""
-
-    def kept_too(kept, crate, tests, key):
-        keep(kept, crate, tests, key)
-        if not tests and os.path.isfile(made_by(crate)) and all(map(kept.is_untouched, [crate, *crate.below()])):
-            Made(rt, kept, crate).keep(made_by(crate))
-
-    return kept_too
-
-
-def kept_first(rt):
-    """Lets a run of `rt ci` take what an earlier one proved before it plans the rest. A proof gets the processors that no other waits for,
-    and what is only taken would count as one that does, as would the tests of a crate that has none."""
-    begun, in_lanes = [], rt.in_lanes
-
-    class Kept(rt.Kept):
-        def __init__(self, crates, *words):
-            super().__init__(crates, *words)
-            begun.append((self, {it.name: it for it in crates}))
-
-    def is_kept(kept, crate, tests):
-        return kept.at and not kept.anew and os.path.isdir(kept.place(crate, tests, kept.key(crate)))
-
-    def planned(tasks):
-        (kept, crates), done = begun[-1], {}
-        for key, (waits, _, _, call) in tasks.items():
-            crate, tests = crates[key[0]], key[1] == "tests"
-            if tests and not crate.has_tests():
-                done[key] = True
-            elif key[1] in ("proof", "tests") and all(map(done.get, waits)) and is_kept(kept, crate, tests):
-                done[key] = call(done, 1)
-
-        def over_done(call):
-            return lambda given, jobs: call(collections.ChainMap(given, done), jobs)
-
-        left = {key: ([it for it in waits if it not in done], lines, needs, over_done(call))
-                for key, (waits, lines, needs, call) in tasks.items() if key not in done}
-        return {**done, **in_lanes(left)}
-
-    rt.Kept, rt.in_lanes = Kept, planned
-
-
-def prove_all(makes_program):
-    """`rt ci` in less time: with both compilers of the program at work at once, with the static library made as it is proved, and planned
-    with two thirds of the memory, which is twice what most crates were seen to take, so that on a small machine few would be proved side
-    by side. `rt ci` keeps a program that both compilers made; one that is to be used is made by LLVM alone."""
-    rt = command()
-    if hasattr(rt, "Kept"):
-        need = rt.need
-        rt.need = lambda crate: need(crate) * 2 // 3
-        rt.Crate.compile_by = at_once(rt.Crate.compile_by, rt.BACKENDS)
-        rt.Crate.ci = made_as_proved(rt, rt.Crate.ci, makes_program)
-        rt.Kept.keep = kept_as_made(rt, rt.Kept.keep)
-        if makes_program:
-            rt.Kept.give = given_as_made(rt, rt.Kept.give)
-        kept_first(rt)
-    return rt.main(["ci"])
+    for it in (signal.SIGTERM, signal.SIGHUP):
+        signal.signal(it, lambda number, _: sys.exit(128 + number))
+    try:
+        print(make(crate, tell))
+    except Unproved as fault:
+        sys.exit(str(fault))
 
 
 if __name__ == "__main__":
-    if sys.argv[1] in ("--all", "--build"):
-        sys.exit(prove_all(sys.argv[1] == "--build"))
-    sys.exit(print(path) if (path := make(sys.argv[1])) else 1)
+    main(*sys.argv[1:])

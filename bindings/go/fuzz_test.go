@@ -1,13 +1,15 @@
 package agefile
 
 // Files that are damaged, cut, exchanged and lengthened in ways that a fuzzer chooses, read in ways that it chooses: what has to come is told
-// by comparing their blocks with those that were written. tests/library/test_go.py runs it for a while:
-//
-//	go test -fuzz FuzzDecode -fuzztime 20s
+// by comparing their blocks with those that were written. The script fuzz runs both fuzzers for a while.
 
 import (
 	"bytes"
+	"encoding/hex"
+	"errors"
 	"io"
+	"os"
+	"strings"
 	"testing"
 	"testing/iotest"
 )
@@ -114,6 +116,17 @@ func (it fuzzed) judged(payload []byte) (text, fault int) {
 	}
 }
 
+// addCorpus gives a fuzzer the inputs that earlier runs found.
+func addCorpus(f *testing.F, name string) {
+	held, err := os.ReadFile("testdata/" + name + ".txt")
+	if err != nil && !errors.Is(err, os.ErrNotExist) {
+		f.Fatal(err)
+	}
+	for _, line := range strings.Fields(string(held)) {
+		f.Add(must(hex.DecodeString(line)))
+	}
+}
+
 // source is the file in one of several ways.
 func (t *tape) source(file []byte) io.Reader {
 	switch from := bytes.NewReader(file); t.one() % 5 {
@@ -132,6 +145,7 @@ func (t *tape) source(file []byte) io.Reader {
 
 func FuzzDecode(f *testing.F) {
 	files := fuzzFiles()
+	addCorpus(f, "FuzzDecode")
 	for i := range files {
 		for how := byte(0); how < 6; how++ {
 			f.Add([]byte{byte(i), 1, how, 0, 0, 1, 4, 5, 6, 7, 8, 9, 10, 11, 12})
@@ -237,19 +251,36 @@ func (it fuzzed) seeAt(t *testing.T, tape *tape, file []byte, fault int) {
 	}
 }
 
+func hasType(h *Header, kind string) bool {
+	for _, it := range h.Stanzas {
+		if it.Type == kind {
+			return true
+		}
+	}
+	return false
+}
+
 // Any bytes as a header: Inspect and Decrypt say the same of it, and what Inspect says is what stands there.
 func FuzzInspect(f *testing.F) {
+	addCorpus(f, "FuzzInspect")
+	for _, it := range readVectors() {
+		f.Add(it.file[:least(len(it.file), 4000)])
+	}
 	for _, it := range []Recipient{pw(), &keyHolder{kind: "x"}, given{{Type: "X25519", Args: []string{"a"}, Body: make([]byte, 100)}}} {
 		f.Add(sealed(nil, it))
 	}
 	f.Fuzz(func(t *testing.T, data []byte) {
 		h, err := Inspect(iotest.OneByteReader(bytes.NewReader(data)))
-		by := failingKey{errFull}
-		if _, other := Decrypt(bytes.NewReader(data), by); err != nil && (numberOf(err) == 0 || numberOf(other) != numberOf(err)) || err == nil && other != errFull {
-			t.Fatalf("%v, and by a key %v", err, other)
-		}
+		_, other := Decrypt(bytes.NewReader(data), failingKey{errFull})
 		if err != nil {
+			if numberOf(err) == 0 || numberOf(other) != numberOf(err) {
+				t.Fatalf("%v, and by a key %v", err, other)
+			}
 			return
+		}
+		// (before it asks a key, Decrypt sees that a passphrase's stanza is alone)
+		if other != errFull && (numberOf(other) != 9 || len(h.Stanzas) < 2 || !hasType(h, "scrypt")) {
+			t.Fatalf("nothing, and by a key %v", other)
 		}
 		text := []byte("age-encryption.org/v1\n")
 		for _, it := range h.Stanzas {

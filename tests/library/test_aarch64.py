@@ -72,7 +72,7 @@ class ArmTest(Case):
 
     def test_numbers(self):
         """The constants and structs of the kit's libc are those of C's headers for ARM."""
-        sources = pathlib.Path(kit().KIT) / "rattle" / "libc" / "src"
+        sources = kit() / "rattle" / "libc" / "src"
         lines = [f"#include <{it}.h>" for it in HEADERS] + ["#include <stddef.h>"]
         constants = [*asserted_constants((sources / "lib.rt").read_text())]
         layouts = [*asserted_layouts((sources / "types.rt").read_text())]

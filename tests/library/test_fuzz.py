@@ -1,5 +1,6 @@
-"""Fuzzes the C library by bindings/c/fuzz/run, from its corpus on and by a fixed seed, and plants flaws in the C files over the proved calls,
-which the corpus alone has to find. AGE_FUZZED is how many seconds each fuzzer takes (6), and AGE_SEED the seed."""
+"""Fuzzes the C library, and the modules for Go and Python over it, from their corpus on and by a fixed seed, and plants flaws in the C files over
+the proved calls, which the corpus alone has to find. AGE_FUZZED is how many seconds each of the fuzzers takes (6), and AGE_SEED the seed; tests/draw
+fuzzes for hours."""
 import os
 import re
 import shutil
@@ -55,7 +56,37 @@ class FuzzTest(Case):
             for it in ("agefile.c", "once.c", "look.c"):
                 shutil.copy(SOURCES / it, sources / it)
             text = (sources / name).read_text()
-            self.assertEqual(text.count(old), 1, flaw)
-            (sources / name).write_text(text.replace(old, new))
+            # (whatever the form of its lines)
+            pattern = r"\s+".join(map(re.escape, old.split()))
+            self.assertEqual(len(re.findall(pattern, text)), 1, flaw)
+            (sources / name).write_text(re.sub(pattern, lambda _: new, text))
             run = self.fuzz("0", by, SOURCES=str(sources))
             self.see(f"fuzzed: {flaw}", run.returncode == 1 and ("not so: " in run.stdout or "ERROR: " in run.stdout), run.stdout[-1000:], run.stderr[-2000:])
+
+
+class ModulesFuzzTest(Case):
+    """The fuzzers of the modules, which read damaged files in every way, and headers of any bytes."""
+
+    @classmethod
+    def setUpClass(cls):
+        built.library()
+
+    def fuzz(self, script, **env):
+        env = {**os.environ, "SEED": os.environ.get("AGE_SEED") or "1", "AGEFILE_LIBRARY": str(LIBRARY / "libagefile.so"), **env}
+        words = [TOP / "bindings" / script, os.environ.get("AGE_FUZZED") or "10"]
+        run = process.run(words, cwd=self.room, env=env, capture_output=True, text=True)
+        print(run.stdout, end="")
+        if run.returncode == 77:
+            self.skipTest(run.stderr.strip())
+        self.see(script, run.returncode == 0, run.stdout[-2000:], run.stderr[-2000:])
+        return run.stdout
+
+    @needs("go")
+    def test_go(self):
+        said = self.fuzz("go/fuzz", GOCACHE=str(LIBRARY / "gocache"), GOPROXY="off", GOFLAGS="", GOTOOLCHAIN="local")
+        counts = [int(it) for it in re.findall(r"execs: (\d+)", said)]
+        self.see(f"runs: {counts}", len(counts) == 2 and min(counts) > 100, said)
+
+    def test_python(self):
+        said = self.fuzz("python/fuzz/fuzz.py")
+        self.see("both tests ran", said.count("nothing found") == 2, said)

@@ -78,10 +78,6 @@ class GoTest(ModulesCase):
         env = {**self.env, "PKG_CONFIG_PATH": str(self.room), "LD_LIBRARY_PATH": str(LIBRARY)}
         self.succeed("Go", module, env, "go test -tags agefile_system -run TestReader|TestWriter|TestFiles .".split())
 
-    def test_fuzz(self):
-        """Twenty seconds of files that a fuzzer chooses."""
-        self.succeed("Go", MODULE, {**self.env, "GOFLAGS": ""}, "go test -run - -fuzz FuzzDecode -fuzztime 20s -parallel 2 .".split())
-
     @unittest.skipUnless(all((DEBIAN / "src" / it).is_dir() for it in OF_AGE), "needs filippo.io/age")
     def test_keys_of_age(self):
         """The module that adapts the keys of filippo.io/age, over Debian's copy of that. (Its own way to name modules needs no network.)"""

@@ -4,57 +4,34 @@ import shutil
 import subprocess
 import sys
 import time
-import types
-import unittest.mock
 
 from tests import built, process
 from tests.case import Case, needs
-from tools import libraries
-from tools.libraries import MADE
+from tools import libraries, workspace
 from tools.workspace import CRATES, TOP
 
 READS = ["*"]
-# What `rt ci` refuses of a checkout before it proves anything.
-REFUSALS = """
-import inspect, os, shutil, sys
-from tools.libraries import command
-rt, top, more = command(), os.getcwd(), []
-if "aside" in inspect.signature(rt.crates_of).parameters:
-    # (that of an older kit moves away what was built: so it gets a copy)
-    left_out = lambda at, names: [it for it in names if it == ".git" or it == "out" and os.path.basename(os.path.dirname(at)) == "crates"]
-    top, more = shutil.copytree(top, f"{sys.argv[1]}/copy", symlinks=True, ignore=left_out, dirs_exist_ok=True), [f"{sys.argv[1]}/aside"]
-    os.makedirs(more[0], exist_ok=True)
-    os.makedirs(f"{top}/.git", exist_ok=True)
-every = rt.crates_of(top, *more)
-for name in sorted(os.listdir(top)):
-    if name != ".git" and os.path.isdir(f"{top}/{name}"):
-        rt.rtlib.stop_on_unread(f"{top}/{name}", every)
-"""
-
-# Makes what is named, and proves nothing for it.
-TAKES = """
-import sys
-from tools import libraries
-libraries.Libraries.is_proved = lambda libraries, crate: print("proves", crate.name)
-made = libraries.make(sys.argv[1])
-print("takes", made and made.name)
-"""
-
-
-def takes(top, **more):
-    """What a checkout says of a library that it may take."""
-    env = {**os.environ, "PYTHONPATH": str(top), "TARGET": "", **more}
-    return process.run([sys.executable, "-B", "-c", TAKES, "age_c"], cwd=top, env=env, capture_output=True, text=True).stdout
+KEPT = TOP / "bindings" / "out" / "kept"
+# What stands on the other crates isn't proved again for what `rt ci` refuses of a checkout.
+CRATE = "age_options"
 
 
 class CheckoutTest(Case):
     """A test for each thing that was left from before."""
 
     def refusals(self, folder):
-        room = self.path("of-refusals")
-        room.mkdir(exist_ok=True)
-        run = process.run([sys.executable, "-B", "-c", REFUSALS, room], cwd=folder, env={**os.environ, "PYTHONPATH": str(TOP)}, capture_output=True, text=True)
-        return run.stderr if run.returncode else ""
+        """What `rt ci` says of a checkout, with one crate of it."""
+        top = self.path(f"of-refusals-{time.monotonic_ns()}")
+
+        def left_out(at, names):
+            is_of_crates = os.path.basename(at) == "crates" and os.path.dirname(at) == str(folder)
+            return [it for it in names if it == ".git" or is_of_crates and it != CRATE or it == "out" and "/crates/" in at]
+
+        shutil.copytree(folder, top, symlinks=True, ignore=left_out)
+        (top / ".git").mkdir()
+        (top / "crates.txt").write_text(f"{workspace.lines()[CRATE]}\n")
+        run = process.run(["rt", "ci"], cwd=top, capture_output=True, text=True)
+        return run.stdout + run.stderr if run.returncode else ""
 
     def copy_of_sources(self, name):
         """A copy of this checkout, without what was built."""
@@ -75,7 +52,7 @@ class CheckoutTest(Case):
         top = self.copy_of_sources("fresh")
         (top / "build").write_text("#!/bin/sh\necho building; exit 1\n")
         told = (TOP / "docs/help.txt").read_text()
-        version = process.run([built.program(), "--version"], capture_output=True, text=True).stdout
+        version = process.run([workspace.program(), "--version"], capture_output=True, text=True).stdout
         for word, wanted in (("--help", told), ("-h", told), ("help", told), ("--version", version), ("-V", version), ("inspect", "building\n")):
             run = process.run([top / "age_tool", word], capture_output=True, text=True, stdin=subprocess.DEVNULL)
             self.see(f"{word} in a checkout that isn't built", run.stdout == wanted and (wanted == "building\n") != ("isn't built" in run.stderr), run)
@@ -85,10 +62,8 @@ class CheckoutTest(Case):
         """The library that was proved here is taken in a folder with a space; a C program links it by what pkg-config says."""
         built.library()
         top = self.copy_of_sources("a b/shal low")
-        if MADE.exists():
-            shutil.copytree(MADE, top / "bindings/out/made")
-        if "takes age_c-" not in takes(top):
-            self.skipTest("run bindings/build: this user has kept no library")
+        if KEPT.exists():
+            shutil.copytree(KEPT, top / "bindings/out/kept")
         for turn in ("once", "twice"):
             run = process.run([top / "bindings/build"], capture_output=True, text=True)
             self.see(f"bindings/build, {turn}", run.returncode == 0, run.stderr[-2000:])
@@ -106,103 +81,54 @@ class CheckoutTest(Case):
         built.library()
         top = self.copy_of_sources("clone")
 
-        if MADE.exists():
-            shutil.copytree(MADE, top / "bindings/out/made")
-        first = takes(top)
+        def takes(**more):
+            words = "from tools.libraries import Made; found = Made('age_c').found(); print('takes', found and found.name)"
+            env = {**os.environ, "PYTHONPATH": str(top), "TARGET": "", **more}
+            return process.run([sys.executable, "-B", "-c", words], cwd=top, env=env, capture_output=True, text=True).stdout
+
+        if KEPT.exists():
+            shutil.copytree(KEPT, top / "bindings/out/kept")
+        first = takes()
         if "takes None" in first:
             self.skipTest("run bindings/build: this user has kept no library")
         self.see("another checkout takes it", first.startswith("takes age_c-"), first)
         for name, byte in (("crates/age_c/src/lib.rt", "\n"), ("crates/age_kdf/proofs/Lib.antt", "\n"), ("crates/age_io/specs/Lib.antt", " ")):
             held = (top / name).read_bytes()
             (top / name).write_bytes(held + byte.encode())
-            said = takes(top)
+            said = takes()
             self.see(f"{name}: one byte more", "takes None" in said, said)
             (top / name).write_bytes(held)
         (top / "crates/age_cli/src/lib.rt").write_text("")
-        said = takes(top)
+        said = takes()
         self.see("what isn't below it doesn't count", said == first, said)
-        said = takes(top, TARGET="wasm64-unknown-unknown")
+        said = takes(TARGET="wasm64-unknown-unknown")
         self.see("another processor", "takes None" in said, said)
 
     def test_what_is_kept(self):
-        """A file is taken if its bytes are those of its name; those that weren't used for longest go; without a place for it on the machine
-        it is kept in the checkout."""
-        class Crate:
-            name = "age_x"
+        """A file is taken if its bytes are those of its name; those that weren't used for longest go; without a place for it for all checkouts
+        it is kept in this one."""
 
-        class Kit:
-            stamp_of = staticmethod(lambda crate, seen: crate.sum)
-
-        def made(number, at=self.room):
-            Crate.sum, Store.at = number, at
+        def made(number, at=self.room / "kept"):
             self.write("it", b"%d" % number)
-            return libraries.Made(Kit, Store, Crate)
+            libraries.places = lambda: [at, self.room / "here"]
+            libraries.sum_of_sources = lambda crate, top: number
+            return libraries.Made("age_x")
 
-        class Store:
-            pass
-
+        for name in ("places", "sum_of_sources"):
+            self.addCleanup(setattr, libraries, name, getattr(libraries, name))
         for number in range(libraries.MOST + 2):
             it = made(number)
             self.see(f"{number} isn't kept yet", it.found() is None)
             kept = it.keep(self.path("it"))
             self.see(f"{number} is kept", it.found() == kept and kept.read_bytes() == b"%d" % number, kept)
             os.utime(kept, (number, number))
-        held = {it.read_bytes() for it in self.path("made").iterdir()}
+        held = {it.read_bytes() for it in self.path("kept/made").iterdir()}
         self.see("those used last stay", held == {b"%d" % it for it in range(2, libraries.MOST + 2)}, held)
         kept.write_bytes(b"other")
         self.see("a damaged one isn't taken", it.found() is None)
         self.see("and is replaced", it.keep(self.path("it")) == kept and it.found() == kept and kept.read_bytes() == self.read("it"))
-        with unittest.mock.patch.object(libraries, "MADE", self.path("here")):
-            for name, at in (("no place", None), ("a place that is none", self.path("it"))):
-                it = made(1, at)
-                self.see(f"{name}: in the checkout", it.keep(self.path("it")).parent == self.path("here") and it.found(), it.places)
-                shutil.rmtree(self.path("here"))
-
-    def test_kept_first(self):
-        """What an earlier run proved is taken before the rest is planned; what stands on a changed crate isn't, nor are tests that don't exist."""
-        calls, plans, crates = [], [], [types.SimpleNamespace(name=it, has_tests=lambda it=it: it in "bc") for it in "abcd"]
-
-        class Kept:
-            def __init__(kept, crates, anew=False):
-                kept.at, kept.anew = self.room, anew
-
-            def key(self, crate):
-                return crate.name
-
-            def place(self, crate, tests, key):
-                return f"{self.at}/{'tests' if tests else 'proof'}-{key}"
-
-        def in_lanes(tasks):
-            plans.append({key: waits for key, (waits, *_) in tasks.items()})
-            given = {}
-            for key, (*_, call) in tasks.items():
-                given[key] = call(given, 4)
-            return given
-
-        def task(*key, waits=()):
-            def call(given, jobs):
-                calls.append((*key, jobs, *(given[it] for it in waits)))
-                return key
-            return key, ([*waits], 1, 1, call)
-
-        for it in ("proof-a", "proof-b", "tests-b", "proof-d"):
-            self.path(it).mkdir()
-        rt = types.SimpleNamespace(Kept=Kept, in_lanes=in_lanes)
-        libraries.kept_first(rt)
-        below = {"a": [], "b": [("a", "proof")], "c": [("b", "proof")], "d": [("b", "proof"), ("c", "proof")]}
-        tasks = dict(task(name, kind, waits=waits) for name, waits in below.items() for kind in ("proof", "tests"))
-        tasks |= [task("a", "edits", 0, waits=[("a", "proof"), ("a", "tests")])]
-        for anew in (False, True):
-            calls.clear()
-            rt.Kept(crates, anew)
-            given = rt.in_lanes(tasks)
-            self.see(f"all have ended, {anew=}", given.keys() == tasks.keys() and given["a", "tests"] is True and given["c", "tests"], given)
-            if not anew:
-                taken = [("a", "proof", 1), ("b", "proof", 1, ("a", "proof")), ("b", "tests", 1, ("a", "proof"))]
-                self.see("what is kept comes first", calls[:3] == taken, calls)
-        left = {("c", "proof"): [], ("c", "tests"): [], ("d", "proof"): [("c", "proof")], ("a", "edits", 0): []}
-        self.see("the rest waits for what is left", plans[0] == left, plans[0])
-        self.see("anew, nothing is taken", [*plans[1]] == [it for it in tasks if it not in (("a", "tests"), ("d", "tests"))], plans[1])
+        it = made(1, self.path("it"))
+        self.see("a place that is none: in the checkout", it.keep(self.path("it")).parent == self.path("here/made") and it.found())
 
     def test_variables(self):
         """`check` tests what it proved, and not what a variable names."""

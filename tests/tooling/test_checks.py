@@ -14,7 +14,6 @@ import unittest.mock
 
 from tests import counted, pages, process
 from tests.case import SECONDS, Case
-from tools import older_kit
 from tools.workspace import TOP, loaded
 
 # A file of tests.
@@ -99,7 +98,7 @@ class ChecksTest(unittest.TestCase):
                 self.assertIsNone(pages.changed(passed))
         self.assertTrue(pages.is_page("docs/SPEED.md") and pages.is_page("docs/cut.svg") and not pages.is_page("docs/age_tool.1"))
 
-    def check_told(self, proofs="print('3 passed, 0 failed')", edits="print('2 passed, 0 failed')", first=None, promised=(), last=()):
+    def check_told(self, proofs="print('rt: age_kdf proved\\n3 passed, 0 failed')", edits="print('2 passed, 0 failed')", first=None, promised=(), last=()):
         """The status of `check` and what it says, if its commands are these scripts, this came of the first file of tests, and these tests are
         promised."""
         check, files = loaded(TOP / "check"), sorted(it.stem for it in TOP.glob("tests/*/test_*.py"))
@@ -109,7 +108,7 @@ class ChecksTest(unittest.TestCase):
             released.write_text(json.dumps({"ran": dict(last), "seconds": {}}))
             told = {"PROOFS": (sys.executable, "-c", proofs), "EDITS": (sys.executable, "-c", f"import sys; told = sys.stdin.read(); {edits}"), "program": str, "library": str}
             told |= {"run_file": lambda it, _: ("", first if first and it == files[0] else well), "RAN": pathlib.Path(made, "out", "ran"), "LAST": released}
-            told |= {"promises": lambda: [types.SimpleNamespace(promise="it holds", test=it) for it in promised], "kit": lambda: types.SimpleNamespace(Kept=None)}
+            told |= {"promises": lambda: [types.SimpleNamespace(promise="it holds", test=it) for it in promised]}
             with contextlib.redirect_stdout(io.StringIO()) as shown, unittest.mock.patch.dict("os.environ"), unittest.mock.patch.multiple(check, **told):
                 return check.main([]), shown.getvalue().splitlines(), len(files)
 
@@ -120,6 +119,10 @@ class ChecksTest(unittest.TestCase):
                 with self.subTest(script, what=what):
                     status, shown, files = self.check_told(**{what: script})
                     self.assertEqual((status, shown[-1]), (failed != 0, f"{5 + files - less} passed, {failed} failed"))
+        kept = "print('rt: age_kdf is kept: an earlier run proved it\\nrt: age_io NOT PROVED\\n3 passed, 1 failed'); exit(1)"
+        for script, told, failed in (("print('rt: age_kdf proved\\n3 passed, 0 failed')", "age_kdf\\nend\\n", 0), (kept, "age_kdf\\nend\\n", 1), ("print('3 passed, 0 failed')", "end\\n", 0)):
+            with self.subTest(f"the edits hear: {told}", script=script):
+                self.assertEqual(self.check_told(script, f"exit(1) if told != '{told}' else print('2 passed, 0 failed')")[1][-1], f"{5 + files} passed, {failed} failed")
         status, shown, files = self.check_told(first=loaded(TOP / "check").LOST)
         self.assertEqual((status, shown[-1]), (True, f"{4 + files} passed, 1 failed"))
 
@@ -155,21 +158,15 @@ check.main([])"""
                 self.assertFalse(proofs.exists())
 
     def test_beside(self):
-        """Edits are tried once their crate is proved and kept; in the end what wasn't kept is proved if `check` says that all is, and else isn't
-        tried. If it says nothing, they end with it."""
+        """Edits hear which crates are proved, and take their libraries at once. If they hear no end, they end with `check`."""
         edits = loaded(TOP / "checks/edits")
-        for word, rest, is_older in (("proved", ["c"], False), ("failed", [], False), ("", [], False), ("proved", ["a", "b", "c"], True), ("failed", ["a", "b"], True)):
-            (ends, begins), kept, ended = os.pipe(), ["a"], []
-            libraries = types.SimpleNamespace(is_kept=lambda it: it in kept, is_proved=lambda it: it != "d")
-            patched = unittest.mock.patch.multiple(edits, PAUSE=0.01, kit=lambda: types.SimpleNamespace(Kept=older_kit.Kept if is_older else None))
-            with self.subTest(word, is_older=is_older), open(ends) as told, unittest.mock.patch("sys.stdin", told), patched:
-                proofs = edits.Proofs(lambda: ended.append("it has"), lambda: ended.append("after"))
-                found = proofs.arriving(libraries, ["a", "b", "c", "d"])
-                if not is_older:
-                    self.assertEqual(next(found), "a")
-                kept.append("b")
-                if not is_older:
-                    self.assertEqual(next(found), "b")
-                os.write(begins, word.encode())
-                os.close(begins)
-                self.assertEqual(([*found], ended), (rest, ["after"] if word else ["it has", "after"]))
+        for heard, ends in (("a\nb\nend\n", ["after"]), ("a\nb\n", ["it has ended"]), ("", ["it has ended"])):
+            with self.subTest(heard), tempfile.TemporaryDirectory() as made, unittest.mock.patch("sys.stdin", io.StringIO(heard)):
+                crates, ended = pathlib.Path(made, "crates"), []
+                (crates / "a" / "out" / "rlib" / "a.rlib").mkdir(parents=True)
+                (crates / "a" / "out" / "rlib" / "a.rlib" / "format").write_text("it")
+                workspace = types.SimpleNamespace(library=lambda it: pathlib.Path(made, "copy", it))
+                with unittest.mock.patch.object(edits, "CRATES", crates):
+                    found = [*edits.proved_beside(workspace, lambda: ended.append("it has ended"), lambda: ended.append("after"))]
+                self.assertEqual((found, ended), (["a", "b"] if heard else [], ends))
+                self.assertEqual(pathlib.Path(made, "copy", "a", "a.rlib", "format").exists(), bool(heard))

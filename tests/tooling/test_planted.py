@@ -30,6 +30,9 @@ PLANTED = {
         ("docs/format-tests.tsv", None, "", "docs/format-tests.tsv: no test test_nothing"),
         ("docs/format-tests.tsv", None, "", "docs/format-tests.tsv: no function no_function"),
         ("docs/format-tests.tsv", None, "", "docs/FORMAT.md: no section Heads"),
+        ("docs/crates.svg", ">age_kdf<", ">age_kdm<", "docs/crates.svg: age_kdm is no crate"),
+        ("docs/cut.svg", ">in the nonce<", ">in the pinch<", "docs/cut.svg doesn't say: in the nonce"),
+        ("bindings/c/names.c", '"Trailing"', '"Appended"', "bindings/c/names.c: no 21 Trailing"),
         ("crates/age_hints/src/sentences.rt", "17 =>", "18 =>", "docs/FAULTS.md: row 18 hasn't the hint of the code"),
         ("crates/age_kdf/edits/all.edit", "old: ", "old: nothing of ", "an old text isn't in its file exactly once"),
         ("checks/promises", "age_kdf lib::hmac |", "age_kdf lib::hmac3 |", "checks/promises: HMAC is RFC 2104's: no age_kdf lib::hmac3"),
@@ -37,6 +40,7 @@ PLANTED = {
         ("tests/format/test_resume.py", "def test_resumed", "def test_resumes", "a resumption goes on only with its file and text: no test test_resume.test_resumed"),
         ("tests/program/transcripts/drill.run", "case deliveries_in_the_clear", "case deliveries_not_sealed", "for all deliveries and restarts: no test test_transcripts.test_drill_deliveries_in_the_clear"),
         ("crates/age_scrypt/edits/all.edit", "core uncounted-step", "edit uncounted-step", "age_scrypt/uncounted-step is listed, and not of the core"),
+        ("checks/promises", " romix-without-look-ups", "", "age_scrypt/romix-without-look-ups is of the core, and not listed"),
     ),
     "trusted": (
         ("crates/age_kdf/specs/Derivation.antt", None, "\nabbrev pub idle : ℕ → ℕ\nidle n = n\n", "age_kdf/specs/Derivation: idle is reached by no public contract"),
@@ -45,6 +49,7 @@ PLANTED = {
     "noted": (
         ("crates/age_disk/src/files.rt", None, "\nfn spoil() {\n    let _ = std::fs::remove_file(rt, name);\n}\n", "age_disk/src/files.rt: fs::remove_file: it may not change files"),
         ("crates/age_machine/src/waiting.rt", "sync_whole", "sync_all_of_it", "checks/noted: age_machine/src/waiting.rt doesn't call sync_whole"),
+        ("checks/noted", '"TryLockError"', '"TryLockError", "Gone"', "checks/noted: nothing imports Gone of files"),
         ("checks/noted", '"faults"', '"flaws"', "checks/noted: nothing matches"),
     ),
     "unused": (
