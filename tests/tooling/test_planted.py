@@ -44,7 +44,7 @@ PLANTED = {
     ),
     "trusted": (
         ("crates/age_kdf/specs/Derivation.antt", None, "\nabbrev pub idle : ℕ → ℕ\nidle n = n\n", "age_kdf/specs/Derivation: idle is reached by no public contract"),
-        ("crates/age_calls/specs/Outs.antt", "-- (in any order: no call gives a lock back)\n", "", "age_calls/specs/Outs: line 77: no comment says why the order"),
+        ("crates/age_calls/specs/Outs.antt", "-- (in any order: no call gives a lock back)\n", "", "no comment says why the order doesn't matter"),
     ),
     "noted": (
         ("crates/age_disk/src/files.rt", None, "\nfn spoil() {\n    let _ = std::fs::remove_file(rt, name);\n}\n", "age_disk/src/files.rt: fs::remove_file: it may not change files"),
