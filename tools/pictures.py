@@ -45,12 +45,6 @@ def words_of(name):
     return re.findall(r"<text [^>]*>([^<]*)</text>", (TOP / "docs" / name).read_text())
 
 
-def drawn_crates():
-    """The crates of the layers in crates.txt, without those of tests."""
-    layers = (TOP / "crates.txt").read_text().partition("\n# Tests")[0]
-    return {it for it in lines() if f"\n{lines()[it]}" in layers}
-
-
 def differences():
     """What the pictures should say and don't."""
     for name, wanted in (
@@ -58,5 +52,5 @@ def differences():
         ("resume.svg", [part for words, fault in STEPS for part in (words, f"{fault} {FAULTS[fault]}")]),
     ):
         yield from (f"docs/{name} doesn't say: {it}" for it in wanted if it not in words_of(name))
-    shown = {it for it in words_of("crates.svg") if re.fullmatch(r"age_\w+", it)}
-    yield from (f"docs/crates.svg: {it} is {'not there' if it in drawn_crates() else 'no crate'}" for it in sorted(shown ^ drawn_crates()))
+    shown = {*re.findall(r"\bage_\w+", " ".join(words_of("crates.svg")))}
+    yield from (f"docs/crates.svg: {it} is {'not there' if it in lines() else 'no crate'}" for it in sorted(shown ^ {*lines()}))
