@@ -58,7 +58,7 @@ class ArmTest(Case):
         cls.made = pathlib.Path(made.name)
         env = {**os.environ, "TARGET": TARGET}
         subprocess.run([TOP / "bindings/build"], env=env, check=True, stdout=subprocess.DEVNULL)
-        subprocess.run([TOP / "release/static", cls.made / "shared", cls.made / "static"], env=env, check=True, stdout=subprocess.DEVNULL)
+        subprocess.run([TOP / "release/static", cls.made / "shared", cls.made / "static", cls.made / "age_tool.o"], env=env, check=True, stdout=subprocess.DEVNULL)
         # What stands for the program where a test wants one.
         (cls.made / "age_tool").write_text(f"#!/bin/sh\nexec {QEMU} '{cls.made}/static' \"$@\"\n")
         (cls.made / "age_tool").chmod(0o755)
@@ -123,6 +123,27 @@ class ArmTest(Case):
         with open(self.path("sealed"), "rb") as sealed:
             ran = subprocess.run(words, cwd=self.room, stdin=sealed, capture_output=True)
         self.see("the C example", ran.returncode == 0 and ran.stdout == self.read("plain"), ran.stderr)
+
+    @needs("make")
+    def test_objects(self):
+        """What a release has for systems without the kit gives the program and the library for ARM."""
+        for name in ("share/doc/age_tool/NOTICES", "share/agefile/proof.json"):
+            self.path(f"release/{name}").parent.mkdir(parents=True)
+            self.write(f"release/{name}", b'{"linked": {}}')
+        parts = [self.path("release"), self.made / "age_tool.o", TOP / "bindings/out/aarch64/libagefile-proved.a", self.path("objects"), "none", "2.0.0", "a build"]
+        subprocess.run([TOP / "release/objects", *parts], env={**os.environ, "TARGET": TARGET}, check=True)
+        made = subprocess.run(["make", "-C", self.path("objects"), f"CC={CC}"], capture_output=True, text=True)
+        self.see("make", made.returncode == 0, made.stdout, made.stderr)
+        self.write("pass", b"correct horse\n")
+        self.write("plain", os.urandom(200_000))
+        self.assertEqual(self.tool("encrypt", "--pass", "pass", "--log", "10", "plain", "sealed").returncode, 0)
+        words = [QEMU, "-L", "/usr/aarch64-linux-gnu", self.path("objects/age_tool"), "decrypt", "--pass", "pass", "sealed", "back"]
+        ran = subprocess.run(words, cwd=self.room, capture_output=True)
+        self.see("the program", ran.returncode == 0 and self.read("back") == self.read("plain"), ran.stderr)
+        linked = subprocess.run([CC, "-I", TOP / "include", TOP / "bindings/c/decrypt.c", self.path("objects/libagefile.a"), "-o", self.path("decrypt")], capture_output=True, text=True)
+        with open(self.path("sealed"), "rb") as sealed:
+            ran = subprocess.run([QEMU, "-L", "/usr/aarch64-linux-gnu", self.path("decrypt"), "pass"], cwd=self.room, stdin=sealed, capture_output=True)
+        self.see("a program in C", ran.returncode == 0 and ran.stdout == self.read("plain"), linked.stderr, ran.stderr)
 
     @needs("go")
     def test_go(self):
