@@ -225,15 +225,18 @@ class CompareTest(Case):
 
         run_words = next(it for it in promises() if it.promise.startswith("what a run leaves"))
         at = self.path("top") / proof.file_of(run_words).path.relative_to(TOP)
+        clause = next(it for it in next(it for it in held["promises"] if it["promise"] == run_words.promise)["clauses"] if it != run_words.clause)
         head, own, rest = at.read_text().partition(f"pub fn {run_words.name}<")
-        less = re.sub(r"(?m)^ *ensures silent \{.*\}\n", "", rest, count=1)
-        self.names("a clause", held, said_by(lambda: at.write_text(head + own + less)), 1, "^weaker: what a run leaves .* has no clause silent any more$")
-        out_of_status_0 = next(it for it in held["promises"] if it["name"].startswith("status-0"))["cites"]
-        key = next(it for it in out_of_status_0 if it.endswith(".OutHolds"))
+        less = re.sub(rf"(?m)^ *ensures {clause} \{{.*\}}\n", "", rest, count=1)
+        self.names("a clause", held, said_by(lambda: at.write_text(head + own + less)), 1, f"^weaker: what a run leaves .* has no clause {clause} any more$")
+        cited = next(it for it in held["promises"] if it["name"].startswith("status-0"))["cites"]
+        key = next(it for it in cited if len(held["definitions"][it].get("parts", ())) > 1)
+        part = [*held["definitions"][key]["parts"]][0]
         crate, _, chapter = key.partition(".")[0].partition(" ")
         spec = self.path(f"top/crates/{crate}/specs/{chapter}.antt")
-        field = re.search(r"(?m)^  pub put : .*\n(?: {4}.*\n)*", spec.read_text())[0]
-        self.names("a part of a definition below", held, said_by(lambda: replace(spec, field, "")), 0, rf"^changed: {key}: -put \(\d+ promises rest on it\)$")
+        begin, own, rest = spec.read_text().partition(f"record {key.rpartition('.')[2]} ")
+        less = re.sub(rf"(?m)^  pub {part} : .*\n(?: {{4}}.*\n)*", "", rest, count=1)
+        self.names("a part of a definition below", held, said_by(lambda: spec.write_text(begin + own + less)), 0, rf"^changed: {key}: -{part} \(\d+ promises? rests? on it\)$")
         inspection = next(it for it in promises() if it.promise == "a report is of what was read")
         source = self.path("top") / proof.file_of(inspection).path.relative_to(TOP)
 
