@@ -170,6 +170,14 @@ def make(name):
         return known.keep(made_by(crate))
 
 
+def found(name):
+    """Returns what an earlier run made of a crate, of the same sources, if one did. Nothing is proved for that."""
+    with tempfile.TemporaryDirectory(prefix="age-library-") as room:
+        libraries = Libraries(room)
+        crate = next(it for it in libraries.crates if it.name == name)
+        return Made(kit(), libraries.kept, crate).found()
+
+
 def at_once(compile_by, backends):
     """What compiles the one program by a compiler, with all of them at work from the first call on."""
     begun, pool = {}, concurrent.futures.ThreadPoolExecutor()
