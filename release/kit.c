@@ -1,4 +1,5 @@
-/* What the program calls of the kit's C, for a processor for which the kit has no C objects: beside
+/* What the program calls of the kit's C, for a processor for which the kit has no C objects, and for
+ * who links the objects of a release where the kit isn't (release/objects): beside
  * bindings/c/heap.c these three functions. Each one's contract is that of the declaration in the
  * kit's crate os (src/c.rt), which is quoted here. Nothing proves them: they are for eyes, and
  * release/static checks that the program asks for these and no others. The file includes no header,

@@ -1,5 +1,5 @@
 """What is done to the built program and to the C library. `python3 -m unittest` runs all of it, and with `tests.program.test_links -k sticky` one
-test; AGE_TOOL names another program than ./age_tool's, and AGE_C_DIR another folder of the library."""
+test; AGE_TOOL names another program than ./age_tool's, AGE_OBJECT another proved object of it, and AGE_C_DIR another folder of the library."""
 import os
 import signal
 import sys

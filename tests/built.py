@@ -1,5 +1,5 @@
-"""The program and the C library that are tested. No test builds them: what isn't built, or is older than its sources, is left out with the
-command to run."""
+"""The program, its object and the C library that are tested. No test builds them: what isn't built, or is older than its sources, is left out with
+the command to run."""
 import functools
 import os
 import pathlib
@@ -8,6 +8,7 @@ import shutil
 import tempfile
 import unittest
 
+from tools import libraries
 from tools.workspace import CRATES, LIBRARY, PROGRAM, TOP, with_used
 
 
@@ -61,3 +62,12 @@ def library():
         parts = [it for at in (TOP / "bindings" / "c", TOP / "include") for it in at.glob("*.[ch]")]
         see_fresh(LIBRARY / "libagefile.so", "bindings/build", "age_c", TOP / "bindings" / "build", *parts)
     return LIBRARY
+
+
+@functools.cache
+def proved_object():
+    """The object of the program, as a run left it that proved the same sources; AGE_OBJECT names another."""
+    made = os.environ.get("AGE_OBJECT") or libraries.Made("age_tool").found()
+    if not made:
+        raise unittest.SkipTest("run python3 -m tools.libraries age_tool: no run left the object of these sources")
+    return pathlib.Path(made)

@@ -83,6 +83,13 @@ def library():
     return LIBRARY
 
 
+@functools.cache
+def proved_object():
+    """The object of the program, as a run left it that proved the same sources, or proved now."""
+    words = [sys.executable, "-m", "tools.libraries", "age_tool"]
+    return subprocess.run(words, cwd=TOP, stdout=subprocess.PIPE, text=True, check=True).stdout.strip()
+
+
 def go_module():
     """The path of the Go module."""
     return (TOP / "bindings" / "go" / "go.mod").read_text().split()[1]

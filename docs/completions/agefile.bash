@@ -3,7 +3,7 @@
 
 _agefile() {
     local word=${COMP_WORDS[COMP_CWORD]} before=${COMP_WORDS[COMP_CWORD-1]} command=${COMP_WORDS[1]} options=
-    local commands="encrypt decrypt test restore resume inspect drill salvage"
+    local commands="encrypt decrypt test restore resume inspect drill salvage proof"
     local opening="--pass --identity --file-key --shared --max-log"
     # bash takes --pass=FILE as three words.
     [ "$word" = = ] && word=
@@ -26,7 +26,7 @@ _agefile() {
         restore) options="$opening --overwrite --progress --help" ;;
         resume) options="--position --old $opening --save --no-sync --overwrite --progress --help" ;;
         salvage) options="--pass --identity --max-log --overwrite --help" ;;
-        inspect) options="--help" ;;
+        inspect | proof) options="--help" ;;
         drill) options="--clear --pass --help" ;;
         help) mapfile -t COMPREPLY < <(compgen -W "$commands" -- "$word"); return ;;
         -*) options="--encrypt --decrypt --passphrase --recipient --recipients-file --identity --output" ;;

@@ -1,6 +1,6 @@
 # Completion of agefile for fish: copy this file to ~/.config/fish/completions
 
-set -l commands encrypt decrypt test restore resume inspect drill salvage help
+set -l commands encrypt decrypt test restore resume inspect drill salvage proof help
 complete -c agefile -n "not __fish_seen_subcommand_from $commands" -a encrypt -d "Encrypt a file under a passphrase or for recipients"
 complete -c agefile -n "not __fish_seen_subcommand_from $commands" -a decrypt -d "Decrypt an age file"
 complete -c agefile -n "not __fish_seen_subcommand_from $commands" -a test -d "Decrypt a file and write nothing"
@@ -9,10 +9,11 @@ complete -c agefile -n "not __fish_seen_subcommand_from $commands" -a resume -d 
 complete -c agefile -n "not __fish_seen_subcommand_from $commands" -a inspect -d "Show what the header of an age file says"
 complete -c agefile -n "not __fish_seen_subcommand_from $commands" -a drill -d "Show how a reader reacts to altered pieces"
 complete -c agefile -n "not __fish_seen_subcommand_from $commands" -a salvage -d "Write what still opens of a damaged file"
+complete -c agefile -n "not __fish_seen_subcommand_from $commands" -a proof -d "Read aloud what is proved, and what it rests on"
 complete -c agefile -n "not __fish_seen_subcommand_from $commands" -a help -d "Print help"
 complete -c agefile -n "not __fish_seen_subcommand_from $commands" -s V -l version -d "Print the version"
 complete -c agefile -s h -l help -d "Print help"
-complete -c agefile -n "__fish_seen_subcommand_from help" -f -a "encrypt decrypt test restore resume inspect drill salvage"
+complete -c agefile -n "__fish_seen_subcommand_from help" -f -a "encrypt decrypt test restore resume inspect drill salvage proof"
 
 complete -c agefile -n "__fish_seen_subcommand_from encrypt decrypt test restore resume salvage drill" -l pass -r -F -d "File with the passphrase, which is asked for otherwise"
 complete -c agefile -n "__fish_seen_subcommand_from encrypt decrypt test restore resume salvage" -l identity -r -F -d "File of age-keygen with keys"

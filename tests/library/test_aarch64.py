@@ -15,9 +15,9 @@ from tests.library import test_go
 from tools.libraries import kit
 from tools.workspace import TOP
 
-CC, ARM = "aarch64-linux-gnu-gcc", TOP / "bindings" / "out" / "aarch64"
+TARGET, CC, ARM = "aarch64-unknown-linux-gnu", "aarch64-linux-gnu-gcc", TOP / "bindings" / "out" / "aarch64"
 # What makes it, at the first time in some minutes.
-BUILD = f"TARGET=aarch64-unknown-linux-gnu sh -c 'bindings/build && release/static {ARM}/shared {ARM}/static'".replace(f"{TOP}/", "")
+BUILD = f"TARGET={TARGET} sh -c 'bindings/build && release/static {ARM}/shared {ARM}/static {ARM}/age_tool.o'".replace(f"{TOP}/", "")
 # (Debian's qemu-user has it under the one name, qemu-user-static under the other)
 QEMU = "qemu-aarch64" if shutil.which("qemu-aarch64") or not shutil.which("qemu-aarch64-static") else "qemu-aarch64-static"
 C_OF = {"i16": "short", "i32": "int", "i64": "long", "u16": "unsigned short", "u32": "unsigned int", "u64": "unsigned long"}
@@ -59,7 +59,7 @@ class ArmTest(Case):
         made = tempfile.TemporaryDirectory(prefix="age-arm-")
         cls.addClassCleanup(made.cleanup)
         cls.made = pathlib.Path(made.name)
-        for it, crate in (("libagefile.a", "age_c"), ("static", "age_tool")):
+        for it, crate in (("libagefile.a", "age_c"), ("libagefile-proved.a", "age_c"), ("static", "age_tool"), ("age_tool.o", "age_tool")):
             built.see_fresh(ARM / it, BUILD, crate, TOP / "bindings" / "build", TOP / "release" / "static")
         for it in ("shared", "static"):
             shutil.copy(ARM / it, cls.made)
@@ -127,6 +127,27 @@ class ArmTest(Case):
         with open(self.path("sealed"), "rb") as sealed:
             ran = process.run(words, cwd=self.room, stdin=sealed, capture_output=True)
         self.see("the C example", ran.returncode == 0 and ran.stdout == self.read("plain"), ran.stderr)
+
+    @needs("make")
+    def test_objects(self):
+        """What a release has for systems without the kit gives the program and the library for ARM."""
+        for name in ("share/doc/age_tool/NOTICES", "share/agefile/proof.json"):
+            self.path(f"release/{name}").parent.mkdir(parents=True)
+            self.write(f"release/{name}", b'{"linked": {}}')
+        parts = [self.path("release"), ARM / "age_tool.o", ARM / "libagefile-proved.a", self.path("objects"), "none", "2.0.0", "a build"]
+        process.run([TOP / "release/objects", *parts], env={**os.environ, "TARGET": TARGET}, check=True)
+        made = process.run(["make", "-C", self.path("objects"), f"CC={CC}"], capture_output=True, text=True)
+        self.see("make", made.returncode == 0, made.stdout, made.stderr)
+        self.write("pass", b"correct horse\n")
+        self.write("plain", os.urandom(200_000))
+        self.assertEqual(self.tool("encrypt", "--pass", "pass", "--log", "10", "plain", "sealed").returncode, 0)
+        words = [QEMU, "-L", "/usr/aarch64-linux-gnu", self.path("objects/age_tool"), "decrypt", "--pass", "pass", "sealed", "back"]
+        ran = process.run(words, cwd=self.room, capture_output=True)
+        self.see("the program", ran.returncode == 0 and self.read("back") == self.read("plain"), ran.stderr)
+        linked = process.run([CC, "-I", TOP / "include", TOP / "bindings/c/decrypt.c", self.path("objects/libagefile.a"), "-o", self.path("decrypt")], capture_output=True, text=True)
+        with open(self.path("sealed"), "rb") as sealed:
+            ran = process.run([QEMU, "-L", "/usr/aarch64-linux-gnu", self.path("decrypt"), "pass"], cwd=self.room, stdin=sealed, capture_output=True)
+        self.see("a program in C", ran.returncode == 0 and ran.stdout == self.read("plain"), linked.stderr, ran.stderr)
 
     @needs("go")
     def test_go(self):

@@ -119,7 +119,7 @@ class AgefileTest(AgefileCase):
         *_, marked = re.split(r"^Commands, .*\n", said.partition("\n\nThe proved program is age_tool, which a checker proved")[0], flags=re.M)
         found = {it.split()[0]: re.findall("proved program|tested module", it) for it in re.split(r"^  (?=\w)", marked, flags=re.M)[1:]}
         both, proved, tested = (["proved program", "tested module"], ["proved program"], ["tested module"])
-        wanted = {**dict.fromkeys(("decrypt", "test", "restore", "resume", "inspect", "drill", "help"), proved), "encrypt": both, "salvage": tested}
+        wanted = {**dict.fromkeys(("decrypt", "test", "restore", "resume", "inspect", "drill", "help"), proved), "encrypt": both, "salvage": tested, "proof": []}
         self.see("the marks", found == wanted, found)
         for command in wanted.keys() - {"help"}:
             run = self.run_agefile(command, "--help")

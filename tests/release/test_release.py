@@ -5,13 +5,13 @@ import json
 import os
 import re
 import shutil
-import subprocess
 import sys
 import tarfile
 import zipfile
 
-from tests import built, process
-from tests.case import Case, needs
+from tests import process
+from tests.case import needs
+from tests.release.packing import Packing, run
 from tools.workspace import LIBRARY, TOP
 
 READS = ["*"]
@@ -20,33 +20,9 @@ EARLIER, LATER, DAY = 1_800_000_000, 1_800_000_100, "2027-01-15"
 SIGNER = "maintainers@users.noreply.kudebafon.example"
 
 
-def run(*words, **more):
-    return process.run(words, stdout=subprocess.PIPE, stderr=subprocess.STDOUT, text=True, errors="replace", **more)
+class ReleaseTest(Packing):
+    """What a release holds, what is refused, and what its parts do."""
 
-
-class ReleaseTest(Case):
-    """A release by `release/build`, whose program and library aren't built again."""
-
-    def setUp(self):
-        super().setUp()
-        self.top = self.path("a b")
-        built.copy_to_pack(self.top)
-        self.git("init", "-q")
-        self.git("add", "-A")
-        self.git("-c", "user.name=a", "-c", "user.email=a@b", "commit", "-q", "-m", "all", "--date", "@1700000000 +0000")
-
-    def git(self, *words):
-        env = {**os.environ, "GIT_COMMITTER_DATE": "@1700000000 +0000"}
-        process.run(["git", *words], cwd=self.top, env=env, check=True, stdout=subprocess.DEVNULL)
-
-    def pack(self, folder, **more):
-        """Runs release/build in the folder that it is in."""
-        return run("release/build", self.path(folder), cwd=self.top, env={**os.environ, **{it: str(held) for it, held in more.items()}})
-
-    def held(self, folder):
-        return {it.name: it.read_bytes() for it in self.path(folder).iterdir()}
-
-    @needs("dpkg-deb")
     def test_what_is_committed(self):
         """Files that git doesn't have stay out; changed ones are refused, or named; an archive without git gives the same bytes."""
         (self.top / "bindings/python/agefile/_draft.py").write_text("")
@@ -62,7 +38,8 @@ class ReleaseTest(Case):
         said = run(alone, "--version").stdout
         self.see("the program names its commit", said == f"age_tool 2.0.0 (of {commit})\n", said)
         self.see("the notices are", f"{names[0]}/share/doc/age_tool/NOTICES" in names, names)
-        ends = ("linux.tar.gz", "source.tar.gz", ".whl", "agefile-2.0.0.pyz", "agefile-crates-2.0.0.tar.gz", "-static", "-static.o", "age_tool.spdx.json", "NOTICES", "SHA256SUMS", *4 * ["amd64.deb"])
+        ends = ("linux.tar.gz", "source.tar.gz", "-objects.tar.gz", ".whl", "agefile-2.0.0.pyz", "agefile-crates-2.0.0.tar.gz", "-static", "-static.o", "age_tool.spdx.json", "proof.json",
+                "NOTICES", "SHA256SUMS")
         self.see("all files of a release", sorted(self.held("first")) == sorted(it for it in self.held("first") if it.endswith(ends))
                  and len(self.held("first")) == len(ends), *self.held("first"))
         self.see("its sums aren't signed", "SHA256SUMS.sig" not in self.held("first"))
@@ -72,7 +49,7 @@ class ReleaseTest(Case):
         listed = run("git", "ls-files", cwd=self.top).stdout.split("\n")[:-1]
         held = [str(it.relative_to(self.path("age_tool-2.0.0"))) for it in self.path("age_tool-2.0.0").rglob("*") if it.is_file()]
         self.see("the sources are what is committed", sorted(held) == sorted(listed), set(held) ^ set(listed))
-        made = run("release/build", self.path("second"), cwd=self.path("age_tool-2.0.0"))
+        made = run("release/build", self.path("second"), cwd=self.path("age_tool-2.0.0"), env={**os.environ, "PACKAGES": "no"})
         self.see("of the sources' archive", made.returncode == 0 and self.held("first") == self.held("second"), made.stdout)
         with open(self.top / "README.md", "a") as readme:
             readme.write("changed\n")
@@ -81,12 +58,12 @@ class ReleaseTest(Case):
         made = self.pack("third", SOURCE_DATE_EPOCH=EARLIER)
         self.see("unless a time is given, and then it is named", made.returncode == 0 and "README.md" in made.stdout, made.stdout)
 
-    @needs("dpkg-deb")
+    @needs("dh", "dh_python3", "dpkg-deb")
     def test_license(self):
         """A license at the top is in each artifact that has room for it, and what says that none is chosen isn't."""
         (self.top / "LICENSE").write_text("These are the owner's terms.\n")
         self.git("add", "-A")
-        self.assertEqual(self.pack("out", SOURCE_DATE_EPOCH=EARLIER).returncode, 0)
+        self.assertEqual(self.pack("out", SOURCE_DATE_EPOCH=EARLIER, PACKAGES="yes").returncode, 0)
         held = {"NOTICES": self.read("out/NOTICES")}
         for package in self.path("out").glob("*.deb"):
             process.run(["dpkg-deb", "-x", package, self.path("root")], check=True)
@@ -96,11 +73,10 @@ class ReleaseTest(Case):
                 held |= {it: tar.extractfile(it).read() for it in tar.getnames() if it.endswith(("/NOTICES", "2.0.0/LICENSE"))}
         with zipfile.ZipFile(next(self.path("out").glob("*.whl"))) as wheel:
             held |= {it: wheel.read(it) for it in wheel.namelist() if it.endswith("/NOTICES")}
-        self.see("the archives, the crates, the wheel and four packages", len(held) == 9, *held)
+        self.see("the archives, the crates, the objects, the wheel and four packages", len(held) == 11, *held)
         for name, text in held.items():
-            self.see(name, text.startswith(b"These are the owner's terms.\n") and b"no license yet" not in text, text[:200])
+            self.see(name, b"These are the owner's terms.\n" in text and b"no license yet" not in text, text[:200])
 
-    @needs("dpkg-deb")
     def test_installed(self):
         """What `release/without-the-kit` does with an archive in a new system, and with the wheel, works below another folder, too."""
         self.assertEqual(self.pack("out").returncode, 0)
@@ -124,7 +100,6 @@ class ReleaseTest(Case):
             ended = run(self.top / "release/installed", *words, env=env)
             self.see(f"{words[::2]} fails", ended.returncode != 0, ended.stdout)
 
-    @needs("dpkg-deb")
     def test_failed_pipe(self):
         """A program that fails in the middle of a pipe ends it."""
         self.path("bin").mkdir()
@@ -134,7 +109,7 @@ class ReleaseTest(Case):
             self.see(f"{name} fails", made.returncode != 0 and "SHA256SUMS" not in self.held(name), made.stdout)
             self.remove(f"bin/{name}")
 
-    @needs("dpkg-deb")
+    @needs("dh", "dh_python3", "dpkg-deb")
     def test_packages(self):
         """A package that is unpacked over an earlier one is what Python runs, also where the module's files are as long as they were. Its
         version is a later one, and an earlier run's packages go."""
@@ -146,7 +121,7 @@ class ReleaseTest(Case):
         # (changed sources are of no commit, but of a day)
         for epoch, number, build in ((EARLIER, "16_384", run("git", "rev-parse", "HEAD", cwd=self.top).stdout[:10]), (LATER, "16_383", DAY)):
             writer.write_text(writer.read_text().replace("GATHERED = 16_384", f"GATHERED = {number}"))
-            self.assertEqual(self.pack("out", SOURCE_DATE_EPOCH=epoch).returncode, 0)
+            self.assertEqual(self.pack("out", SOURCE_DATE_EPOCH=epoch, PACKAGES="yes").returncode, 0)
             [package] = self.path("out").glob("python3-agefile_*.deb")
             packages.append(package.name.split("_")[1])
             process.run(["dpkg-deb", "-x", package, self.path("root")], check=True)
@@ -175,7 +150,6 @@ class ReleaseTest(Case):
                 found = [it for it in ended.stdout.splitlines() if it[:3] in ("E: ", "W: ")]
                 self.see(f"lintian, {package.name}", not found, *found)
 
-    @needs("dpkg-deb")
     def test_wheel(self):
         """Its version is one that an index takes, and its build tag rises. Its library has a soname of its own, and its text is true of it."""
         if not importlib.util.find_spec("ensurepip"):
@@ -214,7 +188,6 @@ class ReleaseTest(Case):
             tar.extractall(self.path(folder))
         return next(self.path(folder).glob("*-linux/share/age_tool/install"))
 
-    @needs("dpkg-deb")
     def test_install(self):
         """A release is installed below a root, upgraded and removed: files that it hasn't brought stay, and folders that were there."""
         root, gone = self.path("a root"), self.top / "bindings/python/agefile/_gone.py"
@@ -263,7 +236,7 @@ class ReleaseTest(Case):
             ended = run("setpriv", "--reuid=65534", "--regid=65534", "--clear-groups", first, env={**env, "DESTDIR": str(self.path("closed"))})
             self.see("a folder without permission", ended.returncode == 1 and not self.installed(self.path("closed")), ended.stdout)
 
-    @needs("dpkg-deb", "ssh-keygen")
+    @needs("ssh-keygen")
     def test_signature(self):
         """Sums are signed if a key is named; altered ones, and another's signature, are refused. What the release is made of is listed."""
         for name in ("key", "other"):
@@ -283,7 +256,7 @@ class ReleaseTest(Case):
         self.see("each file is listed with its sum", files == {it: named[it] for it in named if it != "age_tool.spdx.json"}, files, named)
         packages = {it["name"] for it in listed["packages"]}
         kit = run("rt", "version").stdout.split()[0]
-        self.see("what it is made of", {"age_tool", kit, "glibc", "std", "std_io", "clap", "sha2", "rand_chacha"} <= packages, packages)
+        self.see("what it is made of", {"age_tool", kit, "glibc", "core", "std", "std_io", "std_alloc", "clap", "strsim", "sha2", "rand_chacha"} <= packages, packages)
         sums.write_text(sums.read_text().replace("a", "b", 1))
         self.see("altered", not is_signed())
         sign.unlink()
@@ -291,7 +264,7 @@ class ReleaseTest(Case):
         self.assertEqual(run("ssh-keygen", "-Y", "sign", "-q", "-f", self.path("other"), "-n", "age_tool-release", sums).returncode, 0)
         self.see("by another key", sign.exists() and not is_signed())
 
-    @needs("cargo", "dpkg-deb")
+    @needs("cargo")
     def test_rust(self):
         """The packed crates have the library inside, of each processor for which one build was packed: cargo builds and runs the first
         program of their page by a vendored folder alone, and by a path into it."""

@@ -106,7 +106,7 @@ class ChecksTest(unittest.TestCase):
         with tempfile.TemporaryDirectory() as made:
             released = pathlib.Path(made, "last")
             released.write_text(json.dumps({"ran": dict(last), "seconds": {}}))
-            told = {"PROOFS": (sys.executable, "-c", proofs), "EDITS": (sys.executable, "-c", f"import sys; told = sys.stdin.read(); {edits}"), "program": str, "library": str}
+            told = {"PROOFS": (sys.executable, "-c", proofs), "EDITS": (sys.executable, "-c", f"import sys; told = sys.stdin.read(); {edits}"), "program": str, "library": str, "proved_object": str}
             told |= {"run_file": lambda it, _: ("", first if first and it == files[0] else well), "RAN": pathlib.Path(made, "out", "ran"), "LAST": released}
             told |= {"promises": lambda: [types.SimpleNamespace(promise="it holds", test=it) for it in promised]}
             with contextlib.redirect_stdout(io.StringIO()) as shown, unittest.mock.patch.dict("os.environ"), unittest.mock.patch.multiple(check, **told):

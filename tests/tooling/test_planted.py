@@ -89,6 +89,6 @@ class PlantedTest(unittest.TestCase):
         gate = (TOP / ".ci" / "run").read_text() + (TOP / "check").read_text()
         for path in (it for it in (TOP / "checks").iterdir() if os.access(it, os.X_OK)):
             with self.subTest(path.name):
-                self.assertTrue(path.name in ("coverage", "mutants") or f"checks/{path.name}" in gate)
+                self.assertTrue(path.name in ("coverage", "kit", "mutants") or f"checks/{path.name}" in gate)
         for it in ("AGE_TEST_AS_ROOT=1", "AGE_TEST_ALL=1"):
             self.assertIn(it, gate)

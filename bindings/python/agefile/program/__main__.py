@@ -29,6 +29,10 @@ def begin(words: list[str]) -> int:
         from help import explain
 
         return explain(words[1])
+    if first == "proof" or words == ["help", "proof"]:
+        from proof import tell_proof
+
+        return tell_proof(words[1:] if first == "proof" else ["--help"])
     if first in ("inspect", "drill", "help"):
         return become(["/dev/stdin" if it == "-" else it for it in words])
     from words_of_age import request_of_age

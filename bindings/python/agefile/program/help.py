@@ -22,6 +22,7 @@ Commands, and what carries them out:
   drill    Show how a reader reacts to altered pieces       proved program
   salvage  Write what still opens of a damaged IN           tested module
   help     Explain a command, or a fault: agefile help 17   proved program
+  proof    Read aloud what is proved, and what it rests on
 
 The proved program is age_tool, which a checker proved to write the complete
 plaintext or say why not. The tested module is Python over a proved C library.
