@@ -21,11 +21,11 @@ type vector struct {
 	file []byte
 }
 
-// vectors are those of tests/cctv.tar.gz, which tests/format/test_cctv.py explains.
-func vectors(t *testing.T) []vector {
+// vectors are those of tests/cctv.tar.gz, which tests/format/test_cctv.py explains; none in a folder that stands alone.
+func vectors() []vector {
 	archive, err := os.Open("../../tests/cctv.tar.gz")
 	if errors.Is(err, os.ErrNotExist) {
-		t.Skip("this folder stands alone")
+		return nil
 	}
 	defer archive.Close()
 	var all []vector
@@ -58,8 +58,11 @@ func (k fixedKey) Unwrap([]Stanza) ([]byte, error) { return k, nil }
 
 // Each vector for a passphrase by that, and each other one that has to open, or whose header or payload was altered, by its file key.
 func TestVectors(t *testing.T) {
-	tried := 0
-	for _, it := range vectors(t) {
+	tried, all := 0, vectors()
+	if all == nil {
+		t.Skip("this folder stands alone")
+	}
+	for _, it := range all {
 		by, want := Identity(Passphrase([]byte(it.said["passphrase"]))), kinds[it.said["expect"]]
 		if it.said["passphrase"] == "" {
 			by = fixedKey(must(hex.DecodeString(it.said["file key"])))

@@ -7,7 +7,9 @@ package agefile
 
 import (
 	"bytes"
+	"encoding/hex"
 	"io"
+	"strings"
 	"testing"
 	"testing/iotest"
 )
@@ -15,12 +17,21 @@ import (
 // A fuzzed file is one to be altered: its text, its bytes, its key, and where the payload begins.
 type fuzzed struct {
 	text, file []byte
-	key        *keyHolder
+	key        Identity
 	at         int
 }
 
+// fuzzFiles are those of C2SP's vectors that have to open and have at most three chunks, which are the same in each run, and files of other
+// lengths.
 func fuzzFiles() []fuzzed {
 	var found []fuzzed
+	for _, it := range vectors() {
+		if strings.HasPrefix(it.name, "stream_") && it.said["expect"] == "success" && len(it.file) < 4*blockLen {
+			key := fixedKey(must(hex.DecodeString(it.said["file key"])))
+			text := must(whole(it.file, key))
+			found = append(found, fuzzed{text, it.file, key, payloadOf(it.file, len(text))})
+		}
+	}
 	for _, n := range []int{0, 1, 70, chunkLen, chunkLen + 1, 2 * chunkLen, 2*chunkLen + 500} {
 		key := &keyHolder{kind: "x"}
 		file := sealed(textOf(n), key)
@@ -241,6 +252,11 @@ func (it fuzzed) seeAt(t *testing.T, tape *tape, file []byte, fault int) {
 func FuzzInspect(f *testing.F) {
 	for _, it := range []Recipient{pw(), &keyHolder{kind: "x"}, given{{Type: "X25519", Args: []string{"a"}, Body: make([]byte, 100)}}} {
 		f.Add(sealed(nil, it))
+	}
+	for _, it := range vectors() {
+		if len(it.file) < 4_000 {
+			f.Add(it.file)
+		}
 	}
 	f.Fuzz(func(t *testing.T, data []byte) {
 		h, err := Inspect(iotest.OneByteReader(bytes.NewReader(data)))
