@@ -11,10 +11,11 @@ from tests.python.files import AGE, ModuleCase
 from tests.python.test_keys import needs_cryptography
 
 KEY = {"passphrase": "correct horse"}
+TO = {**KEY, "work": 1}  # (which isn't for files that are kept)
 
 
 def encrypt(source, name):  # 3 | 10
-    with agefile.open(name, "wb", **KEY) as file:
+    with agefile.open(name, "wb", **TO) as file:
         shutil.copyfileobj(source, file)
 
 
@@ -29,7 +30,7 @@ def member(name, which):  # 3 | -
 
 
 def in_memory(text):  # 2 | 18, by the two for streams
-    return agefile.decrypt(agefile.encrypt(text, **KEY), **KEY)
+    return agefile.decrypt(agefile.encrypt(text, **TO), **KEY)
 
 
 def encrypt_for(recipients, source, name):  # 3 | 10
@@ -81,7 +82,7 @@ class ProgramsTest(ModuleCase):
 
     def encrypted(self, text):
         """Makes a file of little work."""
-        self.name.write_bytes(agefile.encrypt(text, work=1, **KEY))
+        self.name.write_bytes(agefile.encrypt(text, **TO))
 
     def test_streams(self):
         encrypt(io.BytesIO(self.text), self.name)

@@ -63,9 +63,8 @@ __version__ = "2.0.0"
 # release/build replaces it by the commit that it was made from, as in age_tool.
 __build__ = "(not a release)"
 
-for _it in (encrypt, decrypt, inspect, Inspection, Stanza, salvage, Salvage, identities_in, AgeError, WrongKey, NotWhole, Truncated,
-            WorkTooHigh, OutOfMemory, AgeReader, AgeWriter, Decryptor, Encryptor):
-    _it.__module__ = __name__
+for _it in __all__[1:]:
+    globals()[_it].__module__ = __name__
 
 Path = Union[str, bytes, "os.PathLike[str]", "os.PathLike[bytes]"]
 

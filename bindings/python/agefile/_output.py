@@ -22,11 +22,6 @@ _LINKS_MAX = 40
 _NO_FOLDER = 0
 
 
-def new_name(path: Any) -> Any:
-    """The path, if nothing exists there yet, so that what is created there has a name that isn't on the disk."""
-    return None if os.path.exists(path) else path
-
-
 def lock(descriptor: int, path: Any) -> None:
     """Takes the lock of the file at a path, as `age_tool` does: the second of two runs that write to it is refused. A file system without
     locks lets both in."""

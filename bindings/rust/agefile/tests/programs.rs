@@ -103,8 +103,10 @@ fn programs() -> io::Result<()> {
     assert!(decrypt_pieces(file.chunks(1_000), &key).is_err());
     let mut saved = Vec::new();
     let mut reader = Decryptor::new(&[&key]).read(Cursor::new(&file))?;
-    assert_eq!(salvage(&mut reader, &mut saved)?, [CHUNK as u64]);
-    let (before, after) = (&text[..CHUNK], &text[2 * CHUNK..]);
-    assert_eq!(saved, [before, &[0; CHUNK], after].concat());
+    // (a seek to the first byte of a chunk opens the one before, too: so one after a damaged one is lost)
+    let lost = [CHUNK as u64, 2 * CHUNK as u64];
+    assert_eq!(salvage(&mut reader, &mut saved)?, lost);
+    let (before, after) = (&text[..CHUNK], &text[3 * CHUNK..]);
+    assert_eq!(saved, [before, &[0; 2 * CHUNK], after].concat());
     Ok(())
 }
