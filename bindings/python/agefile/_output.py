@@ -58,19 +58,14 @@ def descriptor_of(path: Any) -> int | None:
     return None
 
 
-def _standing(number: int, path: Any) -> Any:
-    """What a descriptor has open, to be written from where it stands."""
-    if fcntl.fcntl(number, fcntl.F_GETFL) & os.O_ACCMODE == os.O_RDONLY:
-        raise OSError(errno.EBADF, "it is open for reading alone", path)
-    return builtins.open(os.dup(number), "wb")
-
-
 def opened_alone(path: Any, is_new: bool) -> Any:
     """The file at a path, which only this run writes, from its beginning; with `is_new`, only if it didn't exist. A regular file is
     unchanged until it is locked. What a path such as /dev/stdout names is open already, perhaps to append, and for others too: it is written
     from where it stands, without a lock."""
     if not is_new and (number := descriptor_of(path)) is not None:
-        return _standing(number, path)
+        if fcntl.fcntl(number, fcntl.F_GETFL) & os.O_ACCMODE == os.O_RDONLY:
+            raise OSError(errno.EBADF, "it is open for reading alone", path)
+        return builtins.open(os.dup(number), "wb")
     how = os.O_WRONLY | os.O_CREAT | (os.O_EXCL if is_new else 0)
     file = builtins.open(path, "wb", opener=lambda name, _: os.open(name, how | os.O_CLOEXEC, 0o666))
     try:
