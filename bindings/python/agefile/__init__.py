@@ -168,7 +168,7 @@ def open(file: Path | Source | Sink, mode: str = "rb", *, passphrase: str | Buff
         raise ValueError("encoding, errors and newline are for text alone")
     if mode[0] == "r" and recipient is not None:
         raise ValueError("recipient is for writing alone")
-    see_one(passphrase, file_key, shared, identity, recipient)
+    see_one(passphrase=passphrase, file_key=file_key, shared=shared, identity=identity, recipient=recipient)
     work_factor("work", work)
     work_factor("max_work", max_work)
     # a file that can't be begun is left unchanged

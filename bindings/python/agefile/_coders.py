@@ -54,7 +54,7 @@ def random_pair() -> Pair:
 def key_to_read(passphrase: str | Buffer | None, file_key: Buffer | None, shared: tuple[Buffer, Buffer] | None,
                 identity: str | Iterable[str] | None, max_work: int) -> HeldKey:
     """The one key that is given."""
-    see_one(passphrase, file_key, shared, identity)
+    see_one(passphrase=passphrase, file_key=file_key, shared=shared, identity=identity)
     most = work_factor("max_work", max_work)
     if identity is not None:
         return of_pair(random_pair(), *identities_of(identity))

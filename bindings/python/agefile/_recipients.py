@@ -19,7 +19,7 @@ STANZAS_MAX = (1 << 20) - 70  # bytes of all stanzas: a header has at most 1 MiB
 
 def key_to_write(passphrase: str | Buffer | None, recipient: str | Iterable[str] | None, work: int) -> HeldKey:
     """The one key that is given."""
-    see_one(passphrase, recipient)
+    see_one(passphrase=passphrase, recipient=recipient)
     log = work_factor("work", work)
     return under_passphrase(passphrase, log) if recipient is None else wrapped_for(points_of(recipient))
 
