@@ -70,24 +70,13 @@ func (p *PassphraseKey) check() error {
 	return nil
 }
 
-func (p *PassphraseKey) encoder() (encoder, error) {
-	if err := p.check(); err != nil {
-		return encoder{}, err
-	}
-	return encoderByPassphrase(p.text, p.Work)
-}
-
-func (p *PassphraseKey) decoder() (decoder, error) {
-	if err := p.check(); err != nil {
-		return decoder{}, err
-	}
-	return decoderByPassphrase(p.text, p.MaxWork)
-}
-
 // decoderBy gives a decoder for the file whose header has these stanzas.
 func decoderBy(it Identity, stanzas []Stanza) (decoder, error) {
 	if p, ok := it.(*PassphraseKey); ok {
-		return p.decoder()
+		if err := p.check(); err != nil {
+			return decoder{}, err
+		}
+		return decoderByPassphrase(p.text, p.MaxWork)
 	}
 	key, err := it.Unwrap(stanzas)
 	if err != nil {
@@ -105,10 +94,14 @@ func encoderFor(to []Recipient) (encoder, error) {
 		return encoder{}, outOfRange("there must be a recipient")
 	}
 	for _, it := range to {
-		if p, ok := it.(*PassphraseKey); ok && len(to) > 1 {
-			return encoder{}, outOfRange("a passphrase must be the only recipient")
-		} else if ok {
-			return p.encoder()
+		if p, ok := it.(*PassphraseKey); ok {
+			if err := p.check(); err != nil {
+				return encoder{}, err
+			}
+			if len(to) > 1 {
+				return encoder{}, outOfRange("a passphrase must be the only recipient")
+			}
+			return encoderByPassphrase(p.text, p.Work)
 		}
 	}
 	key := make([]byte, fileKeyLen)

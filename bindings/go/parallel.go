@@ -4,6 +4,7 @@ import (
 	"errors"
 	"io"
 	"sync"
+	"sync/atomic"
 )
 
 // maxWorkers is the greatest number of goroutines.
@@ -11,21 +12,24 @@ const maxWorkers = 64
 
 var errPart = errors.New("agefile: a ReadAt or a WriteAt didn't return")
 
-// parts are those of a plaintext, one for each goroutine.
-type parts struct {
-	dst    io.WriterAt
-	text   *File
-	step   int64   // how long each is
-	faults []error // why each failed
+// pieces are those of a plaintext. Goroutines take them in their order, so that all before one that fails were taken.
+type pieces struct {
+	dst  io.WriterAt
+	text *File
+	step int64        // how long each is
+	next atomic.Int64 // where the next one begins
+}
 
-	lock     sync.Mutex
-	failed   int // the first that did
+// An outcome is how a goroutine ended: with which piece, and why if that failed.
+type outcome struct {
+	at       int64
+	err      error
 	panicked any // by a ReadAt or a WriteAt
 }
 
-// DecryptTo decrypts a file of this many bytes by 1 to 64 goroutines, each a part of it, and returns the length of the plaintext. dst has
-// all of it only if the error is nil: the last chunk, which proves the length, is opened first. If parts fail, the error is that of the
-// first one; those after it stop.
+// DecryptTo decrypts a file of this many bytes by 1 to 64 goroutines, and returns the length of the plaintext. dst has all of it only if the
+// error is nil: the last chunk, which proves the length, is opened first. If pieces of it fail, the error is that of the first one, and no
+// more are begun.
 func DecryptTo(dst io.WriterAt, src io.ReaderAt, size int64, workers int, by ...Identity) (int64, error) {
 	if dst == nil {
 		return 0, errNil
@@ -37,69 +41,55 @@ func DecryptTo(dst io.WriterAt, src io.ReaderAt, size int64, workers int, by ...
 	if err != nil {
 		return 0, err
 	}
-	chunks := (text.size + chunkLen - 1) / chunkLen
-	step := (chunks + int64(workers) - 1) / int64(workers) * chunkLen
-	p := &parts{dst: dst, text: text, step: step, faults: make([]error, workers), failed: workers}
-	p.run()
-	if p.panicked != nil {
-		panic(p.panicked) // here, where the caller can recover it
+	share := (text.last + int64(workers)) / int64(workers) // of the chunks, for each goroutine
+	p := &pieces{dst: dst, text: text, step: least(16, share) * chunkLen}
+	ended := make([]outcome, workers)
+	var all sync.WaitGroup
+	for i := range ended {
+		all.Add(1)
+		go func(it *outcome) {
+			defer all.Done()
+			p.work(it)
+		}(&ended[i])
 	}
-	if p.failed < workers {
-		return 0, p.faults[p.failed]
+	all.Wait()
+	first := outcome{at: text.size}
+	for _, it := range ended {
+		if it.panicked != nil {
+			panic(it.panicked) // here, where the caller can recover it
+		}
+		if it.err != nil && it.at < first.at {
+			first = it
+		}
+	}
+	if first.err != nil {
+		return 0, first.err
 	}
 	return text.size, nil
 }
 
-func (p *parts) run() {
-	var all sync.WaitGroup
-	for i := range p.faults {
-		all.Add(1)
-		go func(i int) {
-			defer all.Done()
-			p.faults[i] = errPart // unless it returns
-			defer func() { p.ended(i, recover()) }()
-			p.faults[i] = p.copy(i)
-		}(i)
-	}
-	all.Wait()
-}
-
-// ended notes how a part ended.
-func (p *parts) ended(i int, panicked any) {
-	p.lock.Lock()
-	defer p.lock.Unlock()
-	if panicked != nil {
-		p.panicked = panicked
-	}
-	if p.faults[i] != nil && i < p.failed {
-		p.failed = i
+// work copies pieces until there are none, or one fails: then nobody takes another.
+func (p *pieces) work(it *outcome) {
+	defer func() {
+		if it.panicked = recover(); it.err != nil {
+			p.next.Store(p.text.size)
+		}
+	}()
+	for room := make([]byte, p.step); it.err == nil; {
+		if it.at = p.next.Add(p.step) - p.step; it.at >= p.text.size {
+			return
+		}
+		it.err = errPart // unless it returns
+		it.err = p.copy(room[:least(p.step, p.text.size-it.at)], it.at)
 	}
 }
 
-// stops says whether a part before this one failed.
-func (p *parts) stops(i int) bool {
-	p.lock.Lock()
-	defer p.lock.Unlock()
-	return p.failed < i
-}
-
-func (p *parts) copy(i int) error {
-	at := int64(i) * p.step
-	end := least(at+p.step, p.text.size)
-	room := make([]byte, least(16*chunkLen, p.step))
-	for at < end && !p.stops(i) {
-		n, err := p.text.ReadAt(room[:least(int64(len(room)), end-at)], at)
-		if err != nil && err != io.EOF {
-			return err
-		}
-		if n == 0 {
-			return truncatedAt(at / chunkLen)
-		}
-		done, err := p.dst.WriteAt(room[:n], at)
-		if err := written(n, done, err); err != nil {
-			return err
-		}
-		at += int64(n)
+// copy decrypts a piece.
+func (p *pieces) copy(room []byte, at int64) error {
+	if _, err := p.text.ReadAt(room, at); err != nil {
+		return err
 	}
-	return nil
+	n, err := p.dst.WriteAt(room, at)
+	_, err = written(len(room), n, err)
+	return err
 }

@@ -83,22 +83,18 @@ func writeAll(dst io.Writer, text []byte) (int, error) {
 		return 0, nil
 	}
 	n, err := dst.Write(text)
-	if err := written(len(text), n, err); err == errWrite {
-		return 0, err
-	} else {
-		return n, err
-	}
+	return written(len(text), n, err)
 }
 
-// written says whether what was given was written.
-func written(given, n int, err error) error {
+// written says how much was written of what was given, and why not all was.
+func written(given, n int, err error) (int, error) {
 	if n < 0 || n > given {
-		return errWrite
+		return 0, errWrite
 	}
 	if err == nil && n < given {
-		return io.ErrShortWrite
+		err = io.ErrShortWrite
 	}
-	return err
+	return n, err
 }
 
 func least[T int | int64](a, b T) T {

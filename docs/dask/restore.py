@@ -9,17 +9,15 @@ from dask.distributed import Client
 
 NAME, OUT, PART, PIECE = "photos.tar.age", "photos.tar", 1 << 30, 4 << 20
 
-def opened(name, head=b""):
-    with open("passphrase.txt", "rb") as file:
-        passphrase = file.read().removesuffix(b"\n")
+def opened(name, header=None):
     file = open(name, "rb")
-    if not file.read(1024).startswith(head):
+    if header not in (None, agefile.inspect(file)):
         raise ValueError(f"{name} was replaced")
-    file.seek(0)
-    return agefile.open(file, passphrase=passphrase)
+    with open("passphrase.txt", "rb") as word:
+        return agefile.open(file, passphrase=word.read().removesuffix(b"\n"))
 
-def restore(at, head):
-    with opened(NAME, head) as file, open(OUT + ".part", "r+b") as out:
+def restore(at, header):
+    with opened(NAME, header) as file, open(OUT + ".part", "r+b") as out:
         file.seek(at)
         out.seek(at)
         while piece := file.read(min(PIECE, at + PART - file.tell())):
@@ -33,10 +31,10 @@ def check(name):
             pass
 
 if __name__ == "__main__":
-    with Client(sys.argv[1]) as client, open(NAME, "rb") as file:
-        head = file.read(1024)  # which no other age file begins with
-        with opened(NAME, head) as text, open(OUT + ".part", "xb") as out:
+    header = agefile.inspect(NAME)  # whose salt no other file has
+    with Client(sys.argv[1]) as client:
+        with opened(NAME, header) as text, open(OUT + ".part", "xb") as out:
             parts = range(0, out.truncate(text.size), PART)
-        client.gather(client.map(restore, parts, head=head))
+        client.gather(client.map(restore, parts, header=header))
         os.rename(OUT + ".part", OUT)
         client.gather(client.map(check, glob.glob("backups/*.age")))

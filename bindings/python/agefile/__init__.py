@@ -63,9 +63,8 @@ __version__ = "2.0.0"
 # release/build replaces it by the commit that it was made from, as in age_tool.
 __build__ = "(not a release)"
 
-for _it in (encrypt, decrypt, inspect, Inspection, Stanza, salvage, Salvage, identities_in, AgeError, WrongKey, NotWhole, Truncated,
-            WorkTooHigh, OutOfMemory, AgeReader, AgeWriter, Decryptor, Encryptor):
-    _it.__module__ = __name__
+for _it in __all__[1:]:
+    globals()[_it].__module__ = __name__
 
 Path = Union[str, bytes, "os.PathLike[str]", "os.PathLike[bytes]"]
 
@@ -169,7 +168,7 @@ def open(file: Path | Source | Sink, mode: str = "rb", *, passphrase: str | Buff
         raise ValueError("encoding, errors and newline are for text alone")
     if mode[0] == "r" and recipient is not None:
         raise ValueError("recipient is for writing alone")
-    see_one(passphrase, file_key, shared, identity, recipient)
+    see_one(passphrase=passphrase, file_key=file_key, shared=shared, identity=identity, recipient=recipient)
     work_factor("work", work)
     work_factor("max_work", max_work)
     # a file that can't be begun is left unchanged

@@ -15,12 +15,10 @@ PASSPHRASE_MAX = 65_536
 KEY, SHARED = 16, 32
 
 
-def see_one(*keys: Any) -> None:
-    given = sum(it is not None for it in keys)
-    if given == 0:
-        raise ValueError("a passphrase, a file_key, shared (secret, recipient), an identity or, to write, a recipient is needed")
-    if given > 1:
-        raise TypeError("give one of passphrase, file_key, shared, identity and recipient")
+def see_one(**keys: Any) -> None:
+    given = sum(it is not None for it in keys.values())
+    if given != 1:
+        raise (TypeError if given else ValueError)(f"give one of {', '.join(keys)}")
 
 
 def whole_number(name: str, given: Any, most: int) -> int:

@@ -4,11 +4,11 @@ from __future__ import annotations
 import ctypes
 import os
 import weakref
-from typing import Any, Iterable, NamedTuple, NoReturn
+from typing import Any, Callable, Iterable, NamedTuple, NoReturn
 
 from ._arguments import KEY, Buffer, key, pair, secret, see_one, work_factor
 from ._keys import Pair, identities_of, pair_of
-from ._library import CHUNK, MAC_MISMATCH, NOWHERE, WRONG_KEY, C, Key, WrongKey, fault_of, written
+from ._library import CHUNK, MAC_MISMATCH, NOWHERE, WRONG_KEY, C, Key, WrongKey, fault_of, made, written
 
 
 class Alone:
@@ -54,7 +54,7 @@ def random_pair() -> Pair:
 def key_to_read(passphrase: str | Buffer | None, file_key: Buffer | None, shared: tuple[Buffer, Buffer] | None,
                 identity: str | Iterable[str] | None, max_work: int) -> HeldKey:
     """The one key that is given."""
-    see_one(passphrase, file_key, shared, identity)
+    see_one(passphrase=passphrase, file_key=file_key, shared=shared, identity=identity)
     most = work_factor("max_work", max_work)
     if identity is not None:
         return of_pair(random_pair(), *identities_of(identity))
@@ -66,14 +66,21 @@ def key_to_read(passphrase: str | Buffer | None, file_key: Buffer | None, shared
     return of_pair(pair(shared))
 
 
-def shared_secret(identities: list[str], pieces: Iterable[bytes]) -> tuple[int, Pair]:
-    """The shared secret and the recipient of the stanza that one of these keys opens, of the header that these pieces begin with, of which no more
-    are taken than it takes; and the answer to them. If no key opens it, or it isn't well-formed, they are random."""
-    decoder, answer, pieces = Decoder(of_pair(random_pair(), *identities)), 0, iter(pieces)
+def read_header(decoder: Decoder, read: Callable[[], bytes]) -> tuple[int, bytes]:
+    """Gives a decoder what is read, b"" at the end, until it has opened the header or says why not: the answer, and all that was read."""
+    front, answer = bytearray(), 0
     while answer == 0 and not decoder.payload_at:
-        piece = next(pieces, b"")
+        piece = read()
+        front += piece
         answer, _ = decoder.decode(piece) if piece else decoder.end()
-    return answer, decoder.pair
+    return answer, bytes(front)
+
+
+def shared_secret(identities: list[str], read: Callable[[], bytes]) -> tuple[int, Pair]:
+    """The shared secret and the recipient of the stanza of a header, as it is read, that one of these keys opens; and the answer to that. If no key
+    opens it, or it isn't well-formed, they are random."""
+    decoder = Decoder(of_pair(random_pair(), *identities))
+    return read_header(decoder, read)[0], decoder.pair
 
 
 class Encoder:
@@ -86,16 +93,10 @@ class Encoder:
         weakref.finalize(self, C.agefile_encoder_free, self._it).atexit = False
 
     def encode(self, text: bytes) -> bytes:
-        return self._made(C.agefile_encode_room(self._it, len(text)), C.agefile_encode, self._it, text, len(text))
+        return made(C.agefile_encode_room(self._it, len(text)), C.agefile_encode, self._it, text, len(text))
 
     def end(self) -> bytes:
-        return self._made(C.agefile_encode_end_room(self._it), C.agefile_encode_end, self._it)
-
-    def _made(self, room: int, *words: Any) -> bytes:
-        answer, made = written(room, *words)
-        if answer != 0:
-            raise fault_of(answer)
-        return made
+        return made(C.agefile_encode_end_room(self._it), C.agefile_encode_end, self._it)
 
 
 class Decoder:

@@ -5,10 +5,9 @@ import builtins
 import os
 from typing import Any, NamedTuple
 
-from ._coders import Decoder, key_to_read
-from ._library import CHUNK, MAC_MISMATCH
+from ._coders import Decoder, key_to_read, read_header
+from ._library import CHUNK, MAC_MISMATCH, told_of
 from ._source import can_seek, some
-from ._stanzas import told_of
 
 
 class Stanza(NamedTuple):
@@ -44,13 +43,10 @@ def inspect(file: Any) -> Inspection:
 
 def _inspected(file: Any) -> Inspection:
     """The same of a file object. A random file key opens nothing, but the library looks at the whole header before it says so."""
-    decoder, front, answer, piece = Decoder(key_to_read(None, os.urandom(16), None, None, 22)), bytearray(), 0, b" "
-    while answer == 0 and piece:
-        piece = some(file, CHUNK)
-        front += piece
-        answer, _ = decoder.decode(piece) if piece else decoder.end()
+    decoder = Decoder(key_to_read(None, os.urandom(16), None, None, 22))
+    answer, front = read_header(decoder, lambda: some(file, CHUNK))
     if answer != MAC_MISMATCH:
         raise decoder.fault(answer)
-    told = told_of(bytes(front))
-    words = [args.decode().split(" ") for args, _ in told.stanzas]
-    return Inspection([Stanza(it[0], it[1:]) for it in words], told.work or None, told.size)
+    size, work, stanzas = told_of(front)
+    words = [args.decode().split(" ") for args, _ in stanzas]
+    return Inspection([Stanza(it[0], it[1:]) for it in words], work or None, size)

@@ -7,7 +7,7 @@ import hmac
 from collections.abc import Callable, Iterable
 from typing import Tuple
 
-from ._stanzas import told_of
+from ._library import told_of
 
 Pair = Tuple[bytes, bytes]  # a shared secret, and the recipient that it is for
 
@@ -128,20 +128,15 @@ def x25519_of(secret: bytes) -> Callable[[bytes], bytes]:
     return exchanged
 
 
-def hkdf(secret: bytes, salt: bytes, info: bytes) -> bytes:
-    """32 bytes of HKDF-SHA256 (RFC 5869)."""
-    return hmac.digest(hmac.digest(salt, secret, "sha256"), info + b"\1", "sha256")
-
-
 def wrapping_key(secret: bytes, share: bytes, recipient: bytes) -> bytes:
-    """The key under which an X25519 stanza holds the file key."""
-    return hkdf(secret, share + recipient, b"age-encryption.org/v1/X25519")
+    """The key under which an X25519 stanza holds the file key: 32 bytes of HKDF-SHA256 (RFC 5869)."""
+    return hmac.digest(hmac.digest(share + recipient, secret, "sha256"), b"age-encryption.org/v1/X25519\1", "sha256")
 
 
 def pair_of(identities: Iterable[str], front: bytes) -> Pair | None:
     """The shared secret and the recipient of the first X25519 stanza that one of these keys opens, of the header that the bytes begin with. (Also
     of one whose secret is zero, which the library refuses.)"""
-    found = [(base64.b64decode(args[len(KIND):] + b"="), body) for args, body in told_of(front).stanzas if args.startswith(KIND)]
+    found = [(base64.b64decode(args[len(KIND):] + b"="), body) for args, body in told_of(front)[2] if args.startswith(KIND)]
     for identity in identities:
         exchanged = x25519_of(secret_of(identity))
         recipient = exchanged(NINE)

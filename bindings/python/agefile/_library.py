@@ -147,6 +147,26 @@ def address(held: memoryview) -> int:
     return ctypes.addressof(ctypes.c_char.from_buffer(held)) if len(held) else 0
 
 
+def told_of(front: bytes) -> tuple[int, int, list[tuple[bytes, bytes]]]:
+    """What the header says that these bytes begin with, which nobody has confirmed: its length, the work factor that it demands of a passphrase (0 if
+    none opens it), and of each stanza the arguments, with a space between two of them, and the bytes of the body."""
+    size, count, work = ctypes.c_size_t(), ctypes.c_size_t(), ctypes.c_uint32()
+    if (answer := C.agefile_header(front, len(front), size, count, work)) != 0:
+        raise fault_of(answer)
+    places = (StanzaPlace * count.value)()
+    bodies = made(size.value, C.agefile_stanzas, front, len(front), places, len(places), count)
+    stanzas = [(front[it.args_at:it.args_at + it.args_len], bodies[it.body_at:it.body_at + it.body_len]) for it in places]
+    return size.value, work.value, stanzas
+
+
+def made(room: int, call: Any, *words: Any) -> bytes:
+    """What a call wrote, for which there is this much room, unless it answers a fault."""
+    answer, held = written(room, call, *words)
+    if answer != 0:
+        raise fault_of(answer)
+    return held
+
+
 def written(room: int, call: Any, *words: Any) -> tuple[int, bytes]:
     """What a call answers and, without a copy, what it wrote, for which there is this much room."""
     held, count = io.BytesIO(bytes(room)), ctypes.c_size_t()

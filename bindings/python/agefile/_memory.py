@@ -3,12 +3,12 @@ from __future__ import annotations
 
 import ctypes
 import io
-import threading
+from concurrent.futures import ThreadPoolExecutor
 from typing import Iterable
 
 from ._arguments import Buffer, raw, whole_number
 from ._coders import Decoder, key_to_read
-from ._library import BLOCK, CHUNK, TRAILING, TRUNCATED, C, address, fault_of, written
+from ._library import BLOCK, CHUNK, TRAILING, TRUNCATED, C, fault_of, made
 from ._push import Decryptor
 from ._reader import header_of
 from ._recipients import key_to_write
@@ -23,10 +23,7 @@ def encrypt(text: Buffer, *, passphrase: str | Buffer | None = None, recipient: 
     >>> agefile.encrypt(b"text", passphrase="pw", work=1)[:21]
     b'age-encryption.org/v1'"""
     held, key = text if type(text) is bytes else raw("text", text), key_to_write(passphrase, recipient, work)
-    answer, made = written(C.agefile_sealed_len(key.key, len(held)), C.agefile_encrypt, key.key, held, len(held))
-    if answer != 0:
-        raise fault_of(answer)
-    return made
+    return made(C.agefile_sealed_len(key.key, len(held)), C.agefile_encrypt, key.key, held, len(held))
 
 
 def decrypt(data: Buffer, *, passphrase: str | Buffer | None = None, file_key: Buffer | None = None,
@@ -54,40 +51,26 @@ def decrypt(data: Buffer, *, passphrase: str | Buffer | None = None, file_key: B
 
 def _by_workers(decoder: Decoder, data: bytes, size: int, workers: int) -> bytes:
     """The plaintext of a file of which it has this length if it is whole: all of it, or the fault of the first chunk that has one."""
-    begin, last, faults = decoder.payload_at, max(0, size - 1) // CHUNK, dict[int, BaseException]()
-    file, text, parts = ctypes.cast(ctypes.c_char_p(data), ctypes.c_void_p).value or 0, io.BytesIO(bytes((last + 1) * CHUNK)), iter(range(0, last + 1, PART))
+    begin, last = decoder.payload_at, max(0, size - 1) // CHUNK
+    file, text = ctypes.cast(ctypes.c_char_p(data), ctypes.c_void_p).value or 0, io.BytesIO(bytes((last + 1) * CHUNK))
     out = text.getbuffer()
 
-    def opens(number: int) -> None:
-        room = (ctypes.c_char * CHUNK).from_buffer(out, number * CHUNK)  # (which keeps it there)
-        at = begin + number * BLOCK
-        answer, _, is_last = decoder.open_at(number, file + at, min(BLOCK, len(data) - at), ctypes.addressof(room))
-        if answer != 0:
-            raise fault_of(answer, number)
-        if is_last != (number == last):
-            raise fault_of(TRAILING) if is_last else fault_of(TRUNCATED, last + 1)
+    def opens(first: int) -> None:
+        for number in range(first, min(first + PART, last + 1)):
+            room = (ctypes.c_char * CHUNK).from_buffer(out, number * CHUNK)  # (which keeps it there)
+            at = begin + number * BLOCK
+            answer, _, is_last = decoder.open_at(number, file + at, min(BLOCK, len(data) - at), ctypes.addressof(room))
+            if answer != 0:
+                raise fault_of(answer, number)
+            if is_last != (number == last):
+                raise fault_of(TRAILING) if is_last else fault_of(TRUNCATED, last + 1)
 
-    def works() -> None:
-        for first in parts:  # in their order, so that no part before one with a fault is left out
-            try:
-                for number in range(first, min(first + PART, last + 1)):
-                    opens(number)
-            except BaseException as fault:
-                faults[first] = fault
-            if faults:
-                break
-
-    threads = [threading.Thread(target=works) for _ in range(workers)]
+    pool = ThreadPoolExecutor(workers)
     try:
-        for it in threads:
-            it.start()
-        for it in threads:
-            it.join()
-    except BaseException as fault:  # of a signal's handler: the threads end with the part that they have
-        faults[-1] = fault
-        raise
-    if faults:
-        raise faults[min(faults)]
+        for _ in pool.map(opens, range(0, last + 1, PART)):  # in their order, so that the first fault is raised
+            pass
+    finally:  # (also if a signal's handler raises: the threads end with the part that they have)
+        pool.shutdown(cancel_futures=True)
     out.release()
     text.truncate(size)
     return text.getvalue()

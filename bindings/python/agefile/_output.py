@@ -22,11 +22,6 @@ _LINKS_MAX = 40
 _NO_FOLDER = 0
 
 
-def new_name(path: Any) -> Any:
-    """The path, if nothing exists there yet, so that what is created there has a name that isn't on the disk."""
-    return None if os.path.exists(path) else path
-
-
 def lock(descriptor: int, path: Any) -> None:
     """Takes the lock of the file at a path, as `age_tool` does: the second of two runs that write to it is refused. A file system without
     locks lets both in."""
@@ -63,19 +58,14 @@ def descriptor_of(path: Any) -> int | None:
     return None
 
 
-def _standing(number: int, path: Any) -> Any:
-    """What a descriptor has open, to be written from where it stands."""
-    if fcntl.fcntl(number, fcntl.F_GETFL) & os.O_ACCMODE == os.O_RDONLY:
-        raise OSError(errno.EBADF, "it is open for reading alone", path)
-    return builtins.open(os.dup(number), "wb")
-
-
 def opened_alone(path: Any, is_new: bool) -> Any:
     """The file at a path, which only this run writes, from its beginning; with `is_new`, only if it didn't exist. A regular file is
     unchanged until it is locked. What a path such as /dev/stdout names is open already, perhaps to append, and for others too: it is written
     from where it stands, without a lock."""
     if not is_new and (number := descriptor_of(path)) is not None:
-        return _standing(number, path)
+        if fcntl.fcntl(number, fcntl.F_GETFL) & os.O_ACCMODE == os.O_RDONLY:
+            raise OSError(errno.EBADF, "it is open for reading alone", path)
+        return builtins.open(os.dup(number), "wb")
     how = os.O_WRONLY | os.O_CREAT | (os.O_EXCL if is_new else 0)
     file = builtins.open(path, "wb", opener=lambda name, _: os.open(name, how | os.O_CLOEXEC, 0o666))
     try:

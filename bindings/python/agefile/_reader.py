@@ -5,9 +5,9 @@ import io
 import threading
 from typing import Any
 
-from ._coders import Decoder
+from ._coders import Decoder, read_header
 from ._library import BLOCK, CHUNK, MAC_MISMATCH, TRAILING, TRUNCATED, AgeError, WrongKey, address, again, fault_of
-from ._source import can_seek, end_of, filled, read_by, some
+from ._source import can_seek, filled, read_by, some
 
 MOST = 64  # blocks that are read at once, if a call asks for so many: 4 MiB
 LOST = "a read of this file failed or was interrupted, so that bytes may be lost: seek to a place that you know, or open it again"
@@ -15,24 +15,34 @@ LOST = "a read of this file failed or was interrupted, so that bytes may be lost
 
 def header_of(file: Any, decoder: Decoder) -> tuple[bytes, bytes]:
     """Reads a file until a decoder has opened its header: that and the nonce, and what was read after them."""
-    front = bytearray()
-    while not decoder.payload_at:
-        piece = some(file, CHUNK)
-        front += piece
-        answer, _ = decoder.decode(piece) if piece else decoder.end()
-        if answer != 0:
-            raise decoder.fault(answer)
-    return bytes(front[:decoder.payload_at]), bytes(front[decoder.payload_at:])
+    answer, front = read_header(decoder, lambda: some(file, CHUNK))
+    if answer != 0:
+        raise decoder.fault(answer)
+    return front[:decoder.payload_at], front[decoder.payload_at:]
 
 
-def see_header(file: Any, header: bytes) -> bytes:
-    """Reads the header of a file, which has to be this one: what was read after it."""
-    held = b""
-    while len(held) < len(header) and (piece := some(file, CHUNK)):
-        held += piece
-    if not held.startswith(header):
-        raise WrongKey(MAC_MISMATCH)
-    return held[len(header):]
+class Blocks:
+    """The blocks of a file that stands after its header, and of which this much is read already: at any place if it can seek, else in their order."""
+
+    def __init__(self, file: Any, rest: bytes) -> None:
+        self.file, self.can_seek, self._rest = file, can_seek(file), rest
+        self._begin = file.tell() - len(rest) if self.can_seek else 0  # of the payload
+
+    def read(self, number: int, room: memoryview) -> int:
+        """Reads blocks from that number on: how much the file has of what there is room for."""
+        if self.can_seek:
+            read_by(self.file.seek, self._begin + number * BLOCK)
+            return filled(self.file, room)
+        have = min(len(self._rest), len(room))
+        room[:have] = self._rest[:have]
+        self._rest = self._rest[have:]
+        return filled(self.file, room, have)
+
+    def length(self) -> int:
+        """How long all of them are, of a file that can seek. (A gzip file is read to its end for that.)"""
+        read_by(self.file.seek, 0, io.SEEK_END)
+        length: int = self.file.tell() - self._begin
+        return max(0, length)
 
 
 class Chunks(io.RawIOBase):
@@ -43,12 +53,11 @@ class Chunks(io.RawIOBase):
     def __init__(self, file: Any, owned: bool, decoder: Decoder, header: bytes = b"") -> None:
         super().__init__()
         self._file, self._owned, self.decoder, self._lock = file, owned, decoder, threading.RLock()
-        if header:
-            self.header, self._rest = header, see_header(file, header)
-        else:
-            self.header, self._rest = header_of(file, decoder)
-        self._can_seek = can_seek(file)
-        self._begin = file.tell() - len(self._rest) if self._can_seek else 0  # of the payload
+        front = memoryview(bytearray(len(header)))
+        if bytes(front[:filled(file, front)]) != header:  # a file that is opened once more has to have this one
+            raise WrongKey(MAC_MISMATCH)
+        self.header, rest = (header, b"") if header else header_of(file, decoder)
+        self._blocks = Blocks(file, rest)
         self._block, self._text = memoryview(bytearray(BLOCK)), memoryview(bytearray(CHUNK))
         self._number, self._count = -1, 0  # of the chunk whose plaintext is held, and how long that is
         self._last = -1  # the number of the last chunk, once it was opened
@@ -58,16 +67,6 @@ class Chunks(io.RawIOBase):
         self._lost = OSError(LOST)
 
     # ---- chunks
-
-    def _read_blocks(self, number: int, room: memoryview) -> int:
-        """Reads blocks from that number on: how much the file has of what there is room for."""
-        if self._can_seek:
-            read_by(self._file.seek, self._begin + number * BLOCK)
-            return filled(self._file, room)
-        have = min(len(self._rest), len(room))
-        room[:have] = self._rest[:have]
-        self._rest = self._rest[have:]
-        return filled(self._file, room, have)
 
     def _open(self, number: int, block: memoryview, out: memoryview) -> int:
         """Opens a chunk by its block, or what the file has of it: how long its plaintext is."""
@@ -102,18 +101,18 @@ class Chunks(io.RawIOBase):
         """Looks whether anything follows the last chunk, which is full."""
         if self._end >= 0:  # a writer with the key put a shorter file in its place
             raise fault_of(TRUNCATED, self._last + 1)
-        if self._read_blocks(self._last + 1, self._block[:1]) > 0:
+        if self._blocks.read(self._last + 1, self._block[:1]) > 0:
             raise fault_of(TRAILING)
         self._end = (self._last + 1) * CHUNK
 
     def _measure(self) -> None:
         """Finds the last chunk by the length of the file, and the length of the plaintext by that chunk, which proves it."""
-        payload = max(0, end_of(self._file) - self._begin)
+        payload = self._blocks.length()
         answer, size = self.decoder.size(payload + len(self.header))
         if answer != 0:
             raise fault_of(answer, payload // BLOCK)
         last = max(0, size - 1) // CHUNK  # (a file may say that it is longer than it is, so that `size` proves nothing)
-        self._hold(last, self._read_blocks(last, self._block))
+        self._hold(last, self._blocks.read(last, self._block))
         if self._last != last:
             raise fault_of(TRUNCATED, last + 1)
         if self._end < 0:
@@ -123,7 +122,7 @@ class Chunks(io.RawIOBase):
         """The length of the plaintext, once the last chunk was opened."""
         with self._lock:
             self._see_open()
-            if self._end < 0 and not self._can_seek:
+            if self._end < 0 and not self._blocks.can_seek:
                 raise io.UnsupportedOperation("the size of a file that can't seek")
             if self._end < 0:
                 self._measure()
@@ -178,10 +177,10 @@ class Chunks(io.RawIOBase):
             if 0 <= self._last < number:
                 self._see_end()
                 continue
-            most = min(len(room) // CHUNK, MOST if self._can_seek else 1) if at == 0 else 0  # chunks for which there is room
+            most = min(len(room) // CHUNK, MOST if self._blocks.can_seek else 1) if at == 0 else 0  # chunks for which there is room
             blocks = memoryview(bytearray(most * BLOCK)) if most > 1 else self._block
-            have = self._read_blocks(number, blocks)
-            if have == 0 and number > 0 and self._can_seek and self._end < 0:
+            have = self._blocks.read(number, blocks)
+            if have == 0 and number > 0 and self._blocks.can_seek and self._end < 0:
                 self._measure()  # it may be beyond the end
             elif most > 0:
                 return self._open_into(room, number, blocks[:have])
@@ -207,7 +206,7 @@ class Chunks(io.RawIOBase):
 
     def seekable(self) -> bool:
         self._see_open()
-        return self._can_seek
+        return self._blocks.can_seek
 
     def readable(self) -> bool:
         self._see_open()

@@ -7,7 +7,7 @@ import base64
 import os
 from collections.abc import Iterable
 
-from ._arguments import Buffer, work_factor
+from ._arguments import Buffer, see_one, work_factor
 from ._coders import Decoder, Encoder, HeldKey, of_pair, under_passphrase
 from ._keys import NINE, Pair, bech32_decoded, lines_of, wrapping_key, x25519_of
 from ._library import C
@@ -19,10 +19,7 @@ STANZAS_MAX = (1 << 20) - 70  # bytes of all stanzas: a header has at most 1 MiB
 
 def key_to_write(passphrase: str | Buffer | None, recipient: str | Iterable[str] | None, work: int) -> HeldKey:
     """The one key that is given."""
-    if passphrase is not None and recipient is not None:
-        raise TypeError("give one of passphrase and recipient")
-    if passphrase is None and recipient is None:
-        raise ValueError("a file is written under a passphrase, or for a recipient")
+    see_one(passphrase=passphrase, recipient=recipient)
     log = work_factor("work", work)
     return under_passphrase(passphrase, log) if recipient is None else wrapped_for(points_of(recipient))
 
@@ -35,18 +32,13 @@ def points_of(recipient: str | Iterable[str]) -> list[bytes]:
     points = []
     for number, it in enumerate(found, 1):
         try:
-            points.append(point_of(it))
+            prefix, point = bech32_decoded(it) if len(it) == LENGTH else ("", b"")
         except ValueError as fault:
             raise ValueError(f"recipient {number}: {fault}") from None
+        if prefix != "age":
+            raise ValueError(f"recipient {number}: not a recipient of age-keygen, which begins with age1 and has {LENGTH} characters")
+        points.append(point)
     return points
-
-
-def point_of(recipient: str) -> bytes:
-    """The 32 bytes of a recipient."""
-    prefix, point = bech32_decoded(recipient) if len(recipient) == LENGTH else ("", b"")
-    if prefix != "age":
-        raise ValueError(f"not a recipient of age-keygen, which begins with age1 and has {LENGTH} characters")
-    return point
 
 
 def base64_of(held: bytes) -> bytes:

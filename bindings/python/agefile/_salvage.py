@@ -8,9 +8,9 @@ from typing import Any, Callable, Iterable, Literal, NamedTuple
 from ._arguments import Buffer
 from ._coders import Decoder, key_to_read
 from ._library import BLOCK, CHUNK, TRUNCATED, address
-from ._output import is_one, new_name, opened_alone, reach_disk
-from ._reader import header_of
-from ._source import can_seek, end_of, filled, put, read_by
+from ._output import is_one, opened_alone, reach_disk
+from ._reader import Blocks, header_of
+from ._source import put
 
 TAG = 16
 
@@ -34,7 +34,7 @@ class _Out:
         self._out, self._is_new, self._size = out, is_new, 0
         self._file = None if isinstance(out, (str, bytes, os.PathLike)) else out
         self._owned = self._file is None
-        self._made = new_name(out) if self._owned else None
+        self._made = out if self._owned and not os.path.exists(out) else None  # a path that isn't on the disk yet
 
     def put(self, at: int, text: bytes) -> None:
         """Writes a plaintext at its place."""
@@ -59,30 +59,15 @@ class _Out:
                 reach_disk(self._file, self._made)
 
 
-class _Blocks:
-    """The blocks of a file, in their order. One that can't be read is lost, if the file is seekable."""
-
-    def __init__(self, file: Any, rest: bytes) -> None:
-        self._file, self._rest = file, rest
-        self._begin = self._end = -1
-        if can_seek(file):
-            self._begin = file.tell() - len(rest)
-            self._end = end_of(file)
-
-    def read(self, number: int, room: memoryview) -> tuple[int, bool]:
-        """How many bytes the file has of a block, and whether they are in the room."""
-        if self._begin < 0:
-            have = min(len(self._rest), BLOCK)
-            room[:have] = self._rest[:have]
-            self._rest = self._rest[have:]
-            return filled(self._file, room, have), True
-        at = self._begin + number * BLOCK
-        have = max(0, min(BLOCK, self._end - at))
-        try:
-            read_by(self._file.seek, at)
-            return filled(self._file, room[:have]), True  # (a file that ends sooner than it said ends there)
-        except OSError:
-            return have, False
+def _read(blocks: Blocks, length: int, number: int, room: memoryview) -> tuple[int, bool]:
+    """How many bytes the file has of a block, and whether they are in the room: one that can't be read is lost, if the file can seek."""
+    have = max(0, min(BLOCK, length - number * BLOCK))
+    try:
+        return blocks.read(number, room[:have] if blocks.can_seek else room), True  # (a file that ends sooner than it said ends there)
+    except OSError:
+        if not blocks.can_seek:
+            raise
+        return have, False
 
 
 def _see_apart(file: Any, out: Any) -> None:
@@ -115,7 +100,7 @@ def salvage(file: Any, out: Any, *, passphrase: str | Buffer | None = None, file
     to = _Out(out, mode == "xb")
     try:
         _see_apart(under, out)
-        return _saved(_Blocks(under, header_of(under, decoder)[1]), decoder, to, progress or (lambda _: None))
+        return _saved(Blocks(under, header_of(under, decoder)[1]), decoder, to, progress or (lambda _: None))
     finally:
         try:
             to.close()
@@ -124,12 +109,12 @@ def salvage(file: Any, out: Any, *, passphrase: str | Buffer | None = None, file
                 under.close()
 
 
-def _saved(blocks: _Blocks, decoder: Decoder, out: _Out, progress: Callable[[int], None]) -> Salvage:
+def _saved(blocks: Blocks, decoder: Decoder, out: _Out, progress: Callable[[int], None]) -> Salvage:
     lost: list[tuple[int, int]] = []
     number, size, ends, have, opens = 0, 0, False, BLOCK, False
-    block, text = memoryview(bytearray(BLOCK)), memoryview(bytearray(CHUNK))
+    block, text, length = memoryview(bytearray(BLOCK)), memoryview(bytearray(CHUNK)), blocks.length() if blocks.can_seek else 0
     while have == BLOCK and not ends:
-        have, is_there = blocks.read(number, block)
+        have, is_there = _read(blocks, length, number, block)
         answer, count, is_last = decoder.open_at(number, address(block), have, address(text)) if is_there else (TRUNCATED, 0, False)
         at = number * CHUNK
         if answer == 0:
@@ -143,4 +128,4 @@ def _saved(blocks: _Blocks, decoder: Decoder, out: _Out, progress: Callable[[int
     if not opens:
         return Salvage(0, [], False, False)
     out.zeros(size)
-    return Salvage(size, lost, ends, ends and have == BLOCK and blocks.read(number, block)[0] > 0)
+    return Salvage(size, lost, ends, ends and have == BLOCK and _read(blocks, length, number, block)[0] > 0)

@@ -2,7 +2,6 @@
 from __future__ import annotations
 
 import errno
-import io
 import os
 import select
 from typing import Any
@@ -87,13 +86,6 @@ def put(file: Any, out: bytes) -> None:
             out = out[count:]
         else:
             raise OSError(f"the file's write() returned {count}, and was given {len(out)} bytes")
-
-
-def end_of(file: Any) -> int:
-    """Where a file ends, which stands there then. (A gzip file is read to its end for that.)"""
-    read_by(file.seek, 0, io.SEEK_END)
-    end: int = file.tell()
-    return end
 
 
 def can_seek(file: Any) -> bool:

@@ -151,7 +151,7 @@ def recipients_of(asked: Request) -> list[str]:
 def shared_secret(asked: Request, source: Source) -> bytes:
     """The shared secret of the stanza of IN that a key opens, and its recipient, as age_tool's --shared takes them. Of a header that isn't
     well-formed, or isn't complete, a random pair, with which age_tool says what is wrong."""
-    answer, pair = secret_of_header(keys_of(asked), iter(lambda: bytes(source.more(CHUNK)), b""))
+    answer, pair = secret_of_header(keys_of(asked), lambda: source.more(CHUNK))
     if answer == NO_MATCH:
         raise Fault("12 NoMatch", f"{source.shown}: it isn't encrypted to a recipient of age-keygen: without --identity, agefile asks for a passphrase")
     if answer == WRONG_KEY:

@@ -1,5 +1,5 @@
-//! The functions of libagefile, as `agefile.h` declares and describes them. The crate `agefile` has
-//! readers and writers over them.
+//! The functions of libagefile, as `agefile.h` declares and describes them: a proved C library, and
+//! this crate is tested, not proved. The crate `agefile` has readers and writers over them.
 #![no_std]
 #![allow(non_camel_case_types)]
 
