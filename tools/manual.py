@@ -6,7 +6,7 @@ import textwrap
 from tools.workspace import TOP
 
 SOURCE, PAGE = TOP / "docs" / "FAULTS.md", TOP / "docs" / "age_tool-faults.7"
-ROWS = TOP / "crates" / "age_hints" / "src" / "faults.rt"
+ROWS = TOP / "crates" / "age_cli_hints" / "src" / "faults.rt"
 HEAD = """.\\" Made from docs/FAULTS.md by checks/documents --write.
 .TH AGE_TOOL-FAULTS 7 2026-11-30 "age_tool" "Faults"
 .SH NAME
@@ -81,7 +81,7 @@ pub(crate) type Row = (&'static str, &'static str);
 
 /// Returns the row of the fault of this number, if there is one.
 #[rattlefmt::skip]
-pub(crate) fn row_of(number: u8) -> Option<Row> {
+pub(crate) fn look_up_row(number: u8) -> Option<Row> {
     let row = match number {
 """
 

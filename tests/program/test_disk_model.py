@@ -1,5 +1,5 @@
 """Compares the calls of the built program with the definitions that its contracts cite. It records what each run does to its files, also
-if a call fails (tools/shim.c), and computes what that leaves by `age_calls/specs/Disk.antt` itself (tools/definitions.py):
+if a call fails (tools/shim.c), and computes what that leaves by `age_host_model/specs/Disk.antt` itself (tools/definitions.py):
 
 - the OUT that the definitions give is the real one, so they say rightly what calls do;
 - after status 0 a power cut leaves OUT as it is;
@@ -21,16 +21,16 @@ from tools import definitions, shim
 from tools.workspace import CRATES
 
 READS = ["docs/PROVED.md"]
-AFTER_CALL = definitions.read(CRATES / "age_calls/specs/Disk.antt")["after_call"]
+AFTER_CALL = definitions.read(CRATES / "age_host_model/specs/Disk.antt")["after_call"]
 ANYTHING = "anything"
 NOTHING = ("None",)
 # What a disk has of the paths and files that weren't named.
-OTHERS = {"file": NOTHING, "before": (), "bytes": b"", "is_kept": True, "is_lost": False}
+OTHERS = {"file": NOTHING, "before": (), "bytes": b"", "is_durable": True, "is_indeterminate": False}
 # The calls that change what a file holds, or wait for it, may fail from one of their first turns on.
 TURNS = range(1, 6)
 # Of the calls that are recorded: those that take a file for a run alone, and those that may change what a file holds.
 LOCKS = {"lock": "Locked", "unlockable": "Unlockable"}
-CHANGES = ("Wrote", "Cut", "Broke")
+CHANGES = ("Wrote", "Cut", "Indeterminate")
 ERRORS = (errno.EIO, errno.ENOSPC, errno.EROFS)
 
 
@@ -49,13 +49,13 @@ class Disk:
         self.disk = {
             "file": table({path: ("Some", numbers[path]) for path in files}, OTHERS["file"]),
             "bytes": table(held, OTHERS["bytes"]),
-        } | {field: table({}, OTHERS[field]) for field in ("before", "is_kept", "is_lost")}
+        } | {field: table({}, OTHERS[field]) for field in ("before", "is_durable", "is_indeterminate")}
 
     def do(self, call):
         self.paths |= {it for it in call[1:3] if isinstance(it, bytes)}
         self.files |= {call[2] if call[0] == "Made" else call[1]} - self.paths
         disk = AFTER_CALL(call)(self.disk)
-        for keys, fields in ((self.paths, ("file", "before")), (self.files, ("bytes", "is_kept", "is_lost"))):
+        for keys, fields in ((self.paths, ("file", "before")), (self.files, ("bytes", "is_durable", "is_indeterminate"))):
             for field in fields:
                 disk[field] = table({key: disk[field](key) for key in keys}, OTHERS[field])
         self.disk = disk
@@ -76,7 +76,7 @@ class Disk:
 
     def leaves(self, path):
         """What a power cut may leave at a path (`MayLeave`): bytes, None if there may be no file, ANYTHING."""
-        kept = self.disk["is_kept"]
+        kept = self.disk["is_durable"]
         return {None if it == NOTHING else self.held(it[1]) if kept(it[1]) else ANYTHING for it in self.may_lead(path)}
 
     def is_answer(self, call, paths):
@@ -101,7 +101,7 @@ def calls_of(record, disk):
         elif name in LOCKS:
             yield LOCKS[name], int(words[0])
         elif name == "broke":
-            yield "Broke", int(words[0])
+            yield "Indeterminate", int(words[0])
         elif name == "close":
             yield "Closed", int(words[0])
         elif name == "unlink":

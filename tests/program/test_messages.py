@@ -176,7 +176,7 @@ class MessagesTest(Case):
         known = {int(row["No."]) for row in faults((TOP / "docs" / "FAULTS.md").read_text())}
         self.see("each fault", {it[0] for it in (*ROWS, *UNMADE, *MACHINE)} == known, known)
         for number, sentence, reason in UNMADE:
-            row, said = re.search(rf"^\| {number} \| .*$", page, re.M)[0], (TOP / "crates/age_hints/src/sentences.rt").read_text()
+            row, said = re.search(rf"^\| {number} \| .*$", page, re.M)[0], (TOP / "crates/age_cli_hints/src/sentences.rt").read_text()
             what, _, to_do = sentence.partition(": ")
             is_said = re.search(rf'"{re.escape(what)}",\s*"{re.escape(to_do)}"', said)
             self.see(f"FAULTS says to do the same after {number}", is_said and to_do in row, reason)

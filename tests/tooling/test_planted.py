@@ -14,7 +14,7 @@ READS = ["*"]
 # Of each check: a file, an old text in it and a new one (both are appended to if there is no old one), and what the check has to say.
 PLANTED = {
     "documents": (
-        ("README.md", "`age_names` and `age_prepared` first", "`age_nothing` first. [Here](docs/NOTHING.md)", "README.md: no docs/NOTHING.md"),
+        ("README.md", "`age_host_paths` and `age_host` first", "`age_nothing` first. [Here](docs/NOTHING.md)", "README.md: no docs/NOTHING.md"),
         ("docs/TRUST.md", "`arrayvec`,", "", "docs/TRUST.md: arrayvec isn't among what is trusted"),
         ("README.md", "| encrypt 512 MiB | 1.05", "| encrypt 512 MiB | 0.45", "README.md: not what bench/speed-svg writes"),
         ("HANDLES", "none", "Net", "HANDLES: something is allowed"),
@@ -25,7 +25,7 @@ PLANTED = {
         ("docs/LIBRARY.md", "```rust\n", "```rust\nlet nothing = 1;\n", "docs/LIBRARY.md: not in the examples: let nothing = 1;"),
         ("docs/TOUR.md", "age_stream/src/opener.rt", "age_stream/src/closer.rt", "docs/TOUR.md: no file age_stream/src/closer.rt"),
         ("docs/FAULTS.md", "| 17 | ChunkDamaged", "| 17 | ChunkHarmed", "docs/FAULTS.md: other faults"),
-        ("docs/FAULTS.md", None, "", "crates/age_hints/src/faults.rt: stale; run checks/documents --write"),
+        ("docs/FAULTS.md", None, "", "crates/age_cli_hints/src/faults.rt: stale; run checks/documents --write"),
         ("docs/format-tests.tsv", None, "Heads\t1\tno_function\tno-such-edit\ttest_nothing\n", "docs/format-tests.tsv: no edit no-such-edit"),
         ("docs/format-tests.tsv", None, "", "docs/format-tests.tsv: no test test_nothing"),
         ("docs/format-tests.tsv", None, "", "docs/format-tests.tsv: no function no_function"),
@@ -33,7 +33,7 @@ PLANTED = {
         ("docs/crates.svg", ">age_kdf<", ">age_kdm<", "docs/crates.svg: age_kdm is no crate"),
         ("docs/cut.svg", ">in the nonce<", ">in the pinch<", "docs/cut.svg doesn't say: in the nonce"),
         ("bindings/c/names.c", '"Trailing"', '"Appended"', "bindings/c/names.c: no 21 Trailing"),
-        ("crates/age_hints/src/sentences.rt", "17 =>", "18 =>", "docs/FAULTS.md: row 18 hasn't the hint of the code"),
+        ("crates/age_cli_hints/src/sentences.rt", "17 =>", "18 =>", "docs/FAULTS.md: row 18 hasn't the hint of the code"),
         ("crates/age_kdf/edits/all.edit", "old: ", "old: nothing of ", "an old text isn't in its file exactly once"),
         ("checks/promises", "age_kdf lib::hmac |", "age_kdf lib::hmac3 |", "checks/promises: HMAC is RFC 2104's: no age_kdf lib::hmac3"),
         ("checks/promises", "age_kdf/pads-swapped", "age_kdf/pads-kept", "no age_kdf/pads-kept"),
@@ -44,18 +44,18 @@ PLANTED = {
     ),
     "trusted": (
         ("crates/age_kdf/specs/Derivation.antt", None, "\nabbrev pub idle : ℕ → ℕ\nidle n = n\n", "age_kdf/specs/Derivation: idle is reached by no public contract"),
-        ("crates/age_calls/specs/Outs.antt", "-- (in any order: no call gives a lock back)\n", "", "no comment says why the order doesn't matter"),
+        ("crates/age_host_model/specs/Output.antt", "-- (in any order: no call gives a lock back)\n", "", "no comment says why the order doesn't matter"),
     ),
     "noted": (
-        ("crates/age_disk/src/files.rt", None, "\nfn spoil() {\n    let _ = std::fs::remove_file(rt, name);\n}\n", "age_disk/src/files.rt: fs::remove_file: it may not change files"),
-        ("crates/age_machine/src/waiting.rt", "sync_whole", "sync_all_of_it", "checks/noted: age_machine/src/waiting.rt doesn't call sync_whole"),
+        ("crates/age_host/src/files.rt", None, "\nfn spoil() {\n    let _ = std::fs::remove_file(rt, name);\n}\n", "age_host/src/files.rt: fs::remove_file: it may not change files"),
+        ("crates/age_host_syscalls/src/sync_support.rt", "sync_whole", "sync_all_of_it", "checks/noted: age_host_syscalls/src/sync_support.rt doesn't call sync_whole"),
         ("checks/noted", '"TryLockError"', '"TryLockError", "Gone"', "checks/noted: nothing imports Gone of files"),
         ("checks/noted", '"faults"', '"flaws"', "checks/noted: nothing matches"),
     ),
     "unused": (
         ("crates/age_kdf/specs/Derivation.antt", None, "", "age_kdf/specs/Derivation.antt: nothing uses idle"),
-        ("crates/age_intake/proofs/ReadLemmas.antt", None, "\nagain : (was : Supply) → Consumes was was []\nagain was = Consumes-nil was\n",
-         "age_intake/proofs/ReadLemmas.antt: again is Consumes-nil of age_io/proofs/SupplyLemmas.antt"),
+        ("crates/age_file_input/proofs/ReadLemmas.antt", None, "\nagain : (was : Supply) → Consumes was was []\nagain was = Consumes-nil was\n",
+         "age_file_input/proofs/ReadLemmas.antt: again is Consumes-nil of age_io/proofs/SupplyLemmas.antt"),
         ("crates.txt", "age_kdf: sha2", "age_kdf: sha2 hex", "crates.txt: age_kdf doesn't use hex"),
     ),
 }

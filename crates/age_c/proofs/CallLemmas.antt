@@ -13,7 +13,7 @@ use Rattle.age_chunk.specs.declared.fault.StreamKind.TheVariants.{ChunkDamaged, 
 use Rattle.age_stanza.proofs.ElementLemmas.{all_map}
 use Rattle.age_keys.specs.{payload_key}
 use Rattle.age_keys.specs.inner.{box_valid, opens, seals}
-use Rattle.age_stream.specs.{IsClosed, IsSealable, Outcome, fresh, outcome, released, with_end, with_piece, IsPrefixOf, IsRest, IsRight, IsFirstWrong}
+use Rattle.age_stream.specs.{HasUnambiguousEnd, IsSealable, Outcome, fresh, outcome, released, with_end, with_piece, IsPrefixOf, IsRest, IsRight, IsFirstWrong}
 use Rattle.age_stream.specs.declared.step.Status.{Status}
 use Rattle.age_stream.specs.declared.step.Status.TheVariants.{Done, Failed, Open}
 use Rattle.age_stream.specs.Segment.{Segment}
@@ -268,7 +268,7 @@ module _ {State : Type 0} (reader : State → Reader) where
         → c.answer ≢ misused → c.answer ≡ 0
     zero_by h0 c h1 h2 h3 = grind (arith, common_steps, refused_whole)
 
-    undamaged : IsClosed (seals k) (opens k) chunk_length text → start < chunk_count chunk_length text
+    undamaged : HasUnambiguousEnd (seals k) (opens k) chunk_length text → start < chunk_count chunk_length text
         → AreUndamaged reader r text start calls → (texts_of calls ≡ there) × AllAnswer 0 calls
     undamaged closed below are_whole =
         let positive : 0 < chunk_length = omega arith in

@@ -11,7 +11,7 @@ use Rattle.age_stanza.specs.declared.header.Header.{Header}
 use Rattle.age_stanza.proofs.{more_fault}
 use Rattle.age_stanza.proofs.PlaceLemmas.{one_header}
 use Rattle.age_chunk.specs.{chunk_length, payload}
-use Rattle.age_stream.specs.{IsClosed}
+use Rattle.age_stream.specs.{HasUnambiguousEnd}
 use Rattle.age_keys.specs.{AllowsAlone, IsMacOf, KeyFault, Refuses as RefusesHeader, RefusesKey, box, key_fault_number, unbox}
 use Rattle.age_c.specs.{misused, more, HasFront, StartRefuses, start_fault_number, AreHeadCalls, AreOfFile, DecodersOpenFiles, DecodersReadBack, HasNoFront}
 use Rattle.age_c.specs.{HeadCall}
@@ -185,9 +185,9 @@ decoders_read_back key header file_key nonce text file it alone d begun heads ar
     let right = (decoders_are_right key d begun heads are some).1 calls made text few in
     let same : payload (box e.stream.reader.file_key e.stream.reader.nonce) chunk_length text ≡ payload (box file_key nonce) chunk_length text =
     ap₂ (λ (k n : List ℕ). payload (box k n) chunk_length text) keys.0 keys.1 in
-    let shut : IsClosed (box e.stream.reader.file_key e.stream.reader.nonce) (unbox e.stream.reader.file_key e.stream.reader.nonce) chunk_length text =
-    subst (λ (k : List ℕ). IsClosed (box k e.stream.reader.nonce) (unbox k e.stream.reader.nonce) chunk_length text) (sym keys.0)
-    (subst (λ (n : List ℕ). IsClosed (box file_key n) (unbox file_key n) chunk_length text) (sym keys.1) closed) in
+    let shut : HasUnambiguousEnd (box e.stream.reader.file_key e.stream.reader.nonce) (unbox e.stream.reader.file_key e.stream.reader.nonce) chunk_length text =
+    subst (λ (k : List ℕ). HasUnambiguousEnd (box k e.stream.reader.nonce) (unbox k e.stream.reader.nonce) chunk_length text) (sym keys.0)
+    (subst (λ (n : List ℕ). HasUnambiguousEnd (box file_key n) (unbox file_key n) chunk_length text) (sym keys.1) closed) in
     right.whole shut (omega arith) (given ∙ ap (λ (b : List ℕ). record {
       start = 0;
       bytes = b;

@@ -13,7 +13,7 @@ use Rattle.age_chunk.specs.{payload, sealed, sealed_before_last}
 use Rattle.age_chunk.specs.declared.fault.StreamFault.{StreamFault}
 use Rattle.age_chunk.proofs.{get_or-first_chunks, length-first_chunks, nonce_bytes-length}
 use Rattle.age_keys.specs.inner.{box_valid, opens, seals}
-use Rattle.age_stream.specs.{IsClosed, Outcome, fresh, outcome, rest_bytes}
+use Rattle.age_stream.specs.{HasUnambiguousEnd, Outcome, fresh, outcome, rest_bytes}
 use Rattle.age_stream.specs.declared.step.Status.{Status}
 use Rattle.age_stream.specs.declared.step.Status.TheVariants.{Failed, LastSeen, Open}
 use Rattle.age_stream.specs.Segment.{Segment}
@@ -110,7 +110,7 @@ never_misused n answer is misused_is = grind (arith, common_steps, fault_from)
 
 -- of a reader that is at a chunk and was given nothing
 module _ (r new : Reader) (chunk answer : ℕ) (block opened text : List ℕ) (at : IsAt r (fresh chunk))
-    (few : chunk_count chunk_length text ≤ chunk_limit) (closed : IsClosed (seals (key_of r)) (opens (key_of r)) chunk_length text)
+    (few : chunk_count chunk_length text ≤ chunk_limit) (closed : HasUnambiguousEnd (seals (key_of r)) (opens (key_of r)) chunk_length text)
     (whole : length block ≡ block_length → TakesBlock (after_block block) r answer opened new)
     (rest : length block ≢ block_length → TakesEnd block r answer opened new) where
   abbrev k : List ℕ
@@ -202,7 +202,7 @@ after_opening : (chunk answer : ℕ) (block text : List ℕ) (old new : Reader) 
 after_opening chunk answer block text old new it = grind (arith, common_steps, eqb_tells, same_file)
 
 openings_from : (first r : Reader) (openings : List Opening) → SameFile first r → AreOpenings r openings
-    → (text : List ℕ) → chunk_count chunk_length text ≤ chunk_limit → IsClosed (seals (key_of first)) (opens (key_of first)) chunk_length text
+    → (text : List ℕ) → chunk_count chunk_length text ≤ chunk_limit → HasUnambiguousEnd (seals (key_of first)) (opens (key_of first)) chunk_length text
     → AllByRecursion (IsOpenedRight first text) openings
 openings_from first r [] same are text few closed = tt
 openings_from first r (o ∷ openings) same (inl idle, are) text few closed = (
@@ -212,7 +212,7 @@ openings_from first r (o ∷ openings) same (inl idle, are) text few closed = (
 openings_from first r (o ∷ openings) same (inr it, are) text few closed =
     let key : key_of first ≡ key_of it.begun = sym (key_same r it.begun it.goes.same ∙ key_same first r same) in (
       λ _ below is. gives it.begun o.after o.chunk o.answer o.block o.text text it.goes.at few
-          (subst (λ (k : List ℕ). IsClosed (seals k) (opens k) chunk_length text) key closed) it.whole it.rest below
+          (subst (λ (k : List ℕ). HasUnambiguousEnd (seals k) (opens k) chunk_length text) key closed) it.whole it.rest below
           (subst (λ (k : List ℕ). o.block ≡ (get_or (sealed (seals k) chunk_length text) o.chunk ([], [])).1) key is),
       openings_from first o.after openings
           (same_file first r o.after same (after_opening o.chunk o.answer o.block o.text r o.after it)) are text few closed,

@@ -74,8 +74,8 @@ pub record Answers {State : Type 0} (Fits : Type 0) (Does : ℕ → List ℕ →
 
 -- the fault of a payload of this many bytes, if no plaintext has one: it ends with no block, with a
 -- tag alone, or with a part of a tag
-abbrev pub ends_as : ℕ → StreamKind
-ends_as size =
+abbrev pub length_fault : ℕ → StreamKind
+length_fault size =
     if size % block_length == 0 then Truncated
     else if size % block_length == tag_length then EmptyLast
     else ChunkCut
@@ -88,4 +88,4 @@ pub record Measures (size answer text_len last_chunk : ℕ) : Type 0 where
       → IsTextLength size text_len × (last_chunk + 1 ≡ chunks_for text_len)
   -- any other answer says that no plaintext has one, and how the payload ends
   pub none : answer ≢ 0 → ((len : ℕ) → ¬ IsTextLength size len)
-      × (answer ≡ stream_fault_number (ends_as size)) × (text_len ≡ 0) × (last_chunk ≡ 0)
+      × (answer ≡ stream_fault_number (length_fault size)) × (text_len ≡ 0) × (last_chunk ≡ 0)

@@ -6,7 +6,7 @@ use Rattle.std.specs.Prelude.{Bool, true, false, map}
 use Rattle.std.specs.List.{flat_map}
 use Rattle.age_stanza.specs.declared.header.Header.{Header}
 use Rattle.age_chunk.specs.{chunk_limit, chunk_length, block_length, chunk_count, payload}
-use Rattle.age_stream.specs.{fresh, IsPrefixOf, IsClosed}
+use Rattle.age_stream.specs.{fresh, IsPrefixOf, HasUnambiguousEnd}
 use Rattle.age_stream.specs.Segment.{Segment}
 use Rattle.age_keys.specs.{box, unbox, FileOf, AllowsAlone, KeyFault, IsAllowed, IsPassphraseKey}
 use Rattle.age_keys.specs.{PassphraseRefuses, IsSharedKey, SharedRefuses}
@@ -173,7 +173,7 @@ pub record IsDecodedRight (d : Decoder) (text : List ℕ) (start place : ℕ) (c
       → (before : List DecodeCall) (last : DecodeCall) → calls ≡ before ++ last ∷ []
       → last.call.is_end ≡ true → last.call.answer ≡ 0 → wrote_all calls ≡ drop place text
   -- an undamaged payload gives all of it, and 0 each time
-  pub whole : IsClosed (box d.stream.reader.file_key d.stream.reader.nonce)
+  pub whole : HasUnambiguousEnd (box d.stream.reader.file_key d.stream.reader.nonce)
       (unbox d.stream.reader.file_key d.stream.reader.nonce) chunk_length text
       → start < chunk_count chunk_length text
       → AreUndamaged reader_in (reader_in d) text start (calls_in calls)
@@ -344,7 +344,7 @@ DecodersReadBack = (key : DecoderKey) (header : Header) (file_key nonce text fil
       late = false;
     }
     → chunk_count chunk_length text ≤ chunk_limit
-    → IsClosed (box file_key nonce) (unbox file_key nonce) chunk_length text
+    → HasUnambiguousEnd (box file_key nonce) (unbox file_key nonce) chunk_length text
     → (wrote_all calls ≡ text) × AllAnswer 0 (calls_in calls)
 
 -- ---- A piece that is taken whole.

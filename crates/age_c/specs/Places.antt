@@ -4,7 +4,7 @@ use Rattle.std.specs.Prelude.{slice_index_or}
 use Rattle.std.specs.List.{AllByRecursion}
 use Rattle.age_chunk.specs.{chunk_limit, chunk_length, block_length, chunk_count, chunks, sealed}
 use Rattle.age_keys.specs.{box, unbox}
-use Rattle.age_stream.specs.{IsClosed}
+use Rattle.age_stream.specs.{HasUnambiguousEnd}
 use Rattle.age_c.specs.Calls.{Answers, misused}
 use Rattle.age_c.specs.Readers.{CanBeUsed, GoesTo, TakesBlock, TakesEnd, after_block, Part, AreParts, call_of}
 use Rattle.age_c.specs.declared.reader.Reader.{Reader}
@@ -88,5 +88,5 @@ IsOpenedRight r text o = o.answer ≢ misused → o.chunk < chunk_count chunk_le
 abbrev pub UndamagedOpens : Type 0
 UndamagedOpens = (r : Reader) (openings : List Opening) → AreOpenings r openings → (text : List ℕ)
     → chunk_count chunk_length text ≤ chunk_limit
-    → IsClosed (box r.file_key r.nonce) (unbox r.file_key r.nonce) chunk_length text
+    → HasUnambiguousEnd (box r.file_key r.nonce) (unbox r.file_key r.nonce) chunk_length text
     → AllByRecursion (IsOpenedRight r text) openings

@@ -10,7 +10,7 @@ use Rattle.age_chunk.specs.{chunk_limit, chunk_length, block_length, chunk_count
 use Rattle.age_stream.specs.Segment.{Segment}
 use Rattle.age_stream.specs.{Outcome, outcome, released, rest_bytes, fresh, with_piece, with_end}
 use Rattle.age_stream.specs.declared.step.Status.TheVariants.{Open}
-use Rattle.age_stream.specs.{IsClosed, IsAuthentic, IsPrefixOf, IsFirstWrong}
+use Rattle.age_stream.specs.{HasUnambiguousEnd, IsAuthentic, IsPrefixOf, IsFirstWrong}
 use Rattle.age_keys.specs.{unbox, Opens, Refuses, key_fault_number, box}
 use Rattle.age_keys.specs.{KeyFault}
 use Rattle.age_c.specs.Calls.{reader_status, more, answer_of, misused}
@@ -242,7 +242,7 @@ module _ {State : Type 0} (reader : State → Reader) (r : Reader) (text : List 
         → calls ≡ before ++ last ∷ [] → last.is_end ≡ true → last.answer ≡ 0
         → (texts_of calls ≡ text_there) × (start * chunk_length ≤ length text)
     -- an undamaged payload gives all of it, and 0 each time
-    pub whole : IsClosed (box r.file_key r.nonce) (unbox r.file_key r.nonce) chunk_length text
+    pub whole : HasUnambiguousEnd (box r.file_key r.nonce) (unbox r.file_key r.nonce) chunk_length text
         → start < chunk_count chunk_length text → AreUndamaged calls
         → (texts_of calls ≡ text_there) × AllAnswer 0 calls
     -- 17 says that a block isn't the writer's, the one whose number the reader has, and that those

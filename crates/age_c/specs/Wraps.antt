@@ -7,7 +7,7 @@ use Rattle.age_chunk.specs.{chunk_length, payload}
 use Rattle.age_stanza.specs.{base64_text, stanza_text, IsStanza}
 use Rattle.age_stanza.specs.declared.header.Header.{Header}
 use Rattle.age_stanza.specs.declared.header.Stanza.{Stanza}
-use Rattle.age_stream.specs.{IsClosed}
+use Rattle.age_stream.specs.{HasUnambiguousEnd}
 use Rattle.age_keys.specs.{AllowsAlone, IsAllowed, IsMacOf, IsScryptNotAlone, Shared, scrypt_head}
 use Rattle.age_keys.specs.{box, shared_wrap_key, unbox, wrapped_key}
 use Rattle.age_c.specs.Decoders.{Allowed, Allows, AreDecodeCalls, AreHeadCalls, AreOfFile, DecodeCall}
@@ -85,7 +85,7 @@ GivesBack key own nonce text file = (d : Decoder) → ((front : List ℕ) → Wa
       ended = true;
       late = false;
     }
-    → IsClosed (box own nonce) (unbox own nonce) chunk_length text
+    → HasUnambiguousEnd (box own nonce) (unbox own nonce) chunk_length text
     → (wrote_all calls ≡ text) × AllAnswer 0 (calls_in calls))
 
 -- the headline from an encoder's key to a decoder's: a call that began a file and answered 0, any calls

@@ -9,7 +9,7 @@ ghost use Rattle.age_c.specs.{TakesEnd, after_block, CanBeUsed};
 ghost use Rattle.age_c.specs.inner.{IsRestCall, Keeps, PassesOn, key_of_reader};
 ghost use Rattle.age_chunk.specs.{chunk_length, block_length, tag_length};
 
-use crate::numbers::{numbers_of, status_of};
+use crate::numbers::{decode_status, encode_status};
 use crate::reader::Reader;
 use age_chunk::{BLOCK_LEN, CHUNK_LIMIT};
 use age_keys::{FileKey, PayloadKey, payload_key};
@@ -28,11 +28,11 @@ pub(crate) fn status_at(reader: &Reader) -> Option<Status>
     if reader.chunk >= CHUNK_LIMIT {
         return None;
     }
-    status_of(reader.state, reader.fault_chunk)
+    decode_status(reader.state, reader.fault_chunk)
 }
 
 /// Derives the payload key of a reader.
-fn key_of(reader: &Reader) -> PayloadKey
+fn load_reader_key(reader: &Reader) -> PayloadKey
     ensures { result ≡ key_of_reader reader.now }
 {
     payload_key(&FileKey::new(reader.file_key), &reader.nonce)
@@ -68,7 +68,7 @@ fn put_chunk(chunk: Option<&[u8]>, out: &mut [u8]) -> usize
 fn keep(reader: &mut Reader, index: u64, status: Status)
     ensures { Keeps index status reader.old reader.new }
 {
-    let (state, fault_chunk) = numbers_of(status);
+    let (state, fault_chunk) = encode_status(status);
     reader.chunk = index;
     reader.state = state;
     reader.fault_chunk = fault_chunk;
@@ -106,7 +106,7 @@ fn feed_rest(opener: &mut PayloadOpener<'_>, rest: &[u8])
 }
 
 /// Ends the opener, and copies the last plaintext to `out`. Returns the number of bytes copied.
-fn end_opener(opener: &mut PayloadOpener<'_>, out: &mut [u8]) -> usize
+fn finish_opener(opener: &mut PayloadOpener<'_>, out: &mut [u8]) -> usize
     requires room { has_failed opener.old.status ≡ false
         → length opener.old.held ≤ length out.old + tag_length }
     ensures passes { PassesOn with_end opener.old opener.new (take result out.new) }
@@ -134,7 +134,7 @@ pub(crate) fn refuse_more(reader: &mut Reader, status: Status, piece: &[u8]) -> 
     ensures usable { CanBeUsed reader.new }
 {
     let count = piece.len().min(1);
-    let key = key_of(reader);
+    let key = load_reader_key(reader);
     let mut opener = PayloadOpener::between(&key, reader.chunk, status);
     feed_rest(&mut opener, &piece[..count]);
     keep(reader, opener.index(), opener.status());
@@ -151,7 +151,7 @@ pub(crate) fn open_block(reader: &mut Reader, status: Status, block: &[u8], out:
     ensures usable { CanBeUsed reader.new }
     ensures len { result ≤ chunk_length }
 {
-    let key = key_of(reader);
+    let key = load_reader_key(reader);
     let mut opener = PayloadOpener::between(&key, reader.chunk, status);
     let written = feed_block(&mut opener, block, out);
     keep(reader, opener.index(), opener.status());
@@ -167,10 +167,10 @@ pub(crate) fn open_last(reader: &mut Reader, status: Status, rest: &[u8], out: &
         (take result out.new) reader.new }
     ensures put { PutsFront result out.old out.new }
 {
-    let key = key_of(reader);
+    let key = load_reader_key(reader);
     let mut opener = PayloadOpener::between(&key, reader.chunk, status);
     feed_rest(&mut opener, rest);
-    let written = end_opener(&mut opener, out);
+    let written = finish_opener(&mut opener, out);
     keep(reader, opener.index(), opener.status());
     written
 }

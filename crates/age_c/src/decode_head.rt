@@ -6,8 +6,8 @@ ghost use Rattle.age_c.specs.{misused, more, IsStarted, IsStartRefusal, HasNoFro
 ghost use Rattle.age_c.specs.{HoldsHead, OpensHead, RefusesHead, held_front};
 ghost use Rattle.age_c.specs.inner.{HoldsFront};
 
-use crate::again::may_open;
 use crate::decoder::Decoder;
+use crate::may_open::may_open;
 use crate::reader::Reader;
 use crate::start::{StartFault, start};
 use crate::{MISUSED, MORE};

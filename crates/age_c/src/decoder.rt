@@ -12,7 +12,7 @@ pub struct Decoder {
     pub stream: Stream,
     /// The number of bytes that have come of a header that isn't open.
     pub held: usize,
-    /// The number of bytes of plaintext before the place of a seek.
+    /// The number of plaintext bytes that are still to be dropped before the place of a seek.
     pub skip: usize,
     /// 1 once the header is open, or else 0.
     pub open: u32,

@@ -9,7 +9,7 @@ ghost use Rattle.age_c.specs.inner.{HoldsPiece};
 
 use crate::MISUSED;
 use crate::blocks::{open_block, open_last, refuse_more, status_at};
-use crate::numbers::answer_of;
+use crate::numbers::encode_answer;
 use crate::stream::Stream;
 use age_chunk::{BLOCK_LEN, CHUNK_LEN, TAG_LEN};
 use age_stream::Status;
@@ -144,7 +144,7 @@ pub(crate) fn feed_stream(
         return MISUSED;
     }
     (*taken, *written) = feed(stream, status, piece, out);
-    answer_of(stream.reader.state)
+    encode_answer(stream.reader.state)
 }
 
 /// Ends the payload, and copies the rest of its plaintext to `out`, which has room for it: 65,536
@@ -161,5 +161,5 @@ pub(crate) fn finish_stream(stream: &mut Stream, out: &mut [u8], written: &mut u
         return MISUSED;
     }
     *written = finish(stream, status, out);
-    answer_of(stream.reader.state)
+    encode_answer(stream.reader.state)
 }

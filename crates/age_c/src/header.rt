@@ -6,8 +6,8 @@ ghost use Rattle.age_c.specs.{PutsFront, TellsHeader, TellsStanzas};
 use crate::MISUSED;
 use crate::stanza_place::StanzaPlace;
 use crate::stanzas::{put_bodies, put_places};
-use crate::start::head_of;
-use crate::work::work_of;
+use crate::start::parse_front;
+use crate::work::find_work_factor;
 use std::alloc::Global;
 
 /// Reports on the header that `front` begins with: its length in bytes, its number of stanzas, and
@@ -26,11 +26,11 @@ pub extern "C" fn age_c_header(
     *header_len = 0;
     *stanzas = 0;
     *work = 0;
-    match head_of(alloc, front) {
+    match parse_front(alloc, front) {
         Ok(head) => {
             *header_len = head.len;
             *stanzas = head.header.stanzas.len();
-            *work = work_of(&head.header);
+            *work = find_work_factor(&head.header);
             0
         }
         Err(fault) => fault.number(),
@@ -59,7 +59,7 @@ pub extern "C" fn age_c_stanzas(
     if out.len() < front.len() {
         return MISUSED;
     }
-    let head = match head_of(alloc, front) {
+    let head = match parse_front(alloc, front) {
         Ok(head) => head,
         Err(fault) => return fault.number(),
     };

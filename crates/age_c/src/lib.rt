@@ -11,7 +11,6 @@
 //! A call that doesn't fit returns [`MISUSED`].
 #![tactic(auto)]
 
-mod again;
 mod blocks;
 mod decode;
 mod decode_begin;
@@ -26,6 +25,7 @@ mod feed;
 mod feed_text;
 mod header;
 mod laws;
+mod may_open;
 mod numbers;
 mod open_at;
 mod reader;

@@ -15,7 +15,7 @@ fn failed_at(kind: StreamKind, chunk: u64) -> Option<Status>
 }
 
 /// Converts numbers to a status, or returns `None` if they stand for none.
-pub(crate) fn status_of(state: u32, fault_chunk: u64) -> Option<Status>
+pub(crate) fn decode_status(state: u32, fault_chunk: u64) -> Option<Status>
     ensures { result ≡ reader_status state fault_chunk }
 {
     match state {
@@ -33,7 +33,7 @@ pub(crate) fn status_of(state: u32, fault_chunk: u64) -> Option<Status>
 }
 
 /// Converts a status to its numbers.
-pub(crate) fn numbers_of(status: Status) -> (u32, u64)
+pub(crate) fn encode_status(status: Status) -> (u32, u64)
     ensures status { reader_status result.0 result.1 ≡ Some status }
     ensures unfailed { has_failed status ≡ false → answer_of result.0 ≡ 0 }
     ensures failed { has_failed status ≡ true → answer_of result.0 ≢ 0 }
@@ -49,7 +49,7 @@ pub(crate) fn numbers_of(status: Status) -> (u32, u64)
 
 /// Returns the result of a call that left a reader in this state: the fault's number if the reader
 /// refused, or else 0.
-pub(crate) fn answer_of(state: u32) -> u32
+pub(crate) fn encode_answer(state: u32) -> u32
     ensures { result ≡ answer_of state }
 {
     if (17..=22).contains(&state) { state } else { 0 }

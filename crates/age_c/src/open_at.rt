@@ -5,7 +5,7 @@ ghost use Rattle.age_c.specs.{Answers, PutsFront, answer_of, IsOpenAtCall, Opens
 
 use crate::MISUSED;
 use crate::blocks::{open_block, open_last, status_at};
-use crate::numbers::answer_of;
+use crate::numbers::encode_answer;
 use crate::reader::Reader;
 use crate::seek::go_to;
 use age_chunk::{BLOCK_LEN, CHUNK_LEN, CHUNK_LIMIT};
@@ -49,5 +49,5 @@ pub extern "C" fn age_c_open_at(
         return MISUSED;
     }
     *written = open_there(reader, chunk, block, out);
-    answer_of(reader.state)
+    encode_answer(reader.state)
 }

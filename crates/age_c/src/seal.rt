@@ -5,7 +5,7 @@ ghost use Rattle.age_c.specs.{Answers, CanSeal, IsStartCall, WritesOrRefuses, Be
 
 use crate::MISUSED;
 use crate::blocks::put;
-use crate::sealing::{passphrase_front, writer_of};
+use crate::sealing::{begin_writer, passphrase_front};
 use crate::writer::Writer;
 use age_chunk::CHUNK_LIMIT;
 use age_keys::{FileRandom, Passphrase, RANDOM_LEN};
@@ -53,7 +53,7 @@ pub(crate) fn seal_passphrase(
     match passphrase_front(alloc, &random, pass, work) {
         Ok(front) => {
             *written = put(front.as_slice(), out);
-            *writer = writer_of(&random.file_key, &random.payload_nonce);
+            *writer = begin_writer(&random.file_key, &random.payload_nonce);
             0
         }
         Err(fault) => fault.number(),

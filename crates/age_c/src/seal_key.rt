@@ -8,10 +8,10 @@ ghost use Rattle.age_c.specs.inner.{HasKeyFront, zero_text};
 use crate::MISUSED;
 use crate::blocks::put;
 use crate::seal::FRONT;
-use crate::sealing::{front_of, writer_of};
-use crate::start::head_of;
+use crate::sealing::{begin_writer, encode_front};
+use crate::start::parse_front;
 use crate::writer::Writer;
-use age_keys::{FileKey, mac_of, scrypt_not_alone};
+use age_keys::{FileKey, compute_mac, scrypt_not_alone};
 use age_stanza::{Header, one_header};
 use std::alloc::{AllocError, Global};
 
@@ -45,7 +45,7 @@ fn zero_text(alloc: Global, lines: &[u8]) -> Result<Vec<u8>, AllocError>
 
 /// Parses the lines of a header's stanzas, and returns the header, with a MAC of zeros. An error is
 /// the number of the fault.
-fn header_of(alloc: Global, lines: &[u8]) -> Result<Header, u32>
+fn parse_lines(alloc: Global, lines: &[u8]) -> Result<Header, u32>
     ensures header { IfOk result (HasLines lines.now) }
     ensures alone { IfOk result (λ header. ¬ IsScryptNotAlone header) }
     ensures refused { IfErr result (RefusesLines lines.now) }
@@ -54,7 +54,7 @@ fn header_of(alloc: Global, lines: &[u8]) -> Result<Header, u32>
     let Ok(text) = zero_text(alloc, lines) else {
         return Err(MEMORY);
     };
-    let head = match head_of(alloc, text.as_slice()) {
+    let head = match parse_front(alloc, text.as_slice()) {
         Ok(head) => head,
         Err(fault) if fault.number() == MEMORY => return Err(MEMORY),
         Err(_) => return Err(BAD_STANZA_LINE),
@@ -75,22 +75,22 @@ fn key_front(alloc: Global, lines: &[u8], key: &[u8; 16], nonce: &[u8; 16]) -> R
     ensures size { IfOk result (λ front. length front.items ≤ length lines.now + 256) }
     ensures refused { IfErr result (RefusesLines lines.now) }
 {
-    let mut header = match header_of(alloc, lines) {
+    let mut header = match parse_lines(alloc, lines) {
         Ok(header) => header,
         Err(answer) => return Err(answer),
     };
-    let Ok(mac) = mac_of(alloc, &header, &FileKey::new(*key)) else {
+    let Ok(mac) = compute_mac(alloc, &header, &FileKey::new(*key)) else {
         return Err(MEMORY);
     };
     header.mac = mac;
-    match front_of(alloc, &header, nonce) {
+    match encode_front(alloc, &header, nonce) {
         Ok(front) => Ok(front),
         Err(fault) => Err(fault.number()),
     }
 }
 
 /// Splits random bytes into the file key and the payload nonce.
-fn parts_of(random: &[u8; RANDOM_LEN]) -> ([u8; 16], [u8; 16])
+fn split_random(random: &[u8; RANDOM_LEN]) -> ([u8; 16], [u8; 16])
     ensures key { result.0 ≡ take 16 random.now }
     ensures nonce { result.1 ≡ drop 16 random.now }
 {
@@ -124,11 +124,11 @@ pub(crate) fn seal_key(
     if out.len() < stanzas.len() + FRONT {
         return MISUSED;
     }
-    let (key, nonce) = parts_of(random);
+    let (key, nonce) = split_random(random);
     match key_front(alloc, stanzas, &key, &nonce) {
         Ok(front) => {
             *written = put(front.as_slice(), out);
-            *writer = writer_of(&key, &nonce);
+            *writer = begin_writer(&key, &nonce);
             0
         }
         Err(answer) => answer,

@@ -16,7 +16,7 @@ use age_stanza::{Header, encode_head};
 use std::alloc::Global;
 
 /// Makes a writer that was given no plaintext.
-pub(crate) fn writer_of(file_key: &[u8; 16], nonce: &[u8; 16]) -> Writer
+pub(crate) fn begin_writer(file_key: &[u8; 16], nonce: &[u8; 16]) -> Writer
     ensures key { result.file_key ≡ file_key.now }
     ensures nonce { result.nonce ≡ nonce.now }
     ensures start { (result.chunk ≡ 0) × (result.state ≡ 1) }
@@ -31,7 +31,7 @@ pub(crate) fn writer_of(file_key: &[u8; 16], nonce: &[u8; 16]) -> Writer
 }
 
 /// Returns the header's text and the payload nonce. Fails only if memory runs out.
-pub(crate) fn front_of(
+pub(crate) fn encode_front(
     alloc: Global,
     header: &Header,
     nonce: &[u8; 16],
@@ -67,13 +67,13 @@ pub(crate) fn passphrase_front(
 {
     let key = FileKey::new(random.file_key);
     match scrypt_header(alloc, pass, work, &random.salt, &key) {
-        Ok(header) => front_of(alloc, &header, &random.payload_nonce),
+        Ok(header) => encode_front(alloc, &header, &random.payload_nonce),
         Err(fault) => Err(StartFault::Key(fault)),
     }
 }
 
 /// Derives the payload key of a writer.
-fn key_of(writer: &Writer) -> PayloadKey
+fn load_writer_key(writer: &Writer) -> PayloadKey
     ensures { result ≡ key_of_writer writer.now }
 {
     payload_key(&FileKey::new(writer.file_key), &writer.nonce)
@@ -92,7 +92,7 @@ fn seal_chunk(writer: &Writer, last: bool, text: &[u8], out: &mut [u8]) -> usize
     let len = text.len() + TAG_LEN;
     let block = &mut out[..len];
     block[..text.len()].copy_from_slice(text);
-    key_of(writer).seal_at(&nonce_of(writer.chunk, last), block);
+    load_writer_key(writer).seal_at(&nonce_of(writer.chunk, last), block);
     len
 }
 

@@ -2,11 +2,11 @@
 
 ghost use Rattle.std.specs.Prelude.{◌≡◌, ◌-◌, ◌+◌};
 ghost use Rattle.age_stream.specs.{chunks_for};
-ghost use Rattle.age_c.specs.{Measures, ends_as};
+ghost use Rattle.age_c.specs.{Measures, length_fault};
 
 use crate::reader::Reader;
 use age_chunk::{BLOCK_LEN, CHUNK_LEN, StreamKind, TAG_LEN};
-use age_stream::text_len_of;
+use age_stream::plaintext_len;
 
 /// The length of a chunk.
 const CHUNK: u64 = CHUNK_LEN as u64;
@@ -18,15 +18,15 @@ const BLOCK: u64 = BLOCK_LEN as u64;
 const TAG: u64 = TAG_LEN as u64;
 
 /// Returns the number of the last chunk of a plaintext of `text_len` bytes.
-fn last_chunk_of(text_len: u64) -> u64
+fn find_last_chunk(text_len: u64) -> u64
     ensures { result + 1 ≡ chunks_for text_len }
 {
     text_len.saturating_sub(1) / CHUNK
 }
 
 /// Returns the fault of a payload of `size` bytes, a length that no payload has.
-fn ends_as(size: u64) -> StreamKind
-    ensures { result ≡ ends_as size }
+fn length_fault(size: u64) -> StreamKind
+    ensures { result ≡ length_fault size }
 {
     let rest = size % BLOCK;
     if rest == 0 {
@@ -53,10 +53,10 @@ pub extern "C" fn age_c_size(
     let size = file_len.saturating_sub(reader.payload_at);
     *text_len = 0;
     *last_chunk = 0;
-    let Some(len) = text_len_of(size as u128) else {
-        return u32::from(ends_as(size).number());
+    let Some(len) = plaintext_len(size as u128) else {
+        return u32::from(length_fault(size).number());
     };
     *text_len = len as u64;
-    *last_chunk = last_chunk_of(len as u64);
+    *last_chunk = find_last_chunk(len as u64);
     0
 }

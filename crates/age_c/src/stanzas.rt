@@ -14,7 +14,7 @@ const VERSION_LINE_LEN: usize = 22;
 
 /// Returns the place of a stanza whose text begins at `at`, and whose body at `body_at` of a
 /// buffer.
-fn place_of(stanza: &Stanza, at: usize, body_at: usize) -> StanzaPlace
+fn locate_stanza(stanza: &Stanza, at: usize, body_at: usize) -> StanzaPlace
     requires { at + length (stanza_text stanza.now) ≤ header_limit }
     ensures { result ≡ place_of at body_at stanza.now }
 {
@@ -38,7 +38,7 @@ pub(crate) fn put_places(stanzas: &[Stanza], places: &mut [StanzaPlace])
     let mut at = VERSION_LINE_LEN;
     let mut body_at = 0;
     for (index, stanza) in stanzas.iter().enumerate() {
-        places[index] = place_of(stanza, at, body_at);
+        places[index] = locate_stanza(stanza, at, body_at);
         at += stanza_len(stanza);
         body_at += stanza.body.len();
     }

@@ -49,7 +49,7 @@ pub(crate) struct Head {
 }
 
 /// Parses the header that `front` begins with.
-pub(crate) fn head_of(alloc: Global, front: &[u8]) -> Result<Head, StartFault>
+pub(crate) fn parse_front(alloc: Global, front: &[u8]) -> Result<Head, StartFault>
     ensures head { IfOk result (λ head. HasHead front.now head.header head.len) }
     ensures refused { IfErr result (HasNoHead front.now) }
 {
@@ -66,7 +66,7 @@ fn read_head(alloc: Global, front: &[u8]) -> Result<Head, StartFault>
     ensures head { IfOk result (λ head. HasFront front.now head.header head.len) }
     ensures refused { IfErr result (HeadRefuses front.now) }
 {
-    match head_of(alloc, front) {
+    match parse_front(alloc, front) {
         Ok(head) => {
             if front.len() - head.len < PAYLOAD_NONCE_LEN {
                 return Err(StartFault::More);

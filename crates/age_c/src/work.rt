@@ -6,7 +6,7 @@ use age_keys::ScryptStanza;
 use age_stanza::Header;
 
 /// Returns the work factor that a header demands of a passphrase, or 0 if no passphrase opens it.
-pub(crate) fn work_of(header: &Header) -> u32
+pub(crate) fn find_work_factor(header: &Header) -> u32
     ensures { IsWork header.now result }
 {
     let [stanza] = header.stanzas.as_slice() else {

@@ -55,7 +55,11 @@ fn wrapped_key(wrap_key: &[u8; 32], key: &[u8; 16]) -> [u8; 32]
 }
 
 /// Formats the lines of an X25519 stanza.
-fn lines_of(alloc: Global, share: &[u8; 32], body: &[u8; 32]) -> Result<Vec<u8>, AllocError>
+fn encode_stanza_lines(
+    alloc: Global,
+    share: &[u8; 32],
+    body: &[u8; 32],
+) -> Result<Vec<u8>, AllocError>
     ensures text { IfOk result
         (λ lines. lines.items ≡ stanza_text (x25519_stanza share.now body.now)) }
     ensures valid { IfOk result (λ _. IsStanza (x25519_stanza share.now body.now)) }
@@ -85,7 +89,7 @@ fn wrap(
     ensures size { IfOk result (λ lines. length lines.items ≡ 98) }
 {
     let body = wrapped_key(&wrap_key(secret, share, recipient), key);
-    lines_of(alloc, share, &body)
+    encode_stanza_lines(alloc, share, &body)
 }
 
 /// Wraps a file key for an X25519 recipient, and writes the lines of the stanza to `out`, which has

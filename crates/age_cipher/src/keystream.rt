@@ -10,7 +10,7 @@ use rand_core::SeedableRng;
 use rand_core::utils::{NextWord, read_u32};
 
 /// Makes the generator of a key and a nonce. The nonce's last two words are its stream.
-fn generator_of(key: &[u8; 32], nonce: &[u8; 12]) -> ChaCha20Rng
+fn start_keystream(key: &[u8; 32], nonce: &[u8; 12]) -> ChaCha20Rng
     ensures key { result.key ≡ key_of key.now }
     ensures stream { result.stream ≡ stream_number nonce.now }
 {
@@ -79,7 +79,7 @@ pub fn xor_stream(key: &[u8; 32], nonce: &[u8; 12], counter: u32, text: &mut [u8
     requires { 64 * counter + length text.old ≤ 2 ^ 38 }
     ensures { text.new ≡ ciphertext key.now nonce.now counter text.old }
 {
-    let mut generator = generator_of(key, nonce);
+    let mut generator = start_keystream(key, nonce);
     let first = block_number(nonce, counter);
     let mut words = [0; 64];
     // A turn changes 256 bytes by 64 words, four blocks of the keystream.

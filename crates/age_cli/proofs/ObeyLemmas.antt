@@ -12,19 +12,19 @@ use Rattle.clap.specs.declared.error.Error.{Error}
 use Rattle.clap.specs.declared.error.kind.ErrorKind.{ErrorKind}
 use Rattle.age_io.specs.{SinkView}
 use Rattle.age_io.specs.Supply.{Supply}
-use Rattle.age_inspection.specs.{IsReport, Inspects}
-use Rattle.age_inspection.specs.declared.report.Report.{Report}
-use Rattle.age_fileset.specs.{FilesView}
+use Rattle.age_file_inspect.specs.{IsReport, Inspects}
+use Rattle.age_file_inspect.specs.declared.report.Report.{Report}
+use Rattle.age_cli_files.specs.{FilesView}
 use Rattle.age_cli_args.specs.{IsForHelp, refusals}
 use Rattle.age_cli_args.specs.Requests.{Requests}
 use Rattle.age_cli_args.specs.declared.request.Drilling.{Drilling}
 use Rattle.age_cli_args.specs.declared.request.Request.{Request}
 use Rattle.age_cli_args.specs.declared.request.Request.TheVariants.{Inspect, Drill}
-use Rattle.age_command.proofs.{always_ok}
-use Rattle.age_command.specs.declared.ending.Ending.{Ending}
-use Rattle.age_outputs.proofs.EndingLemmas.{as_ended}
-use Rattle.age_outputs.specs.Acts.{Acts, Finally}
-use Rattle.age_outputs.specs.declared.interruption.Unfinished.TheVariants.{Ended}
+use Rattle.age_cli_common.proofs.{always_ok}
+use Rattle.age_cli_common.specs.declared.command_error.CommandError.{CommandError}
+use Rattle.age_cli_commands.proofs.EndingLemmas.{as_ended}
+use Rattle.age_cli_commands.specs.Effects.{Acts, HoldsAfter}
+use Rattle.age_cli_commands.specs.declared.pending_stop.CommandFailure.TheVariants.{Ended}
 use Rattle.age_cli.specs.{IsApart, IsMadeBy, IsReadOf, PrintsReport, World}
 use Rattle.age_cli.specs.Runs.{IsCausedBy}
 use Rattle.age_cli.specs.declared.error.RunError.{RunError}
@@ -83,18 +83,18 @@ help_done (Err e) Q some asked printed = tt
 
 -- ---- What other commands do with files.
 
-every_fault : {A : Type 0} (r : Result A Ending) (P : Ending → Type 0) → ((e : Ending) → P e) → IfErr r P
+every_fault : {A : Type 0} (r : Result A CommandError) (P : CommandError → Type 0) → ((e : CommandError) → P e) → IfErr r P
 every_fault (Ok x) P h = tt
 every_fault (Err e) P h = h e
 
-module _ (before after : FilesView) (r : Result (Unit {0}) Ending) where
+module _ (before after : FilesView) (r : Result (Unit {0}) CommandError) where
   pub drill_acts : (d : Drilling) → Acts (Drill d) before after r
   drill_acts d = record { done = always_ok r _ tt; stopped = every_fault r _ (λ e. tt) }
 
   pub inspect_acts : (file : Option (Bor Text)) → Acts (Inspect file) before after r
   inspect_acts file = record { done = always_ok r _ tt; stopped = every_fault r _ (λ e. tt) }
 
-module _ (words : List Text) (before after : World) (ended : Result (Unit {0}) Ending) where
+module _ (words : List Text) (before after : World) (ended : Result (Unit {0}) CommandError) where
   pub does : (asked : Request) → IsMadeBy words asked → IsApart asked → Acts asked before.files after.files ended
       → DoesOther words before after asked ended → DoesRequest words before after ended
   does asked made apart acts answers = record { asked = asked; made = made; apart = apart; acts = acts; answers = answers }
@@ -102,12 +102,12 @@ module _ (words : List Text) (before after : World) (ended : Result (Unit {0}) E
 -- ---- How a part of the program ended.
 
 -- it has no position
-pub so_finally : {P : FilesView → Result (Unit {0}) Ending → Type 0} {files : FilesView} (r : Result (Unit {0}) Ending) → P files r → Finally P files (ended_so r)
+pub so_finally : {P : FilesView → Result (Unit {0}) CommandError → Type 0} {files : FilesView} (r : Result (Unit {0}) CommandError) → P files r → HoldsAfter P files (ended_so r)
 so_finally (Ok x) p = record { done = p; unfinished = tt }
 so_finally {P = P} {files = files} (Err e) p = record { done = tt; unfinished = as_ended P files (Ended e) e refl p }
 
 -- the report of an input whose length isn't known, which was read to its end
-pub read_whole : (old new : Supply) (was is : SinkView) (r : Result (Unit {0}) Ending) → OnOk r (PrintsReport (IsInspected None old new) was is)
+pub read_whole : (old new : Supply) (was is : SinkView) (r : Result (Unit {0}) CommandError) → OnOk r (PrintsReport (IsInspected None old new) was is)
     → OnOk r (PrintsReport (Inspects old new) was is)
 read_whole old new was is r done = on_ok_weaker r (λ told. (told.0, told.1.reports, told.2, told.3)) done
 

@@ -4,8 +4,8 @@ use Rattle.std.proofs.Common.{Result, Ok, Err, refl, true, false, true≢false}
 use Rattle.std.specs.Prelude.{IsSomeAnd, IfSome, OnOk, OnErr, IfErr}
 use Rattle.clap.specs.Words.{Row, Text}
 use Rattle.age_fault.specs.declared.fault.FileFault.{FileFault}
-use Rattle.age_fileset.proofs.{grows_by, grows_none, does_same}
-use Rattle.age_fileset.specs.{Outcome, CameSince, HasGiven, HasGivenAll, Does}
+use Rattle.age_cli_files.proofs.{grows_by, grows_none, does_same}
+use Rattle.age_cli_files.specs.{Outcome, NotedSince, HasGiven, HasGivenAll, Does}
 use Rattle.age_cli_args.proofs.{no_command}
 use Rattle.age_cli_args.specs.{IsForHelp, IsRequest}
 use Rattle.age_cli_args.specs.Requests.{IsDecrypting, Requests}
@@ -13,12 +13,12 @@ use Rattle.age_cli_args.specs.declared.request.Decrypting.{Decrypting}
 use Rattle.age_cli_args.specs.declared.request.Paths.{Paths}
 use Rattle.age_cli_args.specs.declared.request.Request.{Request}
 use Rattle.age_cli_args.specs.declared.request.Request.TheVariants.{Encrypt, Decrypt, Resume, Inspect, Drill}
-use Rattle.age_command.specs.{is_usage}
-use Rattle.age_command.specs.declared.ending.Ending.{Ending}
-use Rattle.age_command.specs.declared.ending.Ending.TheVariants as end
-use Rattle.age_outputs.proofs.OpeningLemmas.{first_came}
-use Rattle.age_outputs.specs.Done.{CameFirst, paths_of, OutHolds, LeavesFor}
-use Rattle.age_outputs.specs.Left.{stop_ending, Left, Spares}
+use Rattle.age_cli_common.specs.{is_usage}
+use Rattle.age_cli_common.specs.declared.command_error.CommandError.{CommandError}
+use Rattle.age_cli_common.specs.declared.command_error.CommandError.TheVariants as end
+use Rattle.age_cli_commands.proofs.OpeningLemmas.{first_came}
+use Rattle.age_cli_commands.specs.Done.{CameFirst, paths_of, OutHolds, LeavesFor}
+use Rattle.age_cli_commands.specs.Left.{stop_ending, Left, Spares}
 use Rattle.age_cli.proofs.WordLemmas.{differs, not_help, rows_of, same_text}
 use Rattle.age_cli.specs.{World, IsMadeBy, PrintsReport, ReportsFile, status_by}
 use Rattle.age_cli.specs.Runs.{AreApart, IsApart, IsOutputApart, IsSaveApart, Reports, ReportsFor, Runs}
@@ -34,14 +34,14 @@ no_usage f (Ok done) = refl
 no_usage f (Err second) = refl
 
 -- the command line is refused
-abbrev IsUsage : Ending → Type 0
+abbrev IsUsage : CommandError → Type 0
 IsUsage ending = is_usage ending ≡ true
 
-usage_no_fault : (f : FileFault) (save : Result (Unit {0}) FileFault) (e : Ending) → e ≡ stop_ending f save → IsUsage e → ⊥
+usage_no_fault : (f : FileFault) (save : Result (Unit {0}) FileFault) (e : CommandError) → e ≡ stop_ending f save → IsUsage e → ⊥
 usage_no_fault f save e is usage = true≢false (sym usage ∙ (ap is_usage is ∙ no_usage f save))
 
 -- status 2 says that the command line is refused
-usage_of : (e : Ending) → status_by {A = Unit {0}} (Err (run.Ended e)) ≡ 2 → IsUsage e
+usage_of : (e : CommandError) → status_by {A = Unit {0}} (Err (run.Ended e)) ≡ 2 → IsUsage e
 usage_of (end.Usage usage) two = refl
 usage_of (end.Fault fault) two = cc
 usage_of (end.Unsaved fault second) two = cc
@@ -87,7 +87,7 @@ module _ (words : List Text) (before after : World) where
   Wrote r = WritesNone words before.files after.files ⊎ ((asked : Request) × Requests words asked
       × IsSomeAnd (paths_of asked) (λ p. PutsFor asked p before.files after.files r))
 
-  abbrev Stopped : Request → Ending → Type 0
+  abbrev Stopped : Request → CommandError → Type 0
   Stopped asked ending = IfSome (paths_of asked) (λ p. Spares p.to.now before.files after.files ⊎ Left asked p before.files after.files ending)
 
   spares_same : after.files ≡ before.files → WritesNone words before.files after.files
@@ -98,7 +98,7 @@ module _ (words : List Text) (before after : World) where
   made_of asked other (inr none) = absurd (other none.1)
 
   -- if it wasn't done
-  wrote_some : (asked : Request) (ending : Ending) → IsMadeBy words asked → Stopped asked ending → DoesOther words before after asked (Err ending)
+  wrote_some : (asked : Request) (ending : CommandError) → IsMadeBy words asked → Stopped asked ending → DoesOther words before after asked (Err ending)
       → Wrote (Err (run.Ended ending))
   wrote_some (Encrypt e) ending made (inl spares) other = inl (inr (Encrypt e, made_of (Encrypt e) (λ no. let is = no in cc) made, spares))
   wrote_some (Encrypt e) ending made (inr left) other = inr (Encrypt e, made_of (Encrypt e) (λ no. let is = no in cc) made, left)
@@ -134,7 +134,7 @@ module _ (words : List Text) (before after : World) where
   wrote (Err run.Unread) o = inl (spares_same o.untouched)
 
   -- a command that stopped at a fault isn't refused
-  refused_some : (asked : Request) (ending : Ending) → IsMadeBy words asked → Stopped asked ending → DoesOther words before after asked (Err ending)
+  refused_some : (asked : Request) (ending : CommandError) → IsMadeBy words asked → Stopped asked ending → DoesOther words before after asked (Err ending)
       → IsUsage ending → WritesNone words before.files after.files
   refused_some asked ending made stopped other usage = ⊎_elim (λ none. none) (λ left. none_left left.0 left.2) (wrote_some asked ending made stopped other) where
     none_left : (mine : Request) → IsSomeAnd (paths_of mine) (λ p. Left mine p before.files after.files ending) → WritesNone words before.files after.files
@@ -151,10 +151,10 @@ module _ (words : List Text) (before after : World) where
   refused (Err run.Unread) o two = spares_same o.untouched
 
   -- what came of a run that put nothing came before anything was put
-  read_first : Does before.files after.files → (o : Outcome) → CameSince before.files after.files o → CameFirst before.files after.files o
+  read_first : Does before.files after.files → (o : Outcome) → NotedSince before.files after.files o → CameFirst before.files after.files o
   read_first did = first_came [] before.files after.files after.files (grows_by before.files after.files did) (grows_none after.files)
 
-  file_first : Does before.files after.files → (name : Text) → PrintsReport (ReportsFile (CameSince before.files after.files) name) before.output after.output
+  file_first : Does before.files after.files → (name : Text) → PrintsReport (ReportsFile (NotedSince before.files after.files) name) before.output after.output
       → PrintsReport (ReportsFile (CameFirst before.files after.files) name) before.output after.output
   file_first did name (r, of, wrote, sent) = (
     r,
@@ -188,7 +188,7 @@ module _ (words : List Text) (before after : World) where
   report (Err e) obeys none = tt
 
   -- the request that is obeyed is of the same command
-  quiet_of : (r : Result (Unit {0}) Ending) (name : Text) (rows : List Row) (mine asked : Request) → IsRequest name rows mine → IsRequest name rows asked
+  quiet_of : (r : Result (Unit {0}) CommandError) (name : Text) (rows : List Row) (mine asked : Request) → IsRequest name rows mine → IsRequest name rows asked
       → DoesOther words before after mine r → IfSome (paths_of asked) (λ p. IsQuiet before after)
   quiet_of r name rows (Encrypt e) (Encrypt a) x y quiet = quiet
   quiet_of r name rows (Decrypt e) (Decrypt a) x y quiet = quiet

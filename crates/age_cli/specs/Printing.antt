@@ -5,13 +5,13 @@ use Rattle.std.specs.Fmt.{decimal}
 use Rattle.age_io.specs.{SourceView, SinkView}
 use Rattle.age_io.specs.Taken.{Appends}
 use Rattle.age_io.specs.Supply.{Supply}
-use Rattle.age_inspection.specs.{IsReport}
-use Rattle.age_inspection.specs.Reports as file
-use Rattle.age_inspection.specs.declared.report.Report.{Report}
-use Rattle.age_inspection.specs.declared.report.StanzaReport.{StanzaReport}
-use Rattle.age_fileset.specs.{Outcome}
-use Rattle.age_fileset.specs.declared.files.Missing.TheVariants as missing
-use Rattle.age_outputs.specs.Commands.{WasRead}
+use Rattle.age_file_inspect.specs.{IsReport}
+use Rattle.age_file_inspect.specs.Reports as file
+use Rattle.age_file_inspect.specs.declared.report.Report.{Report}
+use Rattle.age_file_inspect.specs.declared.report.StanzaReport.{StanzaReport}
+use Rattle.age_cli_files.specs.{Outcome}
+use Rattle.age_cli_files.specs.declared.file_set.IfMissing.TheVariants as missing
+use Rattle.age_cli_commands.specs.Commands.{WasRead}
 use Rattle.clap.specs.Words.{Text}
 
 -- ---- How a report is printed: lines that end with LF, numbers in decimal.

@@ -1,4 +1,5 @@
--- What a run of the program does: read this first, and then what a command leaves, in `age_outputs`.
+-- What a run of the program does: read this first, and then what a command leaves, in
+-- `age_cli_commands`.
 use Rattle.std.specs.Prelude.{◌≡◌, ◌⊎◌, ℕ, List, [], ◌∷◌, Some, ◌≢◌, Option, None, IfSome, IsSomeAnd, Result}
 use Rattle.std.specs.Prelude.{Ok, Err, OnOk, if◌then◌else◌, IfOk, IfErr, IfNone, true}
 use Rattle.clap.specs.Kinds.{IsAmong}
@@ -7,17 +8,17 @@ use Rattle.clap.specs.Words.{Text, HasKind}
 use Rattle.clap.specs.declared.error.Error.{Error}
 use Rattle.age_io.specs.{SourceView, SinkView}
 use Rattle.age_io.specs.Taken.{Appends}
-use Rattle.age_inspection.specs.{Inspects}
-use Rattle.age_fileset.specs.{FilesView, HasGiven, HasGivenAll, PutsOnly, entry, Does}
+use Rattle.age_file_inspect.specs.{Inspects}
+use Rattle.age_cli_files.specs.{FilesView, HasGiven, HasGivenAll, PutsOnly, entry, Does}
 use Rattle.age_cli_args.specs.{IsForHelp, option_text, refusals}
 use Rattle.age_cli_args.specs.Requests.{Requests}
 use Rattle.age_cli_args.specs.declared.request.Decrypting.{Decrypting}
 use Rattle.age_cli_args.specs.declared.request.Paths.{Paths}
 use Rattle.age_cli_args.specs.declared.request.Request.{Request}
 use Rattle.age_cli_args.specs.declared.request.Request.TheVariants.{Encrypt, Decrypt, Resume, Inspect}
-use Rattle.age_command.specs.{is_usage}
-use Rattle.age_outputs.specs.Done.{CameFirst, paths_of, LeavesFor, OutHolds}
-use Rattle.age_outputs.specs.Left.{Spares, Left}
+use Rattle.age_cli_common.specs.{is_usage}
+use Rattle.age_cli_commands.specs.Done.{CameFirst, paths_of, LeavesFor, OutHolds}
+use Rattle.age_cli_commands.specs.Left.{Spares, Left}
 use Rattle.age_cli.specs.Printing.{PrintsReport, ReportsFile}
 use Rattle.age_cli.specs.declared.error.RunError.{RunError}
 use Rattle.age_cli.specs.declared.error.RunError.TheVariants.{Words, Unread, Ended}

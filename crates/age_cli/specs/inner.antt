@@ -8,16 +8,16 @@ use Rattle.clap.specs.declared.error.Error.{Error}
 use Rattle.clap.specs.declared.error.kind.ErrorKind.{ErrorKind}
 use Rattle.clap.specs.declared.error.kind.ErrorKind.TheVariants.{DisplayHelp, DisplayVersion, OutOfMemory}
 use Rattle.age_io.specs.Supply.{Supply}
-use Rattle.age_inspection.specs.{Inspects, IsReport}
-use Rattle.age_inspection.specs.declared.report.Report.{Report}
-use Rattle.age_fileset.specs.{CameSince, Does}
+use Rattle.age_file_inspect.specs.{Inspects, IsReport}
+use Rattle.age_file_inspect.specs.declared.report.Report.{Report}
+use Rattle.age_cli_files.specs.{NotedSince, Does}
 use Rattle.age_cli_args.specs.{IsForHelp}
 use Rattle.age_cli_args.specs.declared.request.Request.{Request}
 use Rattle.age_cli_args.specs.declared.request.Request.TheVariants.{Inspect, Drill}
-use Rattle.age_command.specs.declared.ending.Ending.{Ending}
-use Rattle.age_outputs.specs.Acts.{Acts}
-use Rattle.age_outputs.specs.declared.interruption.Unfinished.{Unfinished}
-use Rattle.age_outputs.specs.declared.interruption.Unfinished.TheVariants.{Ended}
+use Rattle.age_cli_common.specs.declared.command_error.CommandError.{CommandError}
+use Rattle.age_cli_commands.specs.Effects.{Acts}
+use Rattle.age_cli_commands.specs.declared.pending_stop.CommandFailure.{CommandFailure}
+use Rattle.age_cli_commands.specs.declared.pending_stop.CommandFailure.TheVariants.{Ended}
 use Rattle.age_cli.specs.Printing.{PrintsReport, ReportsAs, ReportsFile}
 use Rattle.age_cli.specs.Runs.{IsApart, IsMadeBy, IsCausedBy, Prints, World}
 use Rattle.age_cli.specs.declared.error.RunError.{RunError}
@@ -28,7 +28,7 @@ abbrev pub IsForOutput : ErrorKind → Type 0
 IsForOutput kind = (kind ≡ DisplayHelp) ⊎ (kind ≡ DisplayVersion)
 
 -- how a command without a position ended
-abbrev pub ended_so : Result (Unit {0}) Ending → Result (Unit {0}) Unfinished
+abbrev pub ended_so : Result (Unit {0}) CommandError → Result (Unit {0}) CommandFailure
 ended_so (Ok done) = Ok done
 ended_so (Err e) = Err (Ended e)
 
@@ -53,16 +53,16 @@ IsRefusedBy error (RanSo ending) = Unit {0}
 module _ (words : List Text) (before after : World) where
   -- `inspect` reported the input, which it read to its end, or its file. Neither it nor a drill puts
   -- anything under a name; and others read no input and print nothing.
-  abbrev pub DoesOther : Request → Result (Unit {0}) Ending → Type 0
+  abbrev pub DoesOther : Request → Result (Unit {0}) CommandError → Type 0
   DoesOther (Inspect None) ended = (after.files ≡ before.files) × OnOk ended
       (PrintsReport (Inspects before.input.supply after.input.supply) before.output after.output)
   DoesOther (Inspect (Some name)) ended = Does before.files after.files × OnOk ended
-      (PrintsReport (ReportsFile (CameSince before.files after.files) name.now) before.output after.output)
+      (PrintsReport (ReportsFile (NotedSince before.files after.files) name.now) before.output after.output)
   DoesOther (Drill d) ended = Does before.files after.files
   DoesOther other ended = IsQuiet before after
 
   -- Words that make a request are obeyed. No words ask for a report of the input.
-  pub record DoesRequest (ended : Result (Unit {0}) Ending) : Type 0 where
+  pub record DoesRequest (ended : Result (Unit {0}) CommandError) : Type 0 where
     pub asked : Request
     pub made : IsMadeBy words asked
     pub apart : IsApart asked

@@ -1,15 +1,15 @@
 //! The command `inspect`, which reports what a header says.
 
 ghost use Rattle.std.specs.Prelude.{◌≡◌, IfOk, OnOk};
-ghost use Rattle.age_fileset.specs.{Does, CameSince};
+ghost use Rattle.age_cli_files.specs.{Does, NotedSince};
 ghost use Rattle.age_cli.specs.{PrintsReport, ReportsFile};
 ghost use Rattle.age_cli.specs.inner.{IsInspected};
 
-use crate::print::text_of;
-use age_command::{Ending, put_bytes};
+use crate::print::format_report;
+use age_cli_common::{CommandError, put_bytes};
+use age_cli_files::{ErrorContext, FileError, FileSet, IfMissing, OpenError, OpenFault, Purpose};
 use age_fault::FileFault;
-use age_fileset::{ErrorContext, FileError, FileSet, Missing, OpenError, OpenFault, Purpose};
-use age_inspection::{Report, inspect, inspect_sized};
+use age_file_inspect::{Report, inspect, inspect_sized};
 use age_io::{Sink, Source, flush_all};
 use std::alloc::Global;
 
@@ -36,33 +36,33 @@ pub(crate) fn report<'w, I: Source, O: Sink>(
     length: Option<u64>,
     input: &mut I,
     output: &mut O,
-) -> Result<(), Ending<'w>>
+) -> Result<(), CommandError<'w>>
     ensures done { OnOk result (PrintsReport
         (IsInspected length (I.view input.old).supply (I.view input.new).supply)
         (O.view output.old) (O.view output.new)) }
     ensures named { (I.view input.new).label ≡ (I.view input.old).label }
 {
     let found = inspect_as(alloc, length, input)?;
-    let text = text_of(alloc, &found)?;
+    let text = format_report(alloc, &found)?;
     put_bytes(output, text.as_slice())?;
     Ok(flush_all(output)?)
 }
 
 /// Returns the ending of a command that couldn't open a file. `inspect` opens one file only, so one
 /// that is in use was opened before the command.
-fn unopened<'w>(error: &OpenError<'w>) -> Ending<'w> {
+fn unopened<'w>(error: &OpenError<'w>) -> CommandError<'w> {
     let fault = match error.fault() {
         OpenFault::Fault(fault) => fault,
         OpenFault::SameFile => FileFault::Read,
     };
-    Ending::Fault(FileError::new(fault, error.context()))
+    CommandError::Fault(FileError::new(fault, error.context()))
 }
 
 /// Returns the result of a report, with `context` for a fault that has none.
 fn with_context<'w>(
-    reported: Result<(), Ending<'w>>,
+    reported: Result<(), CommandError<'w>>,
     context: ErrorContext<'w>,
-) -> Result<(), Ending<'w>>
+) -> Result<(), CommandError<'w>>
     ensures { result ≡ reported.entry }
 {
     match reported {
@@ -78,13 +78,13 @@ pub(crate) fn report_file<'w, F: FileSet<'w>, O: Sink>(
     files: &mut F,
     name: &'w str,
     output: &mut O,
-) -> Result<(), Ending<'w>>
+) -> Result<(), CommandError<'w>>
     ensures does { Does (F.view files.old) (F.view files.new) }
     ensures done { OnOk result (PrintsReport
-        (ReportsFile (CameSince (F.view files.old) (F.view files.new)) name.now)
+        (ReportsFile (NotedSince (F.view files.old) (F.view files.new)) name.now)
         (O.view output.old) (O.view output.new)) }
 {
-    let mut source = match files.open(alloc, name, Missing::Fails, Purpose::Input) {
+    let mut source = match files.open(alloc, name, IfMissing::Fails, Purpose::Input) {
         Ok(source) => source,
         Err(error) => return Err(unopened(&error)),
     };

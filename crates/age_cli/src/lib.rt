@@ -7,8 +7,9 @@
 //! every set of files; the program passes in the files of the system.
 //!
 //! All names that a caller of `run` needs, or an implementation of a set of files, are exported
-//! here. `inspect` is implemented here; `encrypt`, `decrypt` and `resume` are in `age_outputs`, and
-//! `drill` is in `age_drill`.
+//! here. `inspect` is implemented here; `encrypt`, `decrypt` and `resume` are in
+//! `age_cli_commands`, and
+//! `drill` is in `age_cli_drill`.
 #![tactic(auto)]
 
 mod error;
@@ -18,13 +19,13 @@ mod print;
 mod program;
 
 pub use age_cli_args::Request;
-pub use age_command::{Ending, UnsavedError, Usage, UsageError};
-pub use age_fault::FileFault;
-pub use age_fileset::{
-    Action, ErrorContext, Failure, FileError, FileSet, FirstBytes, Missing, OpenError, OpenFault,
+pub use age_cli_common::{CommandError, UnsavedError, Usage, UsageError};
+pub use age_cli_files::{
+    Action, ErrorContext, Failure, FileError, FileSet, FirstBytes, IfMissing, OpenError, OpenFault,
     Purpose, ReadSummary,
 };
+pub use age_fault::FileFault;
+pub use age_host_model::{ClobberOption, Durability};
 pub use age_io::{Failed, Meter, Sink, Source};
-pub use age_options::{ClobberOption, Durability};
 pub use error::RunError;
 pub use program::{read_words, run, run_words, status};

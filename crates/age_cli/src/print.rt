@@ -7,7 +7,7 @@ ghost use Rattle.age_fault.specs.declared.fault.FileFault.TheVariants.{Memory};
 ghost use Rattle.age_cli.specs.{stanza_line, plain_line, report_text};
 
 use age_fault::FileFault;
-use age_inspection::{Report, StanzaReport};
+use age_file_inspect::{Report, StanzaReport};
 use std::alloc::{AllocError, Global};
 
 fn put_stanza(alloc: Global, out: &mut Vec<u8>, stanza: &StanzaReport) -> Result<(), AllocError>
@@ -40,7 +40,7 @@ fn plain_text(alloc: Global, plain: Option<u128>) -> Result<String, AllocError>
 }
 
 /// Formats a report, one line a field.
-pub(crate) fn text_of(alloc: Global, report: &Report) -> Result<Vec<u8>, FileFault>
+pub(crate) fn format_report(alloc: Global, report: &Report) -> Result<Vec<u8>, FileFault>
     ensures text { IfOk result (λ v. v.items ≡ report_text report.now) }
     ensures memory { IfErr result (λ f. f ≡ Memory) }
 {

@@ -3,7 +3,7 @@
 ghost use Rattle.std.specs.Prelude.{◌≡◌, IfErr, IsOk, List, OnOk, Result};
 ghost use Rattle.clap.specs.Words.{Text, kind_of};
 ghost use Rattle.clap.specs.Walk.{texts};
-ghost use Rattle.age_outputs.specs.Acts.{Finally};
+ghost use Rattle.age_cli_commands.specs.Effects.{HoldsAfter};
 ghost use Rattle.age_cli.specs.declared.error.RunError.{RunError};
 ghost use Rattle.age_cli.specs.declared.error.RunError.TheVariants.{Ended};
 ghost use Rattle.age_cli.specs.Runs.{IsApart, IsMadeBy, IsReadOf, Prints, Runs, status_by};
@@ -13,12 +13,12 @@ use crate::error::RunError;
 use crate::inspect_command::{report, report_file};
 use crate::names::find_shared_name;
 use age_cli_args::{Request, read_request};
-use age_command::{Ending, Usage, UsageError, put_bytes, report_ending};
-use age_drill::drill_file;
+use age_cli_commands::{CommandFailure, conclude, decrypt_file, encrypt_file, resume_file};
+use age_cli_common::{CommandError, Usage, UsageError, put_bytes, report_ending};
+use age_cli_drill::drill_file;
+use age_cli_files::{ErrorContext, FileSet};
 use age_fault::FileFault;
-use age_fileset::{ErrorContext, FileSet};
 use age_io::{Meter, Sink, Source, flush_all};
-use age_outputs::{Unfinished, conclude, decrypt_file, encrypt_file, resume_file};
 use clap::Error;
 use clap::error::ErrorKind;
 use std::alloc::Global;
@@ -48,42 +48,42 @@ fn answer<'w, O: Sink>(alloc: Global, error: Error, output: &mut O) -> Result<()
 }
 
 /// Converts the result of a command that saves no position.
-fn ended<'w>(done: Result<(), Ending<'w>>) -> Result<(), Unfinished<'w>>
+fn to_command_result<'w>(done: Result<(), CommandError<'w>>) -> Result<(), CommandFailure<'w>>
     ensures { result ≡ ended_so done.entry }
 {
     match done {
         Ok(()) => Ok(()),
-        Err(ending) => Err(Unfinished::Ended(ending)),
+        Err(ending) => Err(CommandFailure::Ended(ending)),
     }
 }
 
 /// Runs the requested command. If it stops, its position is still to be saved, by [`conclude`].
-fn obey<'w, F: FileSet<'w>, I: Source, O: Sink, P: Meter>(
+fn run_command<'w, F: FileSet<'w>, I: Source, O: Sink, P: Meter>(
     alloc: Global,
     request: &Request<'w>,
     files: &mut F,
     input: &mut I,
     output: &mut O,
     progress: &mut P,
-) -> Result<(), Unfinished<'w>>
+) -> Result<(), CommandFailure<'w>>
     requires apart { IsApart request.now }
-    ensures { (words : List Text) → IsMadeBy words request.now → Finally (λ after. DoesRequest words
+    ensures { (words : List Text) → IsMadeBy words request.now → HoldsAfter (λ after. DoesRequest words
         (record { files = F.view files.old; input = I.view input.old; output = O.view output.old })
         (record { files = after; input = I.view input.new; output = O.view output.new }))
         (F.view files.new) result }
 {
     match request {
-        Request::Inspect(Some(name)) => ended(report_file(alloc, files, *name, output)),
-        Request::Inspect(None) => ended(report(alloc, None, input, output)),
+        Request::Inspect(Some(name)) => to_command_result(report_file(alloc, files, *name, output)),
+        Request::Inspect(None) => to_command_result(report(alloc, None, input, output)),
         Request::Encrypt(asked) => encrypt_file(alloc, files, asked, progress),
         Request::Decrypt(asked) => decrypt_file(alloc, files, asked, progress),
         Request::Resume(asked) => resume_file(alloc, files, asked, progress),
-        Request::Drill(asked) => ended(drill_file(alloc, files, asked, output)),
+        Request::Drill(asked) => to_command_result(drill_file(alloc, files, asked, output)),
     }
 }
 
 /// Reports why a command isn't done, and returns the error of the run.
-fn refuse<'w, E: Sink>(ending: Ending<'w>, faults: &mut E) -> RunError<'w>
+fn refuse<'w, E: Sink>(ending: CommandError<'w>, faults: &mut E) -> RunError<'w>
     ensures { result ≡ Ended ending.entry }
 {
     report_ending(faults, &ending);
@@ -92,7 +92,7 @@ fn refuse<'w, E: Sink>(ending: Ending<'w>, faults: &mut E) -> RunError<'w>
 
 /// Runs the requested command. If it isn't done, reports why to `faults`, and saves its position,
 /// if it has one. Refuses a request that gives one name to two files that must differ.
-fn perform<'w, F: FileSet<'w>, I: Source, O: Sink, E: Sink, P: Meter>(
+fn run_and_conclude<'w, F: FileSet<'w>, I: Source, O: Sink, E: Sink, P: Meter>(
     alloc: Global,
     request: &Request<'w>,
     files: &mut F,
@@ -110,9 +110,9 @@ fn perform<'w, F: FileSet<'w>, I: Source, O: Sink, E: Sink, P: Meter>(
     if let Some(name) = find_shared_name(request) {
         let both = ErrorContext::Twice(name, Some(name));
         let refused = UsageError::new(Usage::SameFile, both);
-        return Err(refuse(Ending::Usage(refused), faults));
+        return Err(refuse(CommandError::Usage(refused), faults));
     }
-    match obey(alloc, request, files, input, output, progress) {
+    match run_command(alloc, request, files, input, output, progress) {
         Ok(()) => Ok(()),
         Err(unfinished) => Err(RunError::Ended(conclude(alloc, files, unfinished, faults))),
     }
@@ -125,14 +125,14 @@ pub fn status(ended: &Result<(), RunError<'_>>) -> u8
 {
     match ended {
         Ok(()) => 0,
-        Err(RunError::Words(_) | RunError::Unread | RunError::Ended(Ending::Usage(_))) => 2,
-        Err(RunError::Ended(Ending::Fault(_) | Ending::Unsaved(_, _))) => 1,
+        Err(RunError::Words(_) | RunError::Unread | RunError::Ended(CommandError::Usage(_))) => 2,
+        Err(RunError::Ended(CommandError::Fault(_) | CommandError::Unsaved(_, _))) => 1,
     }
 }
 
 /// Reports a failure that isn't reported yet, and returns the result unchanged. Leaves words that
 /// the parser refuses to the caller, who may know more to tell about them.
-fn reported<'w, E: Sink>(
+fn report_once<'w, E: Sink>(
     answered: Result<(), RunError<'w>>,
     faults: &mut E,
 ) -> Result<(), RunError<'w>>
@@ -206,9 +206,11 @@ pub fn run_words<'w, F: FileSet<'w>, I: Source, O: Sink, E: Sink, P: Meter>(
     ensures silent { OnOk result (E.view faults.new ≡ E.view faults.old) }
 {
     match read {
-        Ok(Some(request)) => perform(alloc, &request, files, input, output, faults, progress),
-        Ok(None) => reported(Err(RunError::Unread), faults),
-        Err(error) => reported(answer(alloc, error, output), faults),
+        Ok(Some(request)) => run_and_conclude(
+            alloc, &request, files, input, output, faults, progress,
+        ),
+        Ok(None) => report_once(Err(RunError::Unread), faults),
+        Err(error) => report_once(answer(alloc, error, output), faults),
     }
 }
 

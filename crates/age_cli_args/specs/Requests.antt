@@ -7,9 +7,9 @@ use Rattle.std.specs.Str.Parse.{IsNumeral, digits_value, without_leading_plus}
 use Rattle.clap.specs.Words.{Row, Text, one_of, fault_of, subcommand_of, first_of}
 use Rattle.clap.specs.Kinds.{Kinds, IsAmong}
 use Rattle.clap.specs.declared.error.kind.ErrorKind.TheVariants.{DisplayHelp, DisplayVersion}
-use Rattle.age_options.specs.declared.Durability.TheVariants.{Synced, Buffered}
+use Rattle.age_host_model.specs.declared.options.Durability.TheVariants.{Synced, Buffered}
 use Rattle.age_cli_args.specs.Commands.{age_tool}
-use Rattle.age_options.specs.declared.ClobberOption.TheVariants.{Allowed, Refused}
+use Rattle.age_host_model.specs.declared.options.ClobberOption.TheVariants.{Allowed, Refused}
 use Rattle.age_cli_args.specs.declared.request.Decrypting.{Decrypting}
 use Rattle.age_cli_args.specs.declared.request.Drilling.{Drilling}
 use Rattle.age_cli_args.specs.declared.request.Encrypting.{Encrypting}

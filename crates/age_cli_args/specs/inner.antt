@@ -7,8 +7,8 @@ use Rattle.clap.specs.declared.builder.command.Command.TheViews.{out-Command}
 use Rattle.clap.specs.declared.builder.command.Command.{Command}
 use Rattle.age_cli_args.specs.Commands.{option_rule, required_rule, number_rule, flag_rule}
 use Rattle.age_cli_args.specs.declared.commands.Argument.{Argument}
-use Rattle.age_cli_args.specs.declared.commands.Given.{Given}
-use Rattle.age_cli_args.specs.declared.commands.Given.TheVariants.{Value, File, Number, Flag, Operand, Word}
+use Rattle.age_cli_args.specs.declared.commands.ArgumentForm.{ArgumentForm}
+use Rattle.age_cli_args.specs.declared.commands.ArgumentForm.TheVariants.{Value, File, Number, Flag, Operand, Word}
 use Rattle.age_cli_args.specs.declared.commands.Subcommand.{Subcommand}
 
 -- some option of the command reaches its subcommands
@@ -30,7 +30,7 @@ bare_tool = on_top
     (new_app (codes "age_tool"))
 
 -- how the parser reads an argument that is given like this
-abbrev pub rule_as : Text → Given → Rule
+abbrev pub rule_as : Text → ArgumentForm → Rule
 rule_as id (Value _) = option_rule id
 rule_as id File = required_rule (option_rule id)
 rule_as id Number = number_rule id

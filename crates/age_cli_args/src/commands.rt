@@ -16,7 +16,7 @@ use std::alloc::{AllocError, Global};
 
 /// The form of an argument: an option with a value, a flag, or a word.
 #[derive(Clone, Copy)]
-pub enum Given {
+pub enum ArgumentForm {
     /// An option with a value, `--ID VALUE`; the help shows this word for the value.
     Value(&'static str),
     /// A required option with a file, `--ID FILE`.
@@ -37,57 +37,57 @@ pub struct Argument {
     /// The name of the argument.
     pub id: &'static str,
     /// The form of the argument.
-    pub given: Given,
+    pub given: ArgumentForm,
     /// The text of the help.
     help: &'static str,
 }
 
 const PASS: Argument = Argument {
     id: "pass",
-    given: Given::Value("FILE"),
+    given: ArgumentForm::Value("FILE"),
     help: help::PASS,
 };
 
 const FILE_KEY: Argument = Argument {
     id: "file-key",
-    given: Given::Value("HEX"),
+    given: ArgumentForm::Value("HEX"),
     help: help::FILE_KEY,
 };
 
 const SHARED: Argument = Argument {
     id: "shared",
-    given: Given::Value("FILE"),
+    given: ArgumentForm::Value("FILE"),
     help: help::SHARED,
 };
 
 const MAX_LOG: Argument = Argument {
     id: "max-log",
-    given: Given::Number,
+    given: ArgumentForm::Number,
     help: help::MAX_LOG,
 };
 
 const NO_SYNC: Argument = Argument {
     id: "no-sync",
-    given: Given::Flag,
+    given: ArgumentForm::Flag,
     help: help::NO_SYNC,
 };
 
 const PROGRESS: Argument = Argument {
     id: "progress",
-    given: Given::Flag,
+    given: ArgumentForm::Flag,
     help: help::PROGRESS,
 };
 
 #[rattlefmt::skip]
 const ENCRYPT: &[Argument] = &[
-    Argument { id: "pass", given: Given::File, help: help::PASS },
-    Argument { id: "log", given: Given::Number, help: help::LOG },
-    Argument { id: "random", given: Given::Value("FILE"), help: help::RANDOM },
+    Argument { id: "pass", given: ArgumentForm::File, help: help::PASS },
+    Argument { id: "log", given: ArgumentForm::Number, help: help::LOG },
+    Argument { id: "random", given: ArgumentForm::Value("FILE"), help: help::RANDOM },
     NO_SYNC,
-    Argument { id: "no-clobber", given: Given::Flag, help: help::NO_CLOBBER },
+    Argument { id: "no-clobber", given: ArgumentForm::Flag, help: help::NO_CLOBBER },
     PROGRESS,
-    Argument { id: "IN", given: Given::Operand, help: help::PLAIN_IN },
-    Argument { id: "OUT", given: Given::Operand, help: help::FILE_OUT },
+    Argument { id: "IN", given: ArgumentForm::Operand, help: help::PLAIN_IN },
+    Argument { id: "OUT", given: ArgumentForm::Operand, help: help::FILE_OUT },
 ];
 
 #[rattlefmt::skip]
@@ -96,41 +96,41 @@ const DECRYPT: &[Argument] = &[
     FILE_KEY,
     SHARED,
     MAX_LOG,
-    Argument { id: "save", given: Given::Value("FILE"), help: help::SAVE },
+    Argument { id: "save", given: ArgumentForm::Value("FILE"), help: help::SAVE },
     NO_SYNC,
-    Argument { id: "no-clobber", given: Given::Flag, help: help::NO_CLOBBER_OR_SAVE },
+    Argument { id: "no-clobber", given: ArgumentForm::Flag, help: help::NO_CLOBBER_OR_SAVE },
     PROGRESS,
-    Argument { id: "IN", given: Given::Operand, help: help::FILE_IN },
-    Argument { id: "OUT", given: Given::Operand, help: help::PLAIN_OUT },
+    Argument { id: "IN", given: ArgumentForm::Operand, help: help::FILE_IN },
+    Argument { id: "OUT", given: ArgumentForm::Operand, help: help::PLAIN_OUT },
 ];
 
 #[rattlefmt::skip]
 const RESUME: &[Argument] = &[
-    Argument { id: "position", given: Given::File, help: help::POSITION },
-    Argument { id: "old", given: Given::File, help: help::OLD },
+    Argument { id: "position", given: ArgumentForm::File, help: help::POSITION },
+    Argument { id: "old", given: ArgumentForm::File, help: help::OLD },
     PASS,
     FILE_KEY,
     SHARED,
     MAX_LOG,
-    Argument { id: "save", given: Given::Value("FILE"), help: help::SAVE_AGAIN },
+    Argument { id: "save", given: ArgumentForm::Value("FILE"), help: help::SAVE_AGAIN },
     NO_SYNC,
-    Argument { id: "no-clobber", given: Given::Flag, help: help::NO_CLOBBER_AGAIN },
+    Argument { id: "no-clobber", given: ArgumentForm::Flag, help: help::NO_CLOBBER_AGAIN },
     PROGRESS,
-    Argument { id: "IN", given: Given::Operand, help: help::FILE_IN },
-    Argument { id: "OUT", given: Given::Operand, help: help::WHOLE_OUT },
+    Argument { id: "IN", given: ArgumentForm::Operand, help: help::FILE_IN },
+    Argument { id: "OUT", given: ArgumentForm::Operand, help: help::WHOLE_OUT },
 ];
 
 #[rattlefmt::skip]
 const INSPECT: &[Argument] = &[
-    Argument { id: "FILE", given: Given::Word, help: help::INSPECTED },
+    Argument { id: "FILE", given: ArgumentForm::Word, help: help::INSPECTED },
 ];
 
 #[rattlefmt::skip]
 const DRILL: &[Argument] = &[
-    Argument { id: "clear", given: Given::Flag, help: help::CLEAR },
+    Argument { id: "clear", given: ArgumentForm::Flag, help: help::CLEAR },
     PASS,
-    Argument { id: "SCRIPT", given: Given::Operand, help: help::SCRIPT },
-    Argument { id: "IN", given: Given::Operand, help: help::DRILLED },
+    Argument { id: "SCRIPT", given: ArgumentForm::Operand, help: help::SCRIPT },
+    Argument { id: "IN", given: ArgumentForm::Operand, help: help::DRILLED },
 ];
 
 /// A page of the help.
@@ -151,14 +151,14 @@ pub struct Subcommand {
 impl Subcommand {
     /// Returns the usage: the lines that show how the command is given.
     pub fn usage(&self) -> &'static str {
-        let (usage, _, _) = texts_of(self.page);
+        let (usage, _, _) = load_help_texts(self.page);
         usage
     }
 }
 
 /// The commands of the program. A static, since a constant would put all texts in it into what is
 /// proved of `table`. Even those of a static cost the proof some time, so the long ones are in
-/// [`texts_of`].
+/// [`load_help_texts`].
 #[rattlefmt::skip]
 static COMMANDS: [Subcommand; 5] = [
     Subcommand { name: "encrypt", arguments: ENCRYPT, page: Page::Encrypt },
@@ -170,7 +170,7 @@ static COMMANDS: [Subcommand; 5] = [
 
 /// Returns a command's usage, and the texts before its arguments and after them.
 #[rattlefmt::skip]
-fn texts_of(page: Page) -> (&'static str, &'static str, &'static str) {
+fn load_help_texts(page: Page) -> (&'static str, &'static str, &'static str) {
     match page {
         Page::Encrypt => (help::ENCRYPT_USAGE, help::ENCRYPT, help::AFTER_ENCRYPT),
         Page::Decrypt => (help::DECRYPT_USAGE, help::DECRYPT, help::AFTER_DECRYPT),
@@ -231,18 +231,18 @@ fn operand<'a>(alloc: Global, id: &'a str, help: &'a str) -> Arg<'a>
     word(alloc, id, help).required(true)
 }
 
-fn arg_of<'a>(alloc: Global, argument: &Argument) -> Arg<'a>
+fn build_arg<'a>(alloc: Global, argument: &Argument) -> Arg<'a>
     ensures rule { rule_of result ≡ rule_as argument.now.id.now argument.now.given }
     ensures local { result.global ≡ false }
 {
     let Argument { id, given, help } = *argument;
     match given {
-        Given::Value(name) => option(alloc, id, name, help),
-        Given::File => required(alloc, id, help),
-        Given::Number => number(alloc, id, help),
-        Given::Flag => flag(alloc, id, help),
-        Given::Operand => operand(alloc, id, help),
-        Given::Word => word(alloc, id, help),
+        ArgumentForm::Value(name) => option(alloc, id, name, help),
+        ArgumentForm::File => required(alloc, id, help),
+        ArgumentForm::Number => number(alloc, id, help),
+        ArgumentForm::Flag => flag(alloc, id, help),
+        ArgumentForm::Operand => operand(alloc, id, help),
+        ArgumentForm::Word => word(alloc, id, help),
     }
 }
 
@@ -262,16 +262,16 @@ fn with_arguments<'a>(
 {
     let mut whole = plain;
     for argument in arguments {
-        whole = whole.arg(arg_of(alloc, argument))?;
+        whole = whole.arg(build_arg(alloc, argument))?;
     }
     Ok(whole)
 }
 
 /// Returns a command with its usage and its arguments.
-fn command_of<'a>(alloc: Global, sub: &Subcommand) -> Result<Command<'a>, AllocError>
+fn build_command<'a>(alloc: Global, sub: &Subcommand) -> Result<Command<'a>, AllocError>
     ensures { IfOk result (HasApp (app_as sub.now)) }
 {
-    let (usage, about, after) = texts_of(sub.page);
+    let (usage, about, after) = load_help_texts(sub.page);
     let plain = command(alloc, sub.name, about, after);
     with_arguments(alloc, plain.override_usage(usage), sub.arguments)
 }
@@ -285,7 +285,7 @@ fn with_command<'a>(
     ensures { (a : App) → HasApp a program.entry
         → IfOk result (HasApp (with_subcommand a (app_as sub.now).top)) }
 {
-    match command_of(alloc, sub) {
+    match build_command(alloc, sub) {
         Ok(command) => program.subcommand(command),
         Err(error) => {
             drop(program);
@@ -343,7 +343,7 @@ fn program<'a>(alloc: Global) -> Result<Command<'a>, AllocError>
 }
 
 /// Parses the arguments after the program's name.
-pub(crate) fn matches_of<'a>(alloc: Global, words: &'a [&'a str]) -> Result<ArgMatches<'a>, Error>
+pub(crate) fn parse_words<'a>(alloc: Global, words: &'a [&'a str]) -> Result<ArgMatches<'a>, Error>
     ensures matches { IfOk result (λ m. subcommand_rows_of m ≡ named (texts words.now)) }
     ensures refusals { FailsBy (refusals (texts words.now)) result }
 {

@@ -8,7 +8,7 @@ mod help;
 mod reading;
 mod request;
 
-pub use commands::{Argument, Given, Subcommand, find_command, list_commands};
+pub use commands::{Argument, ArgumentForm, Subcommand, find_command, list_commands};
 pub use help::USAGE;
 pub use reading::read_request;
 pub use request::{

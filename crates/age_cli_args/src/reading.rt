@@ -14,21 +14,21 @@ ghost use Rattle.age_cli_args.specs.declared.request.Paths.{Paths};
 ghost use Rattle.age_cli_args.specs.declared.request.Resuming.{Resuming};
 ghost use Rattle.age_cli_args.specs.declared.request.Drilling.{Drilling};
 ghost use Rattle.age_cli_args.specs.declared.request.Request.{Request};
-ghost use Rattle.age_options.specs.declared.ClobberOption.TheVariants.{Allowed, Refused};
+ghost use Rattle.age_host_model.specs.declared.options.ClobberOption.TheVariants.{Allowed, Refused};
 ghost use Rattle.age_cli_args.specs.declared.request.ProgressOption.TheVariants.{Shown, Silent};
-ghost use Rattle.age_options.specs.declared.Durability.TheVariants.{Buffered, Synced};
+ghost use Rattle.age_host_model.specs.declared.options.Durability.TheVariants.{Buffered, Synced};
 
-use crate::commands::matches_of;
+use crate::commands::parse_words;
 use crate::request::{
     Decrypting, Drilling, Encrypting, IdentityOptions, MOST_WORK, Paths, ProgressOption, Request,
     Resuming,
 };
-use age_options::{ClobberOption, Durability};
+use age_host_model::{ClobberOption, Durability};
 use clap::{ArgMatches, Error};
 use std::alloc::Global;
 
 /// Returns the number if it is a work factor, 1 to 22.
-fn within(n: u32) -> Option<u32>
+fn work_factor_in_range(n: u32) -> Option<u32>
     ensures some { IfSome result (λ m. (m ≡ n) × (1 ≤ n) × (n ≤ 22)) }
     ensures none { IfNone result (1 ≤ n → n ≤ 22 → ⊥) }
 {
@@ -48,7 +48,7 @@ fn number(matches: &ArgMatches<'_>, id: &str, default: u32) -> Option<u32>
         → IsNumber default (one_of id.now (rows_of (found_of matches.now))) n → ⊥) }
 {
     match matches.get_one::<u32>(id) {
-        Some(n) => within(n),
+        Some(n) => work_factor_in_range(n),
         None if matches.get_str(id).is_none() => Some(default),
         None => None,
     }
@@ -105,7 +105,7 @@ fn progress(matches: &ArgMatches<'_>) -> ProgressOption
 }
 
 /// Returns the name of the command that the arguments give, and its own arguments.
-fn command_of<'m, 'a>(matches: &'m ArgMatches<'a>) -> Option<(&'a str, &'m ArgMatches<'a>)>
+fn find_subcommand<'m, 'a>(matches: &'m ArgMatches<'a>) -> Option<(&'a str, &'m ArgMatches<'a>)>
     ensures some { IfSome result
         (λ p. subcommand_rows_of matches.now ≡ Some (p.0.now, rows_of (found_of p.1.now))) }
     ensures none { IfNone result (subcommand_rows_of matches.now ≡ None) }
@@ -186,7 +186,7 @@ fn drilling<'a>(matches: &ArgMatches<'a>) -> Option<Drilling<'a>>
 }
 
 /// Returns the request of a command, by its name and its arguments.
-fn request_of<'a>(name: &str, matches: &ArgMatches<'a>) -> Option<Request<'a>>
+fn build_request<'a>(name: &str, matches: &ArgMatches<'a>) -> Option<Request<'a>>
     ensures some { IfSome result (IsRequest name.now (rows_of (found_of matches.now))) }
     ensures none { IfNone result ((r : Request)
         → IsRequest name.now (rows_of (found_of matches.now)) r → ⊥) }
@@ -213,9 +213,9 @@ pub fn read_request<'a>(alloc: Global, words: &'a [&'a str]) -> Result<Option<Re
     ensures unasked { IfOk result (λ o. IfNone o ((r : Request) → Requests (texts words.now) r → ⊥)) }
     ensures refusals { FailsBy (refusals (texts words.now)) result }
 {
-    let matches = matches_of(alloc, words)?;
-    match command_of(&matches) {
-        Some((name, inner)) => Ok(request_of(name, inner)),
+    let matches = parse_words(alloc, words)?;
+    match find_subcommand(&matches) {
+        Some((name, inner)) => Ok(build_request(name, inner)),
         None => Ok(None),
     }
 }

@@ -1,6 +1,6 @@
 //! The requests of a user: a command with its arguments.
 
-use age_options::{ClobberOption, Durability};
+use age_host_model::{ClobberOption, Durability};
 
 /// The greatest work factor that an option may give.
 pub(crate) const MOST_WORK: u32 = 22;

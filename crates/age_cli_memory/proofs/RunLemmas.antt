@@ -6,18 +6,18 @@ use Rattle.std.specs.Io.KnownBytes.{prepend_known}
 use Rattle.std.specs.Prelude.{is_some, IfSome, IsSomeAnd, OnOk, option_map}
 use Rattle.clap.specs.Words.{Row, Text}
 use Rattle.age_chunk.specs.{chunk_length}
-use Rattle.age_position.specs.{position_text}
-use Rattle.age_position.specs.declared.position.Position.{Position}
-use Rattle.age_sealing.specs.{SecretView}
-use Rattle.age_inspection.specs.{IsReport}
+use Rattle.age_file_position.specs.{position_text}
+use Rattle.age_file_position.specs.declared.position.Position.{Position}
+use Rattle.age_file_encrypt.specs.{SecretView}
+use Rattle.age_file_inspect.specs.{IsReport}
 use Rattle.age_cli_memory.proofs.ShelfLemmas.{AreOthers, others_then, same_since, put_since, found_was, gave_all_was}
-use Rattle.age_fileset.proofs.{all_as, grows_by}
+use Rattle.age_cli_files.proofs.{all_as, grows_by}
 use Rattle.age_cli_memory.specs.{Files, entry_of}
-use Rattle.age_fileset.specs.{Entry, entry, Outcome, Found, PutsOnly, CameSince, HasGiven}
-use Rattle.age_fileset.specs.{HasGivenAll, puts_in}
+use Rattle.age_cli_files.specs.{Entry, entry, Outcome, Found, PutsOnly, NotedSince, HasGiven}
+use Rattle.age_cli_files.specs.{HasGivenAll, puts_in}
 use Rattle.age_cli_memory.specs.{AreTrue, held_by}
-use Rattle.age_fileset.specs.declared.files.Missing.{Missing}
-use Rattle.age_fileset.specs.declared.files.Missing.TheVariants.{Fails}
+use Rattle.age_cli_files.specs.declared.file_set.IfMissing.{IfMissing}
+use Rattle.age_cli_files.specs.declared.file_set.IfMissing.TheVariants.{Fails}
 use Rattle.age_cli_memory.specs.declared.entry.MemEntry.{MemEntry}
 use Rattle.age_cli_args.proofs.{no_command, one_number}
 use Rattle.age_cli_args.specs.{IsForHelp, IsRequest}
@@ -26,12 +26,12 @@ use Rattle.age_cli_args.specs.declared.request.Encrypting.{Encrypting}
 use Rattle.age_cli_args.specs.declared.request.Paths.{Paths}
 use Rattle.age_cli_args.specs.declared.request.Request.{Request}
 use Rattle.age_cli_args.specs.declared.request.Request.TheVariants.{Inspect, Encrypt, Decrypt, Resume, Drill}
-use Rattle.age_command.specs.{IsPassphraseIn, random_name}
-use Rattle.age_command.specs.declared.ending.Ending.{Ending}
-use Rattle.age_outputs.proofs.ReadLemmas.{made_by}
-use Rattle.age_outputs.specs.Commands.{MakesSecret}
-use Rattle.age_outputs.specs.Done.{CameFirst, paths_of, OutHolds, LeavesFor}
-use Rattle.age_outputs.specs.Left.{Left, SavesOf, save_of, Spares}
+use Rattle.age_cli_common.specs.{IsPassphraseIn, random_name}
+use Rattle.age_cli_common.specs.declared.command_error.CommandError.{CommandError}
+use Rattle.age_cli_commands.proofs.ReadLemmas.{made_by}
+use Rattle.age_cli_commands.specs.Commands.{MakesSecret}
+use Rattle.age_cli_commands.specs.Done.{CameFirst, paths_of, OutHolds, LeavesFor}
+use Rattle.age_cli_commands.specs.Left.{Left, SavesOf, save_of, Spares}
 use Rattle.age_cli.proofs.RunLemmas.{failed_by}
 use Rattle.age_cli.proofs.WordLemmas.{differs, not_help, rows_of, same_text}
 use Rattle.age_cli_memory.specs.{FileBegins, FileHolds, ReportsEntry}
@@ -39,8 +39,8 @@ use Rattle.age_cli.specs.Printing.{PrintsReport}
 use Rattle.age_cli_memory.specs.{out_of}
 use Rattle.age_cli_args.specs.{IsIdentityOptions}
 use Rattle.age_cli_args.specs.declared.request.IdentityOptions.{IdentityOptions}
-use Rattle.age_command.specs.{MakesBy}
-use Rattle.age_command.specs.declared.identity.Identity.{Identity}
+use Rattle.age_cli_common.specs.{MakesBy}
+use Rattle.age_cli_common.specs.declared.identity.Identity.{Identity}
 use Rattle.age_cli.specs.Runs.{Prints, PutsFor, Reports, ReportsFor, Runs, World, WritesNone, status_by}
 use Rattle.age_cli.specs.declared.error.RunError.{RunError}
 use Rattle.age_cli.specs.declared.error.RunError.TheVariants as run
@@ -177,14 +177,14 @@ module _ (words : List Text) (before after : World) (was is : List MemEntry) (ke
   none_before name o c = subst (λ (l : List Entry). AreOthers name l) (sym c.first) tt
 
   -- a file that was found before anything was put stood there
-  stood : (missing : Missing) (name : Text) (left : Option (List ℕ)) (size : Option ℕ) → early (Found missing name left size)
+  stood : (missing : IfMissing) (name : Text) (left : Option (List ℕ)) (size : Option ℕ) → early (Found missing name left size)
       → (is_some left ≡ true) × (left ≡ held_by missing (olds name))
   stood missing name left size c = found_was before.files after.files was is kept_was kept_is missing name left size c.came (none_before name _ c)
 
   -- what it gave before anything was put stood there
   first_was : (name bytes : List ℕ) → HasGivenAll early name bytes → FileHolds olds name bytes
   first_was name bytes g =
-      gave_all_was before.files after.files was is kept_was kept_is name bytes (all_as early (CameSince before.files after.files) (λ o c. c.came) name bytes g)
+      gave_all_was before.files after.files was is kept_was kept_is name bytes (all_as early (NotedSince before.files after.files) (λ o c. c.came) name bytes g)
       (none_before name _ g.gave.found)
 
   -- perhaps not all of it
@@ -209,7 +209,7 @@ module _ (words : List Text) (before after : World) (was is : List MemEntry) (ke
     go None none = absurd none
     go (Some p) spares = spares.none
 
-  left_others : (asked : Request) (p : Paths) (ending : Ending) (l : Left asked p before.files after.files ending) (q : Text) → (Some p.to.now ≡ Some q → ⊥)
+  left_others : (asked : Request) (p : Paths) (ending : CommandError) (l : Left asked p before.files after.files ending) (q : Text) → (Some p.to.now ≡ Some q → ⊥)
       → (save_of asked ≡ Some q → ⊥) → AreOthers q (l.outs ++ l.saves)
   left_others asked p ending l q out save =
       others_then q l.outs l.saves (⊎_elim (λ none. subst (λ (x : List Entry). AreOthers q x) (sym none) tt)

@@ -4,15 +4,15 @@ use Rattle.std.proofs.Common.{append_assoc, true≢false}
 use Rattle.std.specs.Str.{bytes_eq}
 use Rattle.std.proofs.lemmas.Slice.Eq.{bytes_eq-Decides}
 use Rattle.std.specs.Prelude.{if◌then◌else◌, is_some}
-use Rattle.age_fileset.specs.declared.files.Missing.{Missing}
-use Rattle.age_fileset.specs.declared.files.Missing.TheVariants.{Fails}
+use Rattle.age_cli_files.specs.declared.file_set.IfMissing.{IfMissing}
+use Rattle.age_cli_files.specs.declared.file_set.IfMissing.TheVariants.{Fails}
 use Rattle.age_cli_memory.specs.{MemEntry}
-use Rattle.age_fileset.specs.{Outcome, Found, Absent, Present, Put}
+use Rattle.age_cli_files.specs.{Outcome, Found, Absent, Present, Put}
 use Rattle.age_cli_memory.specs.{Files, no_files, once, stands, held_by, Fits, AllFit, AreTrue, PutsEntry, entry_of}
-use Rattle.age_fileset.specs.{created_as}
-use Rattle.age_fileset.specs.{Entry, entry, puts_in, FilesView, PutsOnly, CameSince, HasGivenAll}
-use Rattle.age_options.specs.declared.ClobberOption.{ClobberOption}
-use Rattle.age_options.specs.declared.ClobberOption.TheVariants.{Allowed, Refused}
+use Rattle.age_cli_files.specs.{created_as}
+use Rattle.age_cli_files.specs.{Entry, entry, puts_in, FilesView, PutsOnly, NotedSince, HasGivenAll}
+use Rattle.age_host_model.specs.declared.options.ClobberOption.{ClobberOption}
+use Rattle.age_host_model.specs.declared.options.ClobberOption.TheVariants.{Allowed, Refused}
 use Rattle.std.specs.Io.KnownBytes.{prepend_known, IsAtEnd}
 use Rattle.std.proofs.lemmas.Bool.{false_from_ne_true}
 
@@ -149,7 +149,7 @@ module _ (old new : FilesView) (was is : List MemEntry) (kept_was : AreTrue was 
     put_since name bytes rest are other =
         since name ∙ stands_put (stands no_files old.outcomes) grows.more name bytes rest (grows.puts_are ∙ are) other
 
-  module _ (o : Outcome) (c : CameSince old new o) where
+  module _ (o : Outcome) (c : NotedSince old new o) where
     abbrev at : Files
     at = stands no_files (old.outcomes ++ c.before)
 
@@ -164,14 +164,14 @@ module _ (old new : FilesView) (was is : List MemEntry) (kept_was : AreTrue was 
         stands_then no_files old.outcomes c.before q ∙ stands_other (stands no_files old.outcomes) c.before q other ∙ sym (kept_was.stand q)
 
   -- a file was found: what it has to give is what stood there at first
-  pub found_was : (missing : Missing) (name : List ℕ) (left : Option (List ℕ)) (size : Option ℕ) (c : CameSince old new (Found missing name left size))
+  pub found_was : (missing : IfMissing) (name : List ℕ) (left : Option (List ℕ)) (size : Option ℕ) (c : NotedSince old new (Found missing name left size))
       → AreOthers name (puts_in c.before) → (is_some left ≡ true) × (left ≡ held_by missing (entry_of was name))
   found_was missing name left size c other =
       let fit = fit_at (Found missing name left size) c in
       (fit.0, fit.1 ∙ ap (held_by missing) (same_at (Found missing name left size) c name other))
 
   -- all that a file gave stood there at first
-  pub gave_all_was : (name bytes : List ℕ) (g : HasGivenAll (CameSince old new) name bytes) → AreOthers name (puts_in g.gave.found.before)
+  pub gave_all_was : (name bytes : List ℕ) (g : HasGivenAll (NotedSince old new) name bytes) → AreOthers name (puts_in g.gave.found.before)
       → entry_of was name ≡ Some bytes
   gave_all_was name bytes g other =
       let found = found_was Fails name (prepend_known bytes g.gave.left) g.gave.size g.gave.found other in

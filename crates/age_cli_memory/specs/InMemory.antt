@@ -4,13 +4,13 @@ use Rattle.std.specs.Prelude.{is_some, ◌∷◌, if◌then◌else◌, find, len
 use Rattle.std.specs.Str.{bytes_eq}
 use Rattle.age_io.specs.{SourceView, SinkView}
 use Rattle.age_memory.specs.{Feeding, Holding, holds, memory_supply}
-use Rattle.age_calls.specs.{EndedFile}
+use Rattle.age_host_model.specs.{EndedFile}
 use Rattle.age_fault.specs.declared.fault.FileFault.{FileFault}
-use Rattle.age_fileset.specs.{FilesView, IsMemoryOr, Outcome, Found, Absent, Present, Gave, Settled, Put}
-use Rattle.age_fileset.specs.declared.files.OpenFault.{OpenFault}
-use Rattle.age_fileset.specs.declared.files.OpenFault.TheVariants.{SameFile, Fault}
-use Rattle.age_fileset.specs.declared.files.Missing.{Missing}
-use Rattle.age_fileset.specs.declared.files.Missing.TheVariants.{Fails, Empty}
+use Rattle.age_cli_files.specs.{FilesView, IsMemoryOr, Outcome, Found, Absent, Present, Gave, Settled, Put}
+use Rattle.age_cli_files.specs.declared.file_set.OpenFault.{OpenFault}
+use Rattle.age_cli_files.specs.declared.file_set.OpenFault.TheVariants.{SameFile, Fault}
+use Rattle.age_cli_files.specs.declared.file_set.IfMissing.{IfMissing}
+use Rattle.age_cli_files.specs.declared.file_set.IfMissing.TheVariants.{Fails, Empty}
 use Rattle.age_cli_memory.specs.declared.entry.MemEntry.{MemEntry}
 
 -- The error is this fault, or that memory ran out: no file in memory is shared.
@@ -19,7 +19,7 @@ MemFails other SameFile = ⊥
 MemFails other (Fault fault) = IsMemoryOr other fault
 
 -- The bytes to read under a name that has this file, or none.
-abbrev pub held_by : Missing → Option (List ℕ) → Option (List ℕ)
+abbrev pub held_by : IfMissing → Option (List ℕ) → Option (List ℕ)
 held_by Fails held = held
 held_by Empty None = Some []
 held_by Empty (Some bytes) = Some bytes

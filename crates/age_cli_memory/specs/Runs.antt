@@ -2,13 +2,13 @@
 use Rattle.std.specs.Borrow.{Bor}
 use Rattle.std.specs.Prelude.{◌≡◌, ℕ, List, ◌++◌, Option, Some, option_map, Result}
 use Rattle.clap.specs.Words.{Text}
-use Rattle.age_inspection.specs.{IsReport}
+use Rattle.age_file_inspect.specs.{IsReport}
 use Rattle.age_cli_memory.specs.InMemory.{Files, Shelf, entry_of, seen_in}
 use Rattle.age_cli_args.specs.Requests.{Requests}
 use Rattle.age_cli_args.specs.declared.request.Request.{Request}
 use Rattle.age_cli_args.specs.declared.request.Request.TheVariants.{Inspect}
-use Rattle.age_outputs.specs.Done.{paths_of, LeavesFor}
-use Rattle.age_outputs.specs.Left.{save_of}
+use Rattle.age_cli_commands.specs.Done.{paths_of, LeavesFor}
+use Rattle.age_cli_commands.specs.Left.{save_of}
 use Rattle.age_cli.specs.Printing.{PrintsReport}
 use Rattle.age_cli.specs.Runs.{Runs, World, status_by}
 use Rattle.age_cli.specs.declared.error.RunError.{RunError}

@@ -52,7 +52,7 @@ fn place(entries: &[MemEntry], name: &str) -> Option<usize>
 }
 
 /// Returns the bytes of the first file of a name.
-pub(crate) fn bytes_of<'a>(entries: &'a [MemEntry], name: &str) -> Option<&'a [u8]>
+pub(crate) fn find_bytes<'a>(entries: &'a [MemEntry], name: &str) -> Option<&'a [u8]>
     ensures { option_map (λ s. s.now) result ≡ entry_of entries.now name.now }
 {
     let found = entries.iter().find(|e| e.name.as_str() == name)?;

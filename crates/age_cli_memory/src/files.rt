@@ -7,21 +7,21 @@ ghost use Rattle.age_io.specs.Taken.{WriteAppends, Keeps};
 ghost use Rattle.age_memory.specs.{Puts, Pulls, Flushes, holds, memory_supply};
 ghost use Rattle.age_io.specs.{ReadConsumes};
 ghost use Rattle.age_cli_memory.specs.{entry_of, empty_with, full_with, PutsEntry, held_by};
-ghost use Rattle.age_fileset.specs.{IsMemoryOr};
-ghost use Rattle.age_fileset.specs.{Found, Gave};
-ghost use Rattle.age_fileset.specs.{Settled, opened_as, looked_as, made_as, put_as};
+ghost use Rattle.age_cli_files.specs.{IsMemoryOr};
+ghost use Rattle.age_cli_files.specs.{Found, Gave};
+ghost use Rattle.age_cli_files.specs.{Settled, opened_as, looked_as, made_as, put_as};
 ghost use Rattle.age_cli_memory.specs.{ended_with, size_in};
 ghost use Rattle.age_cli_memory.specs.{shown_in, shown_out, seen_in, MemFails, AreTrue};
-ghost use Rattle.age_fileset.specs.{reading_of};
-ghost use Rattle.age_fileset.specs.declared.files.OpenFault.TheVariants.{Fault};
-ghost use Rattle.age_options.specs.declared.ClobberOption.TheVariants.{Refused};
+ghost use Rattle.age_cli_files.specs.{reading_of};
+ghost use Rattle.age_cli_files.specs.declared.file_set.OpenFault.TheVariants.{Fault};
+ghost use Rattle.age_host_model.specs.declared.options.ClobberOption.TheVariants.{Refused};
 
-use crate::entry::{MemEntry, Name, bytes_of, put_entry};
+use crate::entry::{MemEntry, Name, find_bytes, put_entry};
+use age_cli_files::{EventLog, FileError, FileEvent, FileSet, IfMissing, OpenError, Purpose};
 use age_fault::FileFault;
-use age_fileset::{Doing, FileError, FileSet, Log, Missing, OpenError, Purpose};
-use age_io::{Bytes, Failed, Memory, Sink, Source, Tape};
+use age_host_model::{ClobberOption, Durability, ErrorContext};
+use age_io::{ByteTrace, Bytes, Failed, Memory, Sink, Source};
 use age_memory::{MemSink, MemSource};
-use age_options::{ClobberOption, Durability, ErrorContext};
 use std::alloc::{AllocError, Global};
 use std::marker::Model;
 
@@ -32,20 +32,20 @@ pub struct MemFiles {
     entries: Vec<MemEntry>,
     refused: Vec<Name>,
     room: usize,
-    log: Log,
+    log: EventLog,
     ended: Option<MemEnded>,
 }
 
 /// A record of an ended file in memory, for contracts.
 #[derive(Drop)]
 struct MemEnded {
-    took: Tape,
+    took: ByteTrace,
     is_closed: bool,
 }
 
 impl Model for MemEnded {
     ghost use Rattle.std.specs.Prelude.{None, [], false};
-    ghost use Rattle.age_calls.specs.{EndedFile};
+    ghost use Rattle.age_host_model.specs.{EndedFile};
 
     ghost Value = { EndedFile };
 
@@ -167,7 +167,7 @@ impl MemFiles {
             entries: Vec::new(alloc),
             refused: Vec::new(alloc),
             room,
-            log: Log::new(),
+            log: EventLog::new(),
             ended: None,
         }
     }
@@ -194,11 +194,11 @@ impl MemFiles {
           outcomes = self.old.outcomes ++ put_as name bytes result;
         } }
     {
-        let (mut own, mut put) = (Tape::new(), Tape::new());
+        let (mut own, mut put) = (ByteTrace::new(), ByteTrace::new());
         own.note(name.as_str().as_bytes());
         put.note(bytes.as_slice());
         put_entry(&mut self.entries, name, bytes)?;
-        self.log.note(Doing::Put(&own, &put));
+        self.log.note(FileEvent::Put(&own, &put));
         Ok(())
     }
 
@@ -206,7 +206,7 @@ impl MemFiles {
     pub fn get(&self, name: &str) -> Option<&[u8]>
         ensures { option_map (λ s. s.now) result ≡ entry_of self.now.entries name.now }
     {
-        bytes_of(self.entries.as_slice(), name)
+        find_bytes(self.entries.as_slice(), name)
     }
 
     /// States that the bytes stored under each name are those that came of what was done.
@@ -222,11 +222,11 @@ impl MemFiles {
           outcomes = self.old.outcomes ++ Gave (reading_of (shown_in source.now)) ∷ [];
         } }
     {
-        let (mut name, mut given) = (Tape::new(), Tape::new());
+        let (mut name, mut given) = (ByteTrace::new(), ByteTrace::new());
         name.note(source.name.as_str().as_bytes());
         given.note(source.source.given());
         self.log
-            .note(Doing::Gave(&name, &given, source.source.is_at_end()));
+            .note(FileEvent::Gave(&name, &given, source.source.is_at_end()));
     }
 
     /// Makes each later attempt to create or replace a file of this name fail with `Write` (27). If
@@ -251,17 +251,23 @@ impl MemEnded {
     fn of(sink: &MemSink, is_closed: bool) -> MemEnded
         ensures { result ≡ ended_with sink.now.held is_closed }
     {
-        let mut took = Tape::new();
+        let mut took = ByteTrace::new();
         took.note(sink.bytes());
         MemEnded { took, is_closed }
     }
 }
 
 /// Notes that a file was found, with what it has to give.
-fn note_found(log: &mut Log, missing: Missing, name: &str, left: Option<&Tape>, size: Option<u64>)
+fn note_found(
+    log: &mut EventLog,
+    missing: IfMissing,
+    name: &str,
+    left: Option<&ByteTrace>,
+    size: Option<u64>,
+)
     ensures { log.new ≡ log.old ++ Found missing name.now (option_map (λ t. t.now) left.entry) size ∷ [] }
 {
-    log.note(Doing::Found(missing, name, left, size));
+    log.note(FileEvent::Found(missing, name, left, size));
 }
 
 fn is_refused(refused: &[Name], name: &str) -> bool
@@ -271,12 +277,12 @@ fn is_refused(refused: &[Name], name: &str) -> bool
 }
 
 /// Returns the bytes to be read under a name.
-fn bytes_held<'a>(entries: &'a [MemEntry], name: &str, missing: Missing) -> Option<&'a [u8]>
+fn bytes_held<'a>(entries: &'a [MemEntry], name: &str, missing: IfMissing) -> Option<&'a [u8]>
     ensures { option_map (λ s. s.now) result ≡ held_by missing (entry_of entries.now name.now) }
 {
     match missing {
-        Missing::Fails => bytes_of(entries, name),
-        Missing::Empty => match bytes_of(entries, name) {
+        IfMissing::Fails => find_bytes(entries, name),
+        IfMissing::Empty => match find_bytes(entries, name) {
             Some(bytes) => Some(bytes),
             None => Some(&[]),
         },
@@ -290,12 +296,12 @@ fn is_kept(entries: &[MemEntry], name: &str, clobber: ClobberOption) -> bool
 {
     match clobber {
         ClobberOption::Allowed => false,
-        ClobberOption::Refused => bytes_of(entries, name).is_some(),
+        ClobberOption::Refused => find_bytes(entries, name).is_some(),
     }
 }
 
 /// Returns a source of a copy of these bytes.
-fn source_of(alloc: Global, bytes: &[u8]) -> Result<MemSource, FileFault>
+fn make_source(alloc: Global, bytes: &[u8]) -> Result<MemSource, FileFault>
     ensures made { IfOk result (λ s. s ≡ full_with bytes.now) }
     ensures memory { OnErr result (result ≡ Err FileFault.Memory) }
 {
@@ -308,7 +314,7 @@ fn new_in(alloc: Global, name: &str, bytes: &[u8]) -> Result<MemIn, FileFault>
     ensures memory { OnErr result (result ≡ Err FileFault.Memory) }
 {
     let name = Name::new(alloc, name)?;
-    let source = source_of(alloc, bytes)?;
+    let source = make_source(alloc, bytes)?;
     Ok(MemIn { name, source })
 }
 
@@ -379,7 +385,7 @@ impl<'w> FileSet<'w> for MemFiles {
         &mut self,
         alloc: Global,
         name: &'w str,
-        missing: Missing,
+        missing: IfMissing,
         _purpose: Purpose,
     ) -> Result<MemIn, OpenError<'w>>
         ensures kept { self.new ≡ record self.old {
@@ -394,7 +400,7 @@ impl<'w> FileSet<'w> for MemFiles {
         let Some(bytes) = bytes_held(self.entries.as_slice(), name, missing) else {
             return Err(OpenError::new(FileFault::Read, ErrorContext::Nothing));
         };
-        let mut left = Tape::new();
+        let mut left = ByteTrace::new();
         left.note(bytes);
         let size = Some(bytes.len() as u64);
         let source = new_in(alloc, name, bytes)?;
@@ -456,7 +462,7 @@ impl<'w> FileSet<'w> for MemFiles {
         let is_kept = is_kept(self.entries.as_slice(), name, clobber);
         let out = open_out(alloc, self.refused.as_slice(), name, self.room, is_kept);
         if let Ok(_) = out {
-            self.log.note(Doing::Created(clobber, name));
+            self.log.note(FileEvent::Created(clobber, name));
         }
         out
     }
@@ -481,11 +487,11 @@ impl<'w> FileSet<'w> for MemFiles {
           outcomes = self.old.outcomes ++ looked_as name.now result;
         } }
     {
-        if bytes_of(self.entries.as_slice(), name).is_some() {
-            self.log.note(Doing::Present(name));
+        if find_bytes(self.entries.as_slice(), name).is_some() {
+            self.log.note(FileEvent::Present(name));
             return false;
         }
-        self.log.note(Doing::Absent(name));
+        self.log.note(FileEvent::Absent(name));
         true
     }
 
@@ -510,27 +516,27 @@ impl<'w> FileSet<'w> for MemFiles {
     }
 
     /// Returns the number of all bytes that the sink took.
-    fn settle(&mut self, out: &mut MemOut, durability: Durability) -> u64
+    fn durable_len(&mut self, out: &mut MemOut, durability: Durability) -> u64
         ensures kept { self.new ≡ record self.old {
           outcomes = self.old.outcomes ++ Settled durability out.old.1.held result ∷ [];
         } }
         ensures same { out.new ≡ out.old }
         ensures all { result ≡ length out.old.1.held }
     {
-        self.settled_so_far(out, durability)
+        self.known_durable_len(out, durability)
     }
 
     /// Returns the number of all bytes that the sink took.
-    fn settled_so_far(&mut self, out: &MemOut, durability: Durability) -> u64
+    fn known_durable_len(&mut self, out: &MemOut, durability: Durability) -> u64
         ensures kept { self.new ≡ record self.old {
           outcomes = self.old.outcomes ++ Settled durability out.now.1.held result ∷ [];
         } }
         ensures all { result ≡ length out.now.1.held }
     {
-        let mut took = Tape::new();
+        let mut took = ByteTrace::new();
         took.note(out.sink.bytes());
         let size = out.sink.bytes().len() as u64;
-        self.log.note(Doing::Settled(durability, &took, size));
+        self.log.note(FileEvent::Settled(durability, &took, size));
         size
     }
 

@@ -10,6 +10,6 @@ mod sealing;
 
 pub use counted::Counted;
 pub use either::Either;
-pub use measure::Measure;
-pub use memory::text_of;
+pub use measure::CountingSink;
+pub use memory::open_bytes;
 pub use sealing::seal_to;

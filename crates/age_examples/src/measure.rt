@@ -2,31 +2,31 @@
 
 ghost use Rattle.std.specs.Prelude.{◌≡◌, [], None, true, false};
 
-use age_file::{Failed, Sink, Tape};
+use age_file::{ByteTrace, Failed, Sink};
 
 /// A sink that counts the bytes that it takes and keeps none of them, to learn how long something
 /// will be.
 #[derive(Drop)]
-pub struct Measure {
+pub struct CountingSink {
     /// The number of bytes taken, saturating at `u64::MAX`.
     pub count: u64,
-    took: Tape,
+    took: ByteTrace,
 }
 
-impl Measure {
+impl CountingSink {
     /// Makes a sink with a count of 0.
-    pub fn new() -> Measure
+    pub fn new() -> CountingSink
         ensures count { result.count ≡ 0 }
         ensures took { result.took ≡ [] }
     {
-        Measure {
+        CountingSink {
             count: 0,
-            took: Tape::new(),
+            took: ByteTrace::new(),
         }
     }
 }
 
-impl Sink for Measure {
+impl Sink for CountingSink {
     ghost view = { λ m. record {
       taken = record { bytes = m.took; contents = None; label = [] };
       failed = 0;

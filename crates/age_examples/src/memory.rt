@@ -17,7 +17,7 @@ const STEP: usize = 65_536;
 /// If the file is that of some plaintext, which the unlocker opens, and undamaged, the result is
 /// that plaintext, or one of the faults that have nothing to do with the file. A plaintext is
 /// shorter than its file, so the file's length is enough room.
-pub fn text_of<U: Unlock>(alloc: Global, unlock: &U, file: Vec<u8>) -> Result<Vec<u8>, FileFault>
+pub fn open_bytes<U: Unlock>(alloc: Global, unlock: &U, file: Vec<u8>) -> Result<Vec<u8>, FileFault>
     ensures undamaged { (text : List ℕ)
         → IsUndamagedFile (U.allows unlock.now) (U.refuses unlock.now)
         (memory_supply [] file.items false) text

@@ -5,11 +5,11 @@ ghost use Rattle.age_io.specs.Taken.{Appends};
 ghost use Rattle.age_stream.specs.{chunk_bytes};
 ghost use Rattle.age_chunk.specs.{payload, chunk_length};
 
-use age_file::{FileFault, Sink, Unsent, write_all};
+use age_file::{FileFault, Sink, WriteFailure, write_all};
 use age_stream::{BLOCK_LEN, ChunkBox, Sealer};
 
 /// Returns the bytes that are lent, or none.
-fn bytes_of(chunk: Option<&[u8]>) -> &[u8]
+fn unwrap_chunk(chunk: Option<&[u8]>) -> &[u8]
     ensures { result.now ≡ chunk_bytes chunk.entry }
 {
     match chunk {
@@ -19,7 +19,7 @@ fn bytes_of(chunk: Option<&[u8]>) -> &[u8]
 }
 
 /// Writes all of some bytes to a sink.
-fn put<O: Sink>(sink: &mut O, bytes: &[u8]) -> Result<(), Unsent>
+fn put<O: Sink>(sink: &mut O, bytes: &[u8]) -> Result<(), WriteFailure>
     ensures { OnOk result (Appends (O.view sink.old).taken (O.view sink.new).taken bytes.now) }
 {
     let mut written = 0;
@@ -35,7 +35,7 @@ pub fn seal_to<B: ChunkBox, O: Sink>(key: &B, text: &[u8], sink: &mut O) -> Resu
     let mut at = 0;
     while at < text.len() {
         let step = sealer.feed(&text[at..])?;
-        put(sink, bytes_of(step.chunk))?;
+        put(sink, unwrap_chunk(step.chunk))?;
         at += step.taken;
     }
     put(sink, sealer.finish()?)?;

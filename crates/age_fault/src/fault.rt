@@ -11,7 +11,7 @@ ghost use Rattle.age_fault.specs.inner.{fault_of, fault_of_key};
 use crate::head::{HeadFault, HeadKind};
 use crate::key::KeyFault;
 use age_chunk::{StreamFault, StreamKind};
-use age_io::{Memory, Unsent};
+use age_io::{Memory, WriteFailure};
 use std::alloc::{AllocError, AllocFailed};
 use std::error::Error;
 use std::fmt;
@@ -85,10 +85,10 @@ impl From<Memory> for FileFault {
     }
 }
 
-impl From<Unsent> for FileFault {
+impl From<WriteFailure> for FileFault {
     ghost from_gives = { λ _ e. e ≡ Write };
 
-    fn from(_e: Unsent) -> FileFault {
+    fn from(_e: WriteFailure) -> FileFault {
         FileFault::Write
     }
 }

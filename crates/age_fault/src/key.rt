@@ -18,7 +18,7 @@ pub enum KeyFault {
     WorkTooHigh = 11,
     /// No stanza has the type that the key is for.
     NoMatch = 12,
-    /// No stanza has a body that opens with the key.
+    /// The passphrase or the shared secret opens no stanza: it is wrong, or the stanza is damaged.
     WrongKey = 13,
     /// The header's MAC wasn't made under the file key.
     MacMismatch = 14,

@@ -5,13 +5,13 @@ use Rattle.age_io.specs.Supply.{Supply}
 use Rattle.age_stanza.specs.{OneHeader}
 use Rattle.age_chunk.specs.{chunk_count, chunk_length, chunk_limit}
 use Rattle.age_keys.specs.{PassphraseOpens, IsPassphraseKey, PassphraseRefuses, scrypt_head}
-use Rattle.age_intake.specs.{Ports}
-use Rattle.age_opening.specs.{IsWhole, WritesText, StopsOutside}
-use Rattle.age_opening.specs.declared.decryption.Stopped.{Stopped}
-use Rattle.age_opening.specs.declared.decryption.Done.{Done}
-use Rattle.age_sealing.specs.{SecretView, AgeFile}
+use Rattle.age_file_input.specs.{Ports}
+use Rattle.age_file_decrypt.specs.{IsWhole, WritesText, StopsOutside}
+use Rattle.age_file_decrypt.specs.declared.decryption.Stopped.{Stopped}
+use Rattle.age_file_decrypt.specs.declared.decryption.Done.{Done}
+use Rattle.age_file_encrypt.specs.{SecretView, AgeFile}
 use Rattle.age_file.specs.ThereAndBack.{IsSecret, passphrase_identity, RoundTrip}
-use Rattle.age_opening.proofs.UndamagedLemmas.{writes_text}
+use Rattle.age_file_decrypt.proofs.UndamagedLemmas.{writes_text}
 
 pub whole : PassphraseOpens → (s : SecretView) (max_log : ℕ) (text bytes : List ℕ) (coming : Supply) → coming.left ≡ Some bytes → IsSecret s
     → s.log ≤ max_log → chunk_count chunk_length text ≤ chunk_limit → AgeFile s text bytes

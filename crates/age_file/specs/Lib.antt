@@ -1,3 +1,3 @@
 pub mod ThereAndBack
-pub use Rattle.age_opening.specs.Decrypts.{IsUndamagedFile, StopsOutside}
-pub use Rattle.age_position.specs.declared.position.PositionPolicy.TheVariants.{Kept}
+pub use Rattle.age_file_decrypt.specs.Decrypts.{IsUndamagedFile, StopsOutside}
+pub use Rattle.age_file_position.specs.declared.position.PositionPolicy.TheVariants.{Kept}

@@ -4,17 +4,17 @@ use Rattle.age_io.specs.Taken.{Appends}
 use Rattle.std.specs.Prelude.{◌≡◌, ℕ, List, ◌≤◌, Option, Some, Result, MatchResult, length}
 use Rattle.base64.specs.GeneralPurpose.{IsBytes}
 use Rattle.age_chunk.specs.{chunk_count, chunk_length, chunk_limit}
-use Rattle.age_stream.specs.{IsClosed}
+use Rattle.age_stream.specs.{HasUnambiguousEnd}
 use Rattle.age_keys.specs.{PassphraseIdentity, IsAllowed, IsPassphraseKey, PassphraseRefuses, box}
 use Rattle.age_keys.specs.{unbox}
-use Rattle.age_opening.specs.{Run, DecryptAnswers, IsWhole, StopsOutside, from_start}
-use Rattle.age_intake.specs.{Ports}
-use Rattle.age_sealing.specs.{SecretView, AgeFile}
-use Rattle.age_sealing.specs.Encrypts.{Encrypts}
-use Rattle.age_opening.specs.declared.decryption.Done.{Done}
-use Rattle.age_opening.specs.declared.decryption.Stopped.{Stopped}
-use Rattle.age_sealing.specs.declared.encryption.Written.{Written}
-use Rattle.age_position.specs.declared.position.PositionPolicy.{PositionPolicy}
+use Rattle.age_file_decrypt.specs.{Run, DecryptAnswers, IsWhole, StopsOutside, from_start}
+use Rattle.age_file_input.specs.{Ports}
+use Rattle.age_file_encrypt.specs.{SecretView, AgeFile}
+use Rattle.age_file_encrypt.specs.Encrypts.{Encrypts}
+use Rattle.age_file_decrypt.specs.declared.decryption.Done.{Done}
+use Rattle.age_file_decrypt.specs.declared.decryption.Stopped.{Stopped}
+use Rattle.age_file_encrypt.specs.declared.encryption.Written.{Written}
+use Rattle.age_file_position.specs.declared.position.PositionPolicy.{PositionPolicy}
 
 -- a secret whose parts have their sizes
 pub record IsSecret (s : SecretView) : Type 0 where
@@ -43,7 +43,7 @@ RoundTrip = (keep : PositionPolicy) (s : SecretView) (max_log : ℕ) (was became
     (written : Written) (e : Encrypts s was became written) (result : Result Done Stopped)
     (run : Option Run) → IsSecret s
     → s.log ≤ max_log
-    → IsClosed (box s.key s.nonce) (unbox s.key s.nonce) chunk_length e.text
+    → HasUnambiguousEnd (box s.key s.nonce) (unbox s.key s.nonce) chunk_length e.text
     → now.source.supply.left ≡ Some e.file
     → let who = passphrase_identity s max_log in let Allows = IsPassphraseKey who in
     DecryptAnswers keep Allows (from_start Allows (PassphraseRefuses who)) now last run result

@@ -17,15 +17,16 @@
 mod laws;
 
 pub use age_fault::FileFault;
-pub use age_inspection::{Report, StanzaReport, StanzaReports, inspect, inspect_sized};
+pub use age_file_decrypt::{
+    Checkpoints, Done, Stopped, authentic_runs, bound_positions, calls_in_a_row, decrypt,
+    decrypt_marked, done_gave_text, head_faults_stay, resume, resume_marked, runs_in_a_row,
+    undamaged_is_written,
+};
+pub use age_file_encrypt::{Preamble, Secret, Written, encrypt, encrypt_after};
+pub use age_file_inspect::{Report, StanzaReport, StanzaReports, inspect, inspect_sized};
+pub use age_file_position::{Position, PositionPolicy};
 pub use age_io::{
-    Failed, Memory, Reading, Sink, Source, Tape, Unsent, Writing, flush_all, write_all,
+    ByteTrace, Failed, Memory, Reading, Sink, Source, WriteFailure, Writing, flush_all, write_all,
 };
 pub use age_memory::{MemSink, MemSource};
-pub use age_opening::{
-    Done, Marks, Stopped, authentic_runs, bound_positions, calls_in_a_row, decrypt, decrypt_marked,
-    done_gave_text, head_faults_stay, resume, resume_marked, runs_in_a_row, undamaged_is_written,
-};
-pub use age_position::{Position, PositionPolicy};
-pub use age_sealing::{Front, Secret, Written, encrypt, encrypt_after};
 pub use laws::{age_file_is_whole, round_trip};

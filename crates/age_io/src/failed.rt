@@ -13,7 +13,7 @@ pub struct Failed;
 /// The error that a sink failed before it took all bytes, or that it could not be flushed.
 #[derive(Clone, Copy, Debug, PartialEq, Eq, Error)]
 #[error("a sink failed")]
-pub struct Unsent;
+pub struct WriteFailure;
 
 /// The error that memory ran out.
 #[derive(Clone, Copy, Debug, PartialEq, Eq, Error)]

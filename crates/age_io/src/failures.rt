@@ -7,19 +7,19 @@ use crate::failed::Failed;
 
 /// A count of the calls of a source or a sink that failed, with whether the last one did.
 #[derive(Clone, Copy, PartialEq, Eq)]
-pub struct Failures {
+pub struct FailureCount {
     /// The number of failed calls, saturating at `u64::MAX`.
     pub count: u64,
     /// `true` if the last call failed.
     pub last: bool,
 }
 
-impl Failures {
+impl FailureCount {
     /// Returns a count of no failures, as before the first call.
-    pub fn none() -> Failures
+    pub fn none() -> FailureCount
         ensures { result ≡ record { count = 0; last = false } }
     {
-        Failures {
+        FailureCount {
             count: 0,
             last: false,
         }

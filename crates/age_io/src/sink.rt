@@ -6,14 +6,14 @@ ghost use Rattle.age_io.specs.Taken.{WriteAppends, Keeps};
 ghost use Rattle.age_io.specs.{one_more, SinkView};
 ghost use Rattle.std.specs.Coded.{coded_ℕ, coded×, coded_bool, coded_list};
 
+use crate::byte_trace::ByteTrace;
 use crate::failed::Failed;
-use crate::failures::Failures;
-use crate::tape::Tape;
+use crate::failures::FailureCount;
 use std::io::Write;
 use std::marker::Model;
 
 /// A sink for bytes, such as a file, a pipe or a vector. Code that writes puts bytes into it, and
-/// it counts the calls that fail. docs/LIBRARY.md has an example, `Measure`.
+/// it counts the calls that fail. docs/LIBRARY.md has an example, `CountingSink`.
 pub trait Sink {
     // The bytes that were taken, and those that it holds, if they are shown, with the name that the
     // sink goes by, so that a set of files can say where its bytes end up; how many puts and flushes
@@ -52,8 +52,8 @@ pub trait Sink {
 #[derive(Drop)]
 pub struct Writing<W: Write> {
     inner: W,
-    failures: Failures,
-    tape: Tape,
+    failures: FailureCount,
+    tape: ByteTrace,
 }
 
 impl<W: Write> Model for Writing<W> {
@@ -71,8 +71,8 @@ impl<W: Write> Writing<W> {
     {
         Writing {
             inner,
-            failures: Failures::none(),
-            tape: Tape::new(),
+            failures: FailureCount::none(),
+            tape: ByteTrace::new(),
         }
     }
 

@@ -4,9 +4,9 @@ ghost use Rattle.std.specs.Prelude.{◌≡◌, ◌≤◌, ℕ, Bool, false, [], 
 ghost use Rattle.age_io.specs.{ReadConsumes, Skips, one_more, SourceView};
 ghost use Rattle.std.specs.Coded.{coded_ℕ, coded×, coded_bool, coded_list};
 
+use crate::byte_trace::ByteTrace;
 use crate::failed::Failed;
-use crate::failures::Failures;
-use crate::tape::Tape;
+use crate::failures::FailureCount;
 use std::io::Read;
 use std::marker::Model;
 
@@ -54,8 +54,8 @@ pub trait Source {
 #[derive(Drop)]
 pub struct Reading<R: Read> {
     inner: R,
-    failures: Failures,
-    tape: Tape,
+    failures: FailureCount,
+    tape: ByteTrace,
     is_at_end: bool,
 }
 
@@ -75,8 +75,8 @@ impl<R: Read> Reading<R> {
     {
         Reading {
             inner,
-            failures: Failures::none(),
-            tape: Tape::new(),
+            failures: FailureCount::none(),
+            tape: ByteTrace::new(),
             is_at_end: false,
         }
     }

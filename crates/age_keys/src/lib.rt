@@ -25,7 +25,7 @@ pub use age_fault::KeyFault;
 pub use age_scrypt::{Steps, WORK_FACTOR_LIMIT};
 pub use key::FileKey;
 pub use laws::passphrase_opens;
-pub use open::{mac_of, open_header, scrypt_not_alone};
+pub use open::{compute_mac, open_header, scrypt_not_alone};
 pub use passphrase::{PASSPHRASE_LIMIT, Passphrase};
 pub use payload::{PayloadKey, payload_key, position_key};
 pub use random::{FileRandom, RANDOM_LEN};

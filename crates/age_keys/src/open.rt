@@ -51,7 +51,7 @@ pub fn scrypt_not_alone(header: &Header) -> bool
 /// Returns the MAC of a header under a file key (<https://c2sp.org/age#header-mac>). Fails only if
 /// memory runs out. Requires [`is_header`](age_stanza::is_header).
 #[tactic(auto, unfolding(crate::specs::Keys::header_mac))]
-pub fn mac_of(alloc: Global, header: &Header, key: &FileKey) -> Result<[u8; 32], KeyFault>
+pub fn compute_mac(alloc: Global, header: &Header, key: &FileKey) -> Result<[u8; 32], KeyFault>
     requires { HasText header.now }
     ensures mac { IfOk result (λ mac. mac ≡ header_mac key.now header.now) }
     ensures bytes { IfOk result IsBytes }
@@ -90,7 +90,7 @@ pub fn open_header<U: Unlock>(
         return Err(KeyFault::ScryptNotAlone);
     }
     let key = unlock.unlock(alloc, header, steps)?;
-    let mac = mac_of(alloc, header, &key)?;
+    let mac = compute_mac(alloc, header, &key)?;
     if header.mac != mac {
         return Err(KeyFault::MacMismatch);
     }

@@ -26,7 +26,7 @@ pub const PASSPHRASE_LIMIT: usize = 65_536;
 /// ([`KeyFault::WorkTooHigh`]), running out of memory for scrypt's table ([`KeyFault::Memory`]),
 /// and a body that opens to no file key under the passphrase ([`KeyFault::WrongKey`]).
 ///
-/// docs/LIBRARY.md has an example of a decryption, `text_of`, for which this is the unlocker.
+/// docs/LIBRARY.md has an example of a decryption, `open_bytes`, for which this is the unlocker.
 /// Contracts see the passphrase and the greatest work factor.
 #[derive(Drop)]
 pub struct Passphrase<'a> {

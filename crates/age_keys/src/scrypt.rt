@@ -13,7 +13,7 @@ ghost use Rattle.age_keys.specs.{scrypt_head};
 ghost use Rattle.age_fault.specs.declared.key.KeyFault.TheVariants.{Memory};
 
 use crate::key::FileKey;
-use crate::open::{is_scrypt, mac_of};
+use crate::open::{compute_mac, is_scrypt};
 use crate::wrap::wrapped_key;
 use age_fault::KeyFault;
 use age_io::Bytes;
@@ -70,7 +70,7 @@ fn is_work_factor(characters: &[u8]) -> bool
 
 /// Parses a work factor, saturating at `u32::MAX`.
 #[tactic(auto, using(crate::proofs::WorkFactorLemmas::digit_numbers))]
-fn number_of(characters: &[u8]) -> u32
+fn parse_decimal(characters: &[u8]) -> u32
     requires { IsWorkFactor characters.now }
     ensures { result ≡ min (digits_value 10 characters.now) 4294967295 }
 {
@@ -116,7 +116,7 @@ impl ScryptStanza {
         }
         Some(ScryptStanza {
             salt: bytes,
-            log: number_of(log.as_slice()),
+            log: parse_decimal(log.as_slice()),
             body: *stanza.body.as_slice().as_array::<32>()?,
         })
     }
@@ -169,7 +169,7 @@ fn scrypt_stanza(
 }
 
 /// Makes a header with one scrypt stanza and a MAC of zeros.
-fn header_of(
+fn build_header(
     alloc: Global,
     salt: &[u8; 16],
     log: u32,
@@ -208,7 +208,7 @@ pub fn scrypt_header(
     ensures memory { IfErr result (λ fault. fault ≡ Memory) }
 {
     let wrap_key = wrap_key(alloc, pass, salt, log, &mut Steps::new())?;
-    let mut header = header_of(alloc, salt, log, &wrapped_key(&wrap_key, key))?;
-    header.mac = mac_of(alloc, &header, key)?;
+    let mut header = build_header(alloc, salt, log, &wrapped_key(&wrap_key, key))?;
+    header.mac = compute_mac(alloc, &header, key)?;
     Ok(header)
 }

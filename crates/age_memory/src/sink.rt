@@ -4,7 +4,7 @@ ghost use Rattle.std.specs.Prelude.{◌≡◌, ◌<◌, ◌≤◌, [], true, fal
 ghost use Rattle.age_io.specs.Taken.{WriteAppends, Keeps};
 ghost use Rattle.age_memory.specs.{Holding, Puts, Flushes, holds};
 
-use age_io::{Failed, Failures, Memory, Sink};
+use age_io::{Failed, FailureCount, Memory, Sink};
 use std::alloc::Global;
 use std::marker::Model;
 
@@ -18,7 +18,7 @@ pub struct MemSink {
     step: usize,
     fail_call: Option<u64>,
     calls: u64,
-    failures: Failures,
+    failures: FailureCount,
     flushed: bool,
 }
 
@@ -69,7 +69,7 @@ impl MemSink {
             step,
             fail_call,
             calls: 0,
-            failures: Failures::none(),
+            failures: FailureCount::none(),
             flushed: false,
         })
     }

@@ -4,7 +4,7 @@ ghost use Rattle.std.specs.Prelude.{◌≡◌, ◌<◌, ◌≤◌, [], length, t
 ghost use Rattle.age_io.specs.{ReadConsumes};
 ghost use Rattle.age_memory.specs.{Feeding, Pulls, memory_supply};
 
-use age_io::{Failed, Failures, Source};
+use age_io::{Failed, FailureCount, Source};
 use std::marker::Model;
 
 /// A source in memory, with a pull that fails by plan. Contracts see the bytes that it gave and
@@ -18,7 +18,7 @@ pub struct MemSource {
     step: usize,
     fail_call: Option<u64>,
     calls: u64,
-    failures: Failures,
+    failures: FailureCount,
     is_at_end: bool,
 }
 
@@ -61,7 +61,7 @@ impl MemSource {
             step,
             fail_call,
             calls: 0,
-            failures: Failures::none(),
+            failures: FailureCount::none(),
             is_at_end: false,
         }
     }

@@ -33,7 +33,7 @@ fn xor_blocks(x: &[u32], y: &[u32], to: &mut [u32])
 
 /// Returns Integerify(x) mod n (RFC 7914, section 5), of a turned block. The lowest word is enough,
 /// since 2^32 is a multiple of `n`, and it is where it was before the turn.
-fn place_of(x: &[u32], n: usize) -> usize
+fn pick_block(x: &[u32], n: usize) -> usize
     requires x { length x.now ≡ 256 }
     requires count { IsCount n }
     ensures below { result < n }
@@ -70,7 +70,7 @@ fn look_up(table: &[u32], x: &mut [u32], y: &mut [u32], n: usize, steps: &mut St
     ensures counted { steps.new ≡ steps.old + n }
 {
     for _round in 0..n {
-        let at = 256 * place_of(x, n);
+        let at = 256 * pick_block(x, n);
         xor_blocks(x, &table[at..at + 256], y);
         block_mix(y, x, steps);
     }

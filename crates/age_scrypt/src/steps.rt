@@ -7,7 +7,7 @@ ghost use Rattle.age_scrypt.specs.inner.{IsTurned};
 
 use crate::part::Part;
 use crate::salsa::salsa20_8;
-use age_io::Tape;
+use age_io::ByteTrace;
 use std::marker::Model;
 
 /// A count of steps, each one BlockMix (RFC 7914, section 4). Nothing else raises it. Contracts see
@@ -15,7 +15,7 @@ use std::marker::Model;
 #[derive(Drop)]
 pub struct Steps {
     // a byte for each
-    tape: Tape,
+    tape: ByteTrace,
 }
 
 impl Model for Steps {
@@ -29,7 +29,9 @@ impl Steps {
     pub fn new() -> Steps
         ensures { result ≡ 0 }
     {
-        Steps { tape: Tape::new() }
+        Steps {
+            tape: ByteTrace::new(),
+        }
     }
 
     /// Counts one more step.

@@ -11,7 +11,7 @@ use Rattle.std.proofs.lemmas.List.{append-nil, append_assoc, append_cancel_left,
 use Rattle.std.proofs.lemmas.List.{take-append-le}
 use Rattle.std.proofs.lemmas.List.Sums.{sum_by-append, sum_by-cons}
 use Rattle.base64.specs.GeneralPurpose.{IsBytes}
-use Rattle.age_stanza.specs.{Stanza, HeadKind, NotAge, Armored, BadStanzaLine, BadBody, BadEndLine, NoStanza, HeadTooLong, HeadCut, Memory, HeadFault, Place}
+use Rattle.age_stanza.specs.{Stanza, HeadKind, NotAge, Armored, BadStanzaLine, BadBody, BadEndLine, NoStanza, HeadTooLong, HeadCut, Memory, HeadFault, LineState}
 use Rattle.age_stanza.specs.{Start, Between, InBody, Go, line, version, stanza_text, end_line, head_text, IsStanza, IsHeader, Spells, Begins, IsLine, AreLines}
 use Rattle.age_stanza.specs.{FirstFault, stanzas_text, RefusesBetween, RefusesLine, line_after, NoFault, HasHeader, IsLineFault, IsFault, head_fault_number}
 use Rattle.age_stanza.specs.inner.{base64_bytes, walk, step, arguments_of, fault_at, bytes_before, IsPlace, LeadTo, UnderWay, Fails}
@@ -41,7 +41,7 @@ line_after-line front l lined = grind (arith, common_steps, append_assoc, line_a
 pub at_start : LeadTo Start 1
 at_start = record { known = tt; reaches = λ rest. refl; line_is = refl; are_lines = inl refl; are_bytes = no_bytes }
 
-pub next_lead : (place next : Place) (n : ℕ) (l : List ℕ) → LeadTo place n → IsLine l → IsBytes l → step place l ≡ Ok (Go next) → LeadTo next (n + 1)
+pub next_lead : (place next : LineState) (n : ℕ) (l : List ℕ) → LeadTo place n → IsLine l → IsBytes l → step place l ≡ Ok (Go next) → LeadTo next (n + 1)
 next_lead place next n l led lined fits e =
     let to = subst (Leads place l) e (leads place l led.known fits) in
     record {
@@ -96,7 +96,7 @@ empty_ends ss args body = step_last ss args body [] [] (omega arith) (subst (λ 
 pub begins_front : (a b : List ℕ) → Begins (a ++ b) → Begins a
 begins_front a b has = (has.0, b ++ has.1, subst (Spells has.0) (append_assoc a b has.1) has.2)
 
-begins : (place : Place) → IsPlace place → Begins (bytes_before place)
+begins : (place : LineState) → IsPlace place → Begins (bytes_before place)
 begins Start known = begins_front [] (stanzas_text []) (begins_between [] tt)
 begins (Between ss) known = begins_between ss known
 begins (InBody ss args body) known =
@@ -129,7 +129,7 @@ not_between ss ts args body n led valid e =
     none-some _ (sym (empty_refused ts end) ∙ sym (stanzas_walk ts (line [] ++ end) valid) ∙ ap (λ (b : List ℕ). walk Start [] (b ++ (line [] ++ end))) (sym e)
     ∙ led.reaches (line [] ++ end) ∙ empty_goes ss args body)
 
-refuses : (place : Place) (n : ℕ) (l : List ℕ) (kind : HeadKind) → LeadTo place n → Reports place l kind → RefusesLine (bytes_before place) l kind
+refuses : (place : LineState) (n : ℕ) (l : List ℕ) (kind : HeadKind) → LeadTo place n → Reports place l kind → RefusesLine (bytes_before place) l kind
 refuses Start n l kind led reported =
     record { first = λ _. reported; between = λ ss valid is. absurd (no_text ss is); in_body = λ some _. absurd (some refl) }
 refuses (Between ss) n l kind led reported =
@@ -147,7 +147,7 @@ no_header : (bytes : List ℕ) → walk Start [] bytes ≡ None → HasHeader by
 no_header bytes none (h, front, rest, text, is) =
     none-some _ (sym none ∙ ap (walk Start []) (is ∙ ap (λ (t : List ℕ). t ++ rest) text.spells.bytes_are) ∙ text_walk h rest text.spells.valid)
 
-walk_within : (place : Place) (l w : List ℕ) → IsLine w → walk place l w ≡ None
+walk_within : (place : LineState) (l w : List ℕ) → IsLine w → walk place l w ≡ None
 unfolding walk
 walk_within place l [] lined = refl
 walk_within place l (c ∷ w) lined = rw (ne_eqb c 10 lined.0) (walk_within place (l ++ c ∷ []) w lined.1)
@@ -157,12 +157,12 @@ none_begun held h = no_header held (ap (walk Start []) h.parts ∙ h.led.reaches
 
 -- ---- a line that is refused
 
-refused_walk : (place : Place) (n : ℕ) (l rest : List ℕ) (kind : HeadKind) → LeadTo place n → IsLine l → step place l ≡ Err kind
+refused_walk : (place : LineState) (n : ℕ) (l rest : List ℕ) (kind : HeadKind) → LeadTo place n → IsLine l → step place l ≡ Err kind
     → walk Start [] (bytes_before place ++ (line l ++ rest)) ≡ None
 refused_walk place n l rest kind led lined e = led.reaches (line l ++ rest) ∙ walk_line place l rest _ lined e
 
 -- no text goes on after it
-no_text_goes_on : (place : Place) (n : ℕ) (l : List ℕ) (kind : HeadKind) → LeadTo place n → IsLine l → step place l ≡ Err kind
+no_text_goes_on : (place : LineState) (n : ℕ) (l : List ℕ) (kind : HeadKind) → LeadTo place n → IsLine l → step place l ≡ Err kind
     → Begins (bytes_before place ++ line l) → ⊥
 no_text_goes_on place n l kind led lined e (h, r, spells) =
     none-some _ (sym (refused_walk place n l r kind led lined e) ∙ ap (walk Start [])
@@ -173,7 +173,7 @@ line_of_kind Memory n not = absurd (not refl)
 line_of_kind kind n not = refl
 
 -- and it is the fault of the bytes
-pub line_fails : (place : Place) (n : ℕ) (l : List ℕ) (kind : HeadKind) → LeadTo place n → IsLine l → IsBytes l → step place l ≡ Err kind
+pub line_fails : (place : LineState) (n : ℕ) (l : List ℕ) (kind : HeadKind) → LeadTo place n → IsLine l → IsBytes l → step place l ≡ Err kind
     → length (bytes_before place ++ line l) ≤ 1048576 → Fails (fault_at kind n) (bytes_before place ++ line l)
 line_fails place n l kind led lined fits e room =
     let bytes = bytes_before place ++ line l in

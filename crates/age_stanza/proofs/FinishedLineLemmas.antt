@@ -4,7 +4,7 @@ use Rattle.std.proofs.Common.{◌≡◌, ℕ, ◌+◌, ◌<◌, List, [], ◌∷
 use Rattle.std.specs.Prelude.{◌⊎◌}
 use Rattle.std.proofs.lemmas.List.{append-nil, append_assoc, length-append, take_all, take_at}
 use Rattle.base64.specs.GeneralPurpose.{IsBytes}
-use Rattle.age_stanza.specs.{Header, HeadFault, HeadKind, HeadCut, HeadTooLong, Memory, Place, Go, line, Spells, IsLine, AreLines, line_after}
+use Rattle.age_stanza.specs.{Header, HeadFault, HeadKind, HeadCut, HeadTooLong, Memory, LineState, Go, line, Spells, IsLine, AreLines, line_after}
 use Rattle.age_stanza.specs.declared.place.Next.TheVariants.{Done}
 use Rattle.age_stanza.specs.inner.{step, fault_at, bytes_before, Fails, IsPartial, IsUnfinished, LeadTo}
 use Rattle.age_stanza.proofs.TextLemmas.{no_bytes, IsBytes-append, IsLine-append}
@@ -15,7 +15,7 @@ use Rattle.age_stanza.proofs.FaultLemmas.{line_after-begun, line_after-line, at_
 -- ---- a begun line
 
 -- finished lines and a begun one hold no header and no fault
-pub under_way : (place : Place) (bytes lines : ℕ) (l held : List ℕ) → IsPartial place l bytes lines → bytes_before place ++ l ≡ held → IsUnfinished held
+pub under_way : (place : LineState) (bytes lines : ℕ) (l held : List ℕ) → IsPartial place l bytes lines → bytes_before place ++ l ≡ held → IsUnfinished held
 under_way place bytes lines l held known is = grind (arith, common_steps, IsBytes-append)
 
 -- nothing came yet
@@ -25,11 +25,11 @@ nothing_under_way = grind (arith, common_steps, at_start, no_bytes)
 -- ---- the number of the line
 
 -- the begun line is the one after the finished ones
-pub begun_number : (place : Place) (n : ℕ) (l : List ℕ) → LeadTo place n → IsLine l → n ≡ line_after (bytes_before place ++ l)
+pub begun_number : (place : LineState) (n : ℕ) (l : List ℕ) → LeadTo place n → IsLine l → n ≡ line_after (bytes_before place ++ l)
 begun_number place n l led lined = led.line_is ∙ sym (line_after-begun (bytes_before place) l lined)
 
 -- the fault of a header that the input's end cuts
-pub cut_here : (place : Place) (bytes lines : ℕ) (l held : List ℕ) → IsPartial place l bytes lines → bytes_before place ++ l ≡ held
+pub cut_here : (place : LineState) (bytes lines : ℕ) (l held : List ℕ) → IsPartial place l bytes lines → bytes_before place ++ l ≡ held
     → ◌≡◌ {A = HeadFault} (record { kind = HeadCut; line = lines + 1 }) (record { kind = HeadCut; line = line_after held })
 cut_here place bytes lines l held known is =
     ap (λ n. record { kind = HeadCut; line = n }) (begun_number place (lines + 1) l known.lead_to known.one_line ∙ ap line_after is)
@@ -38,12 +38,12 @@ cut_here place bytes lines l held known is =
 last_finished : (held : List ℕ) (lines n : ℕ) → AreLines held → length held ≡ n + 1 → lines + 1 ≡ line_after held → lines ≡ line_after (take n held)
 last_finished held lines n h0 h1 h2 = grind (arith, common_steps, length-append, line_after-line, take_at)
 
-pub finished_number : (place : Place) (lines n : ℕ) (l held : List ℕ) → LeadTo place (lines + 1) → length l ≡ 0 → bytes_before place ++ l ≡ held
+pub finished_number : (place : LineState) (lines n : ℕ) (l held : List ℕ) → LeadTo place (lines + 1) → length l ≡ 0 → bytes_before place ++ l ≡ held
     → length held ≡ n + 1 → lines ≡ line_after (take n held)
 finished_number place lines n l held h0 h1 h2 h3 = grind (arith, common_steps, append-nil, last_finished)
 
 -- the line of the last byte, if that is a character of the begun line
-pub begun_number_of_last : (place : Place) (k n : ℕ) (l held : List ℕ) → LeadTo place k → IsLine l → (length l ≡ 0 → ⊥) → bytes_before place ++ l ≡ held
+pub begun_number_of_last : (place : LineState) (k n : ℕ) (l held : List ℕ) → LeadTo place k → IsLine l → (length l ≡ 0 → ⊥) → bytes_before place ++ l ≡ held
     → length held ≡ n + 1 → k ≡ line_after (take n held)
 begun_number_of_last place k n [] held led lined some is size = absurd (some refl)
 begun_number_of_last place k n (x ∷ xs) held led lined some is size =
@@ -69,7 +69,7 @@ too_long held k known long is =
 
 -- ---- the end of a line
 
-module _ (place : Place) (bytes lines : ℕ) (l more held : List ℕ) (known : IsPartial place l bytes lines) (is : bytes_before place ++ l ≡ held)
+module _ (place : LineState) (bytes lines : ℕ) (l more held : List ℕ) (known : IsPartial place l bytes lines) (is : bytes_before place ++ l ≡ held)
     (more_lined : IsLine more) (more_fits : IsBytes more) (room : length held + length more < 1048576) where
   joined : bytes_before place ++ line (l ++ more) ≡ held ++ line more
   joined = rw (← is) (simp append_assoc)
@@ -88,7 +88,7 @@ module _ (place : Place) (bytes lines : ℕ) (l more held : List ℕ) (known : I
       omega (arith, long, ap length is, length-append held (line more), length-append more (10 ∷ []))
 
   -- what is kept after a finished line, and the bytes that led to the next place
-  pub ended : (next : Place) → step place (l ++ more) ≡ Ok (Go next)
+  pub ended : (next : LineState) → step place (l ++ more) ≡ Ok (Go next)
       → IsPartial next [] (bytes + length more + 1) (lines + 1) × (bytes_before next ++ [] ≡ held ++ line more)
   ended next e =
       let whole : bytes_before next ++ [] ≡ held ++ line more = append-nil (bytes_before next) ∙ (subst (Leads place (l ++ more)) e to).0 ∙ joined in (

@@ -11,7 +11,7 @@ use Rattle.std.proofs.lemmas.List.Concat.{flat_map-append}
 use Rattle.std.proofs.lemmas.Option.{none-some, same_Some}
 use Rattle.std.proofs.lemmas.Slice.Eq.{bytes_eq-Decides}
 use Rattle.base64.specs.GeneralPurpose.{IsBytes}
-use Rattle.age_stanza.specs.{Stanza, Header, HeadKind, NotAge, Armored, BadBody, Memory, Place, Start, Between, InBody, Go, base64_text, line, version}
+use Rattle.age_stanza.specs.{Stanza, Header, HeadKind, NotAge, Armored, BadBody, Memory, LineState, Start, Between, InBody, Go, base64_text, line, version}
 use Rattle.age_stanza.specs.{IsArgument, argument_line, in_lines, stanza_text, end_line, head_text, IsStanza, IsHeader, Spells, HeadText, mac_text, IsLine}
 use Rattle.age_stanza.specs.{stanzas_text, armor, IsEndLine, RefusesBetween}
 use Rattle.age_stanza.specs.declared.place.Next.{Next}
@@ -65,13 +65,13 @@ stanzas_pushed ss s = grind (arith, common_steps, append-nil, append_assoc, flat
 -- ---- what a line leads to
 
 -- what is reported of a line that is refused at a place
-abbrev pub Reports : Place → List ℕ → HeadKind → Type 0
+abbrev pub Reports : LineState → List ℕ → HeadKind → Type 0
 Reports Start l kind = kind ≡ cond (bytes_eq l armor || bytes_eq l (armor ++ 13 ∷ [])) Armored NotAge
 Reports (Between ss) l kind = RefusesBetween l kind
 Reports (InBody ss args body) l kind = kind ≡ BadBody
 
 -- a line is refused, or its bytes were added to those before the place, or to those of a header
-abbrev pub Leads : Place → List ℕ → Result Next HeadKind → Type 0
+abbrev pub Leads : LineState → List ℕ → Result Next HeadKind → Type 0
 Leads place l (Err kind) = Reports place l kind × (kind ≡ Memory → ⊥)
 Leads place l (Ok (Go next)) = (bytes_before next ≡ bytes_before place ++ line l) × IsPlace next
 Leads place l (Ok (Done h)) = (head_text h ≡ bytes_before place ++ line l) × IsHeader h
@@ -132,7 +132,7 @@ leads_body ss args body l false (Some more) known fits le long is =
       All-append IsStanza ss (s ∷ []) known.0 (valid, tt),
     )
 
-pub leads : (place : Place) (l : List ℕ) → IsPlace place → IsBytes l → Leads place l (step place l)
+pub leads : (place : LineState) (l : List ℕ) → IsPlace place → IsBytes l → Leads place l (step place l)
 unfolding step
 leads place l h0 h1 = grind (arith, common_steps, append-nil, cond_both, bytes_eq-Decides, leads_begun, leads_body, leads_ended, ltb-false)
 
@@ -150,14 +150,14 @@ end_line_line mac = IsLine-append (codes "--- ") (base64_text mac) (line_from_te
 
 -- ---- a walk over one line
 
-pub walk_text : (place : Place) (l w cs : List ℕ) → IsLine w → walk place l (line w ++ cs) ≡ after cs (λ next. walk next [] cs) (step place (l ++ w))
+pub walk_text : (place : LineState) (l w cs : List ℕ) → IsLine w → walk place l (line w ++ cs) ≡ after cs (λ next. walk next [] cs) (step place (l ++ w))
 unfolding walk
 walk_text place l [] cs lined = rw append-nil refl
 walk_text place l (c ∷ w) cs lined =
     rw (ne_eqb c 10 lined.0)
     (walk_text place (l ++ c ∷ []) w cs lined.1 ∙ ap (λ (x : List ℕ). after cs (λ next. walk next [] cs) (step place x)) (append_assoc l (c ∷ []) w))
 
-pub walk_line : (place : Place) (w cs : List ℕ) (leads_to : Result Next HeadKind) → IsLine w → step place w ≡ leads_to
+pub walk_line : (place : LineState) (w cs : List ℕ) (leads_to : Result Next HeadKind) → IsLine w → step place w ≡ leads_to
     → walk place [] (line w ++ cs) ≡ after cs (λ q. walk q [] cs) leads_to
 walk_line place w cs leads_to lined e = walk_text place [] w cs lined ∙ ap (after cs (λ q. walk q [] cs)) e
 

@@ -25,5 +25,5 @@ pub use Rattle.age_stanza.specs.declared.header.Header.{Header}
 pub use Rattle.age_stanza.specs.declared.header.Stanza.{Stanza}
 pub use Rattle.age_stanza.specs.declared.parser.State.TheVariants.{Failed}
 pub use Rattle.age_stanza.specs.declared.place.Next.TheVariants.{Go}
-pub use Rattle.age_stanza.specs.declared.place.Place.{Place}
-pub use Rattle.age_stanza.specs.declared.place.Place.TheVariants.{Between, InBody, Start}
+pub use Rattle.age_stanza.specs.declared.place.LineState.{LineState}
+pub use Rattle.age_stanza.specs.declared.place.LineState.TheVariants.{Between, InBody, Start}

@@ -2,13 +2,13 @@
 use Rattle.std.specs.Prelude.{ℕ, List}
 use Rattle.base64.specs.GeneralPurpose.{encode_of}
 use Rattle.base64.specs.Engines.{standard_no_pad}
-use Rattle.age_stanza.specs.declared.argument.Letters.{Letters}
-use Rattle.age_stanza.specs.declared.argument.Letters.TheVariants.{Short, Long}
+use Rattle.age_stanza.specs.declared.argument.ArgumentBytes.{ArgumentBytes}
+use Rattle.age_stanza.specs.declared.argument.ArgumentBytes.TheVariants.{Short, Long}
 
 -- ---- The contract view of an argument.
 
 -- the bytes of an argument
-abbrev pub letters_of : Letters → List ℕ
+abbrev pub letters_of : ArgumentBytes → List ℕ
 letters_of (Short short) = short.items
 letters_of (Long long) = long.value.items
 

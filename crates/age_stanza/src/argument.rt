@@ -9,7 +9,7 @@ use std::marker::Model;
 
 /// The bytes of an argument, by where they are stored.
 #[derive(Drop)]
-enum Letters {
+enum ArgumentBytes {
     /// The bytes in the value itself.
     Short(ArrayVec<u8, 8>),
     /// The bytes in an allocation. It is a box, since a `Vec` would make each argument 32 bytes
@@ -22,7 +22,7 @@ enum Letters {
 /// none for each. Contracts see the list of the argument's bytes.
 #[derive(Drop)]
 pub struct Argument {
-    letters: Letters,
+    letters: ArgumentBytes,
 }
 
 impl Model for Argument {
@@ -43,8 +43,8 @@ impl Argument {
         ensures refused { OnErr result (8 < length bytes.now) }
     {
         let letters = match ArrayVec::try_from(bytes) {
-            Ok(short) => Letters::Short(short),
-            Err(_) => Letters::Long(Box::new(alloc, Vec::from_slice(alloc, bytes)?)?),
+            Ok(short) => ArgumentBytes::Short(short),
+            Err(_) => ArgumentBytes::Long(Box::new(alloc, Vec::from_slice(alloc, bytes)?)?),
         };
         Ok(Argument { letters })
     }
@@ -54,8 +54,8 @@ impl Argument {
         ensures { result.now ≡ self.now }
     {
         match &self.letters {
-            Letters::Short(short) => short.as_slice(),
-            Letters::Long(long) => long.as_slice(),
+            ArgumentBytes::Short(short) => short.as_slice(),
+            ArgumentBytes::Long(long) => long.as_slice(),
         }
     }
 

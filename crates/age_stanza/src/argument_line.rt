@@ -69,7 +69,7 @@ fn arguments_in(alloc: Global, letters: &[u8]) -> Result<Option<Arguments>, Allo
 
 /// Parses an argument line, without its LF. Returns `None` if it isn't one.
 #[tactic(auto, unfolding(crate::specs::inner::LineMachine::arguments_of))]
-pub(crate) fn arguments_of(alloc: Global, line: &[u8]) -> Result<Option<Arguments>, AllocError>
+pub(crate) fn split_arguments(alloc: Global, line: &[u8]) -> Result<Option<Arguments>, AllocError>
     ensures { IfOk result (λ r. r ≡ spec_arguments_of line.now) }
 {
     if !line.starts_with(b"-> ") {

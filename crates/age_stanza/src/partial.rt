@@ -8,7 +8,7 @@ ghost use Rattle.age_stanza.specs.inner.LineMachine.{fault_at as spec_fault_at, 
 ghost use Rattle.age_stanza.specs.inner.LineMachine.{IsUnfinished};
 
 use crate::header::Header;
-use crate::place::{Next, Place, step};
+use crate::place::{LineState, Next, step};
 use age_fault::{HeadFault, HeadKind};
 use std::alloc::Global;
 use std::marker::Model;
@@ -19,7 +19,7 @@ use std::mem;
 /// kept as text. Contracts see the bytes that were read.
 #[derive(Drop)]
 pub(crate) struct PartialHeader {
-    place: Place,
+    place: LineState,
     line: Vec<u8>,
     bytes: usize,
     finished_lines: u64,
@@ -50,7 +50,7 @@ fn fault_at(kind: HeadKind, line: u64) -> HeadFault
 /// is empty.
 fn step_whole(
     alloc: Global,
-    place: Place,
+    place: LineState,
     kept: &mut Vec<u8>,
     last: &[u8],
 ) -> Result<Next, HeadKind>
@@ -78,7 +78,7 @@ impl PartialHeader {
         ensures { result ≡ [] }
     {
         PartialHeader {
-            place: Place::Start,
+            place: LineState::Start,
             line: Vec::new(alloc),
             bytes: 0,
             finished_lines: 0,

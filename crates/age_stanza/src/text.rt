@@ -46,7 +46,7 @@ pub fn read_base64(characters: &[u8], bytes: &mut [u8]) -> bool
 }
 
 /// Decodes the MAC of an end line, without its LF. Returns `None` if it isn't an end line.
-pub(crate) fn mac_of(line: &[u8]) -> Option<[u8; 32]>
+pub(crate) fn parse_mac(line: &[u8]) -> Option<[u8; 32]>
     ensures { result ≡ spec_mac_of line.now }
 {
     if !line.starts_with(b"--- ") {

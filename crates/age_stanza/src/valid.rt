@@ -48,7 +48,7 @@ fn room_after_arguments(room: usize, args: &[Argument]) -> Option<usize>
 
 /// Returns the number of characters in the base64 of some bytes, without padding.
 #[tactic(auto, using(crate::proofs::TextLengthLemmas::text_characters))]
-fn characters_of(bytes: &[u8]) -> usize
+fn count_characters(bytes: &[u8]) -> usize
     requires { length bytes.now ≤ header_limit }
     ensures len { result ≡ length (base64_text bytes.now) }
     ensures value { result ≡ (4 * length bytes.now + 2) / 3 }
@@ -66,7 +66,7 @@ fn room_after_body(room: usize, body: &[u8]) -> Option<usize>
     if room < body.len() {
         return None;
     }
-    let characters = characters_of(body);
+    let characters = count_characters(body);
     room.checked_sub(characters + characters / COLUMNS + 1)
 }
 
@@ -86,7 +86,7 @@ pub(crate) fn text_len(header: &Header) -> Option<usize>
     ensures { IsHeaderLength header.now result }
 {
     let version_line = VERSION.len() + 1;
-    let end_line = 4 + characters_of(&header.mac) + 1;
+    let end_line = 4 + count_characters(&header.mac) + 1;
     let mut left = HEAD_MAX - version_line - end_line;
     for stanza in header.stanzas.as_slice() {
         left = room_after_stanza(left, stanza)?;

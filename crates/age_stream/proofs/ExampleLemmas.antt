@@ -3,7 +3,7 @@ use Rattle.std.proofs.Common.{◌≡◌, ◌-◌, rules, ℕ, List, [], ◌∷�
 use Rattle.std.specs.Prelude.{codes}
 use Rattle.age_chunk.specs.{clear_sealing, clear_opening, clear_mark, nonce_bytes, chunk_limit, payload}
 use Rattle.age_chunk.specs.declared.fault.StreamKind.TheVariants.{ChunkDamaged, ChunkCut, EmptyLast, Truncated, Trailing, TooManyChunks}
-use Rattle.age_stream.specs.{standing, text_held, Outcome, outcome, failed, Status, Delivery, Piece, End, Restart, Open, LastSeen, Done}
+use Rattle.age_stream.specs.{reader_state, released_text, Outcome, outcome, failed, Status, Delivery, Piece, End, Restart, Open, LastSeen, Done}
 
 abbrev first : List ℕ
 first = 97 ∷ 98 ∷ 99 ∷ 100 ∷ 0 ∷ 0 ∷ 0 ∷ 0 ∷ 0 ∷ 0 ∷ 0 ∷ 0 ∷ 0 ∷ 0 ∷ 0 ∷ 0 ∷ 0 ∷ 0 ∷ 0 ∷ 0 ∷ []
@@ -28,9 +28,9 @@ piece bytes = Piece (record { ref_ptr = (0, 0); now = bytes })
 
 abbrev held : List Delivery → (List ℕ × Status) × (ℕ × ℕ)
 held deliveries =
-    let s = standing clear_opening 4 deliveries in
+    let s = reader_state clear_opening 4 deliveries in
     let o = outcome clear_opening 4 s.segment in
-    ((text_held clear_opening 4 s, o.status), (o.index, s.refused))
+    ((released_text clear_opening 4 s, o.status), (o.index, s.refused))
 
 record Examples : Type 0 where
   eight_bytes_sealed : payload clear_sealing 4 (codes "abcdefgh") ≡ both

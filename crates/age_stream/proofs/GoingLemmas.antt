@@ -15,7 +15,7 @@ use Rattle.age_chunk.specs.{OpensBlock, tag_length, nonce_bytes, IsChunkBox, Sea
 use Rattle.age_chunk.specs.declared.fault.StreamKind.TheVariants.{ChunkDamaged, TooManyChunks}
 use Rattle.age_chunk.proofs.{first_chunks-append, nonce_bytes-length}
 use Rattle.age_stream.specs.Segment.{Segment}
-use Rattle.age_stream.specs.{Outcome, Frontier, outcome, stop, verdict, is_waiting, block_at, front_texts, text_then, text_before_last, whole_blocks}
+use Rattle.age_stream.specs.{Outcome, Frontier, outcome, stop, verdict, is_waiting, block_at, leading_plaintexts, text_then, text_before_last, whole_blocks}
 use Rattle.age_stream.specs.{rest_bytes, with_piece, with_end, Open, fresh, stays, failed, released, IsPrefixOf, PiecesJoin, Status, IsCounted, counted_chunks}
 use Rattle.age_stream.specs.inner.{after_front, one_block, final_block, status_after, status_ended}
 use Rattle.age_stream.proofs.TableLemmas.{after, beside, block_full, by_lines, bytes_status, fault_after, frontier, length-whole_blocks, line_waiting}
@@ -89,27 +89,27 @@ block_on n block more full = grind (arith, common_steps, blocks_on, full_bytes)
 
 module _ (opening : OpensBlock) where
   -- if all these blocks open as before the last, the next ones go on from there
-  on_step : (o : Option (List ℕ)) (xs ys : List (List ℕ)) (i : ℕ) → (length (front_texts opening (i + 1) xs) ≡ length xs
-      → front_texts opening (i + 1) (xs ++ ys) ≡ front_texts opening (i + 1) xs ++ front_texts opening (i + 1 + length xs) ys)
-      → length (text_then opening o (front_texts opening (i + 1) xs)) ≡ suc (length xs)
-      → text_then opening o (front_texts opening (i + 1) (xs ++ ys)) ≡ text_then opening o (front_texts opening (i + 1) xs) ++ front_texts opening
+  on_step : (o : Option (List ℕ)) (xs ys : List (List ℕ)) (i : ℕ) → (length (leading_plaintexts opening (i + 1) xs) ≡ length xs
+      → leading_plaintexts opening (i + 1) (xs ++ ys) ≡ leading_plaintexts opening (i + 1) xs ++ leading_plaintexts opening (i + 1 + length xs) ys)
+      → length (text_then opening o (leading_plaintexts opening (i + 1) xs)) ≡ suc (length xs)
+      → text_then opening o (leading_plaintexts opening (i + 1) (xs ++ ys)) ≡ text_then opening o (leading_plaintexts opening (i + 1) xs) ++ leading_plaintexts opening
       (i + suc (length xs)) ys
   on_step o xs ys i h1 h2 = grind (arith, common_steps)
 
-  pub front_on : (xs ys : List (List ℕ)) (i : ℕ) → length (front_texts opening i xs) ≡ length xs → front_texts opening i (xs ++ ys)
-      ≡ front_texts opening i xs ++ front_texts opening (i + length xs) ys
-  front_on [] ys i h = let e : i ≡ i + 0 = omega arith in ap (λ (k : ℕ). front_texts opening k ys) e
+  pub front_on : (xs ys : List (List ℕ)) (i : ℕ) → length (leading_plaintexts opening i xs) ≡ length xs → leading_plaintexts opening i (xs ++ ys)
+      ≡ leading_plaintexts opening i xs ++ leading_plaintexts opening (i + length xs) ys
+  front_on [] ys i h = let e : i ≡ i + 0 = omega arith in ap (λ (k : ℕ). leading_plaintexts opening k ys) e
   front_on (x ∷ xs) ys i h = on_step (text_before_last opening i x) xs ys i (λ g. front_on xs ys (i + 1) g) h
 
   -- if some block doesn't, more blocks change nothing
-  stays_step : (o : Option (List ℕ)) (xs ys : List (List ℕ)) (i : ℕ) → (length (front_texts opening (i + 1) xs) < length xs
-      → front_texts opening (i + 1) (xs ++ ys) ≡ front_texts opening (i + 1) xs)
-      → length (text_then opening o (front_texts opening (i + 1) xs)) < suc (length xs)
-      → text_then opening o (front_texts opening (i + 1) (xs ++ ys)) ≡ text_then opening o (front_texts opening (i + 1) xs)
+  stays_step : (o : Option (List ℕ)) (xs ys : List (List ℕ)) (i : ℕ) → (length (leading_plaintexts opening (i + 1) xs) < length xs
+      → leading_plaintexts opening (i + 1) (xs ++ ys) ≡ leading_plaintexts opening (i + 1) xs)
+      → length (text_then opening o (leading_plaintexts opening (i + 1) xs)) < suc (length xs)
+      → text_then opening o (leading_plaintexts opening (i + 1) (xs ++ ys)) ≡ text_then opening o (leading_plaintexts opening (i + 1) xs)
   stays_step o xs ys i h1 h2 = grind (arith, common_steps)
 
-  pub front_stays : (xs ys : List (List ℕ)) (i : ℕ) → length (front_texts opening i xs) < length xs → front_texts opening i (xs ++ ys)
-      ≡ front_texts opening i xs
+  pub front_stays : (xs ys : List (List ℕ)) (i : ℕ) → length (leading_plaintexts opening i xs) < length xs → leading_plaintexts opening i (xs ++ ys)
+      ≡ leading_plaintexts opening i xs
   front_stays [] ys i h = absurd (omega arith)
   front_stays (x ∷ xs) ys i h = stays_step (text_before_last opening i x) xs ys i (λ g. front_stays xs ys (i + 1) g) h
 
@@ -145,7 +145,7 @@ module _ (opening : OpensBlock) (n : ℕ) where
   -- the segment is open: it had no end, and each whole block opened as one before the last
   pub record IsGoing (s : Segment) : Type 0 where
     pub unended : s.ended ≡ false
-    pub all : length (front_texts opening s.start (whole_blocks n s.bytes)) ≡ length (whole_blocks n s.bytes)
+    pub all : length (leading_plaintexts opening s.start (whole_blocks n s.bytes)) ≡ length (whole_blocks n s.bytes)
 
   pub going : (s : Segment) → (outcome opening n s).status ≡ Open → IsGoing s
   going s h =
@@ -174,7 +174,7 @@ module _ (opening : OpensBlock) (n : ℕ) where
       let low : (m + 1) * z ≤ length s.bytes = (le-div_iff_mul-le pos).0 (omega (arith, lt)) in
       let step : (m + 1) * z ≡ m * z + z = omega arith in
       let next : Segment = record { start = s.start; bytes = s.bytes ++ p; ended = false; late = s.late } in
-      let texts : front_texts opening s.start (whole_blocks n next.bytes) ≡ b.texts = ap (front_texts opening s.start) (blocks_on n s.bytes p)
+      let texts : leading_plaintexts opening s.start (whole_blocks n next.bytes) ≡ b.texts = ap (leading_plaintexts opening s.start) (blocks_on n s.bytes p)
       ∙ front_stays opening (whole_blocks n s.bytes) (whole_blocks n (rest_bytes n s.bytes ++ p)) s.start (omega (arith, lt, length-whole_blocks n s)) in
       let block : block_at n next.bytes m ≡ b.block = ap (take z) (drop-append-le (m * z) s.bytes p (omega (arith, low, step)))
       ∙ take-append-le z (drop (m * z) s.bytes) p (omega (arith, length-drop (m * z) s.bytes, low, step)) in
@@ -206,15 +206,15 @@ module _ (opening : OpensBlock) (n : ℕ) where
   -- an open segment's outcome
   pub going_outcome : (s : Segment) → IsGoing s
       → outcome opening n s ≡ record {
-        texts = front_texts opening s.start (whole_blocks n s.bytes);
-        index = s.start + length (front_texts opening s.start (whole_blocks n s.bytes));
+        texts = leading_plaintexts opening s.start (whole_blocks n s.bytes);
+        index = s.start + length (leading_plaintexts opening s.start (whole_blocks n s.bytes));
         status = Open;
       }
   going_outcome s g = grind (arith, common_steps, length-whole_blocks, line_waiting, not_whole, outcome_is)
 
   -- an end of it
   pub going_end : (s : Segment) → IsGoing s → s.late ≡ false
-      → let texts = front_texts opening s.start (whole_blocks n s.bytes) in
+      → let texts = leading_plaintexts opening s.start (whole_blocks n s.bytes) in
       outcome opening n (with_end s) ≡ prepend texts (final_block opening [] (s.start + length texts) (rest_bytes n s.bytes) false true)
   going_end s g timely =
       grind (arith, common_steps, le-ltb, length-drop, length-whole_blocks, not_whole, outcome_is, rest_is, rest_short, verdict-prepend)
@@ -232,13 +232,13 @@ module _ (opening : OpensBlock) (n : ℕ) where
       let blocks : whole_blocks n (s.bytes ++ p) ≡ whole_blocks n s.bytes =
       blocks_on n s.bytes p ∙ (ap (λ (bs : List (List ℕ)). whole_blocks n s.bytes ++ bs) part.0 ∙ append-nil (whole_blocks n s.bytes)) in
       let F : List (List ℕ) → Outcome = λ bs. record {
-        texts = front_texts opening s.start bs;
-        index = s.start + length (front_texts opening s.start bs);
+        texts = leading_plaintexts opening s.start bs;
+        index = s.start + length (leading_plaintexts opening s.start bs);
         status = Open;
       } in
       let on : IsGoing next = record {
         unended = refl;
-        all = ap (λ (bs : List (List ℕ)). length (front_texts opening s.start bs)) blocks
+        all = ap (λ (bs : List (List ℕ)). length (leading_plaintexts opening s.start bs)) blocks
             ∙ (g.all ∙ sym (ap length blocks));
       } in
       record {
@@ -253,7 +253,7 @@ module _ (opening : OpensBlock) (n : ℕ) where
 
   pub going_whole : (s : Segment) (p : List ℕ) → IsGoing s → s.late ≡ false → length (rest_bytes n s.bytes) + length p ≡ n + tag_length → IsWhole s p
   going_whole s p g timely h =
-      let texts = front_texts opening s.start (whole_blocks n s.bytes) in
+      let texts = leading_plaintexts opening s.start (whole_blocks n s.bytes) in
       let i = s.start + length texts in
       let b = rest_bytes n s.bytes ++ p in
       let e = unended_piece s p g.unended in
@@ -270,22 +270,22 @@ module _ (opening : OpensBlock) (n : ℕ) where
           blocks_on n s.bytes p
           ∙ ap (λ (bs : List (List ℕ)). whole_blocks n s.bytes ++ bs) (full_bytes n (rest_bytes n s.bytes ++ p) (length-append (rest_bytes n s.bytes) p ∙ h)).0
 
-      front : front_texts opening s.start (whole_blocks n (s.bytes ++ p))
-          ≡ front_texts opening s.start (whole_blocks n s.bytes)
-          ++ text_then opening (text_before_last opening (s.start + length (front_texts opening s.start (whole_blocks n s.bytes))) (rest_bytes n s.bytes ++ p)) []
+      front : leading_plaintexts opening s.start (whole_blocks n (s.bytes ++ p))
+          ≡ leading_plaintexts opening s.start (whole_blocks n s.bytes)
+          ++ text_then opening (text_before_last opening (s.start + length (leading_plaintexts opening s.start (whole_blocks n s.bytes))) (rest_bytes n s.bytes ++ p)) []
       front =
-          ap (front_texts opening s.start) more
+          ap (leading_plaintexts opening s.start) more
           ∙ (front_on opening (whole_blocks n s.bytes) ((rest_bytes n s.bytes ++ p) ∷ []) s.start g.all
-          ∙ ap (λ (k : ℕ). front_texts opening s.start (whole_blocks n s.bytes) ++ front_texts opening (s.start + k) ((rest_bytes n s.bytes ++ p) ∷ [])) (sym g.all))
+          ∙ ap (λ (k : ℕ). leading_plaintexts opening s.start (whole_blocks n s.bytes) ++ leading_plaintexts opening (s.start + k) ((rest_bytes n s.bytes ++ p) ∷ [])) (sym g.all))
 
       -- by the text of the block, if it opened as one before the last
       by_text : (o : Option (List ℕ))
-          → front_texts opening s.start (whole_blocks n (s.bytes ++ p)) ≡ front_texts opening s.start (whole_blocks n s.bytes) ++ text_then opening o []
+          → leading_plaintexts opening s.start (whole_blocks n (s.bytes ++ p)) ≡ leading_plaintexts opening s.start (whole_blocks n s.bytes) ++ text_then opening o []
           → outcome opening n (record { start = s.start; bytes = s.bytes ++ p; ended = false; late = s.late })
-          ≡ prepend (front_texts opening s.start (whole_blocks n s.bytes))
-          (after_front opening o (s.start + length (front_texts opening s.start (whole_blocks n s.bytes))) (rest_bytes n s.bytes ++ p))
+          ≡ prepend (leading_plaintexts opening s.start (whole_blocks n s.bytes))
+          (after_front opening o (s.start + length (leading_plaintexts opening s.start (whole_blocks n s.bytes))) (rest_bytes n s.bytes ++ p))
       by_text (Some t) front =
-          let texts = front_texts opening s.start (whole_blocks n s.bytes) in
+          let texts = leading_plaintexts opening s.start (whole_blocks n s.bytes) in
           let next : Segment = record { start = s.start; bytes = s.bytes ++ p; ended = false; late = s.late } in
           let count : length (texts ++ t ∷ []) ≡ length texts + 1 = length-append texts (t ∷ []) in
           let blocks = ap length more ∙ length-append (whole_blocks n s.bytes) ((rest_bytes n s.bytes ++ p) ∷ []) in
@@ -295,7 +295,7 @@ module _ (opening : OpensBlock) (n : ℕ) where
           ∙ ap (λ (k : ℕ). record { texts = texts ++ t ∷ []; index = k; status = Open }) i)
       by_text None front =
           let z = n + tag_length in
-          let texts = front_texts opening s.start (whole_blocks n s.bytes) in
+          let texts = leading_plaintexts opening s.start (whole_blocks n s.bytes) in
           let m = length texts in
           let q = length s.bytes / z in
           let b = rest_bytes n s.bytes ++ p in
@@ -336,7 +336,7 @@ module _ (opening : OpensBlock) (n : ℕ) where
     pub index : o.index ≡ i
 
   -- a segment stands at the block after those in front, with their texts
-  pub stands_at : (s : Segment) → let texts = front_texts opening s.start (whole_blocks n s.bytes) in
+  pub stands_at : (s : Segment) → let texts = leading_plaintexts opening s.start (whole_blocks n s.bytes) in
       StopsAt texts (s.start + length texts) (outcome opening n s)
   stands_at s =
       let b = stop opening n s in
@@ -357,10 +357,10 @@ module _ (opening : OpensBlock) (n : ℕ) where
       let next : Segment = record { start = s.start; bytes = s.bytes ++ p; ended = false; late = s.late } in
       let there = ap (outcome opening n) (unended_piece s p g.unended) in
       let b = stands_at next in
-      let texts = front_texts opening s.start (whole_blocks n s.bytes) in
-      let rest = front_texts opening (s.start + length (whole_blocks n s.bytes)) (whole_blocks n (rest_bytes n s.bytes ++ p)) in
-      let on : front_texts opening s.start (whole_blocks n next.bytes) ≡ texts ++ rest =
-      ap (front_texts opening s.start) (blocks_on n s.bytes p)
+      let texts = leading_plaintexts opening s.start (whole_blocks n s.bytes) in
+      let rest = leading_plaintexts opening (s.start + length (whole_blocks n s.bytes)) (whole_blocks n (rest_bytes n s.bytes ++ p)) in
+      let on : leading_plaintexts opening s.start (whole_blocks n next.bytes) ≡ texts ++ rest =
+      ap (leading_plaintexts opening s.start) (blocks_on n s.bytes p)
       ∙ front_on opening (whole_blocks n s.bytes) (whole_blocks n (rest_bytes n s.bytes ++ p)) s.start g.all in
       record {
         more = rest ++ b.more;
@@ -395,10 +395,10 @@ module _ (opening : OpensBlock) (n : ℕ) where
 -- ---- How many chunks were released, by the length of the text.
 
 -- the chunks that a segment counts are the texts of the blocks in front
-pub counted_are : (opening : OpensBlock) (n : ℕ) (s : Segment) → counted_chunks opening n s ≡ front_texts opening s.start (whole_blocks n s.bytes)
+pub counted_are : (opening : OpensBlock) (n : ℕ) (s : Segment) → counted_chunks opening n s ≡ leading_plaintexts opening s.start (whole_blocks n s.bytes)
 counted_are opening n s =
     let b = stands_at opening n s in
-    let texts = front_texts opening s.start (whole_blocks n s.bytes) in
+    let texts = leading_plaintexts opening s.start (whole_blocks n s.bytes) in
     let count = (outcome opening n s).index - s.start in
     ap (take count) b.texts_are ∙ take_at texts b.more count (omega (arith, b.index))
 
@@ -408,10 +408,10 @@ module _ (sealing : Seals) (opening : OpensBlock) (valid : IsChunkBox sealing op
   full_then o rest h1 h2 = grind (arith, common_steps)
 
   front_full : (blocks : List (List ℕ)) (i : ℕ) → AllByRecursion (λ (b : List ℕ). length b ≡ n + tag_length) blocks
-      → AllByRecursion (λ (t : List ℕ). length t ≡ n) (front_texts opening i blocks)
+      → AllByRecursion (λ (t : List ℕ). length t ≡ n) (leading_plaintexts opening i blocks)
   front_full [] i h = tt
   front_full (b ∷ bs) i h =
-      full_then (text_before_last opening i b) (front_texts opening (i + 1) bs)
+      full_then (text_before_last opening i b) (leading_plaintexts opening (i + 1) bs)
       (λ t e. let is = (opens_before i (opening (nonce_bytes i false) b) t e).1 in omega (
         arith,
         h.0,
@@ -423,7 +423,7 @@ module _ (sealing : Seals) (opening : OpensBlock) (valid : IsChunkBox sealing op
   pub is_counted : (base : List ℕ) (s : Segment) → length base ≡ s.start * n → IsCounted opening n base s
   is_counted base s len =
       let blocks = whole_blocks n s.bytes in
-      let texts = front_texts opening s.start blocks in
+      let texts = leading_plaintexts opening s.start blocks in
       let m = length texts in
       let i = (outcome opening n s).index in
       let pos : 0 < n + tag_length = omega arith in

@@ -14,9 +14,9 @@ use Rattle.age_chunk.specs.{IsChunkBox, OpensBlock, Seals, tag_length, text_leng
 use Rattle.age_chunk.specs.inner.{clear_valid}
 use Rattle.age_chunk.specs.declared.fault.Memory.{Memory}
 use Rattle.age_stream.specs.Segment.{Segment}
-use Rattle.age_stream.specs.{outcome, released, Standing, with_piece, text_held, accepts, after_delivery, fresh, begin, standing, standing_from, Stands}
+use Rattle.age_stream.specs.{outcome, released, Standing, with_piece, released_text, accepts, after_delivery, fresh, begin, reader_state, standing_from, Stands}
 use Rattle.age_stream.specs.{chunk_texts, chunk_bytes, whole_text, ReplayView, IsReplayAt, Replays, IsCramped, bytes_in, HoldsWritten, IsRight, IsUndamaged}
-use Rattle.age_stream.specs.{Delivery, Piece, End, Restart, Status, Done, IsAuthentic, AreAuthentic, IsRest, IsStart, AreWhole, IsClosed, RestIsAuthentic}
+use Rattle.age_stream.specs.{Delivery, Piece, End, Restart, Status, Done, IsAuthentic, AreAuthentic, IsRest, IsStart, AreWhole, HasUnambiguousEnd, RestIsAuthentic}
 use Rattle.age_stream.specs.{WholeIsAuthentic, UndamagedIsAuthentic, PayloadRoundTrip, ClearIsSealable, TakesDelivery, replay_view}
 use Rattle.age_stream.specs.inner.{with_bytes, Goes, Delivers}
 use Rattle.age_stream.specs.declared.replay.ReplayState.{ReplayState}
@@ -30,7 +30,7 @@ module _ (opening : OpensBlock) (n : ℕ) where
   on_from [] ys s = refl
   on_from (x ∷ xs) ys s = on_from xs ys (after_delivery opening n s x)
 
-  pub standing_more : (ds : List Delivery) (d : Delivery) → standing opening n (ds ++ d ∷ []) ≡ after_delivery opening n (standing opening n ds) d
+  pub standing_more : (ds : List Delivery) (d : Delivery) → reader_state opening n (ds ++ d ∷ []) ≡ after_delivery opening n (reader_state opening n ds) d
   standing_more ds d = on_from ds (d ∷ []) begin
 
   -- a segment that got bytes alone
@@ -47,7 +47,7 @@ module _ (opening : OpensBlock) (n : ℕ) where
   restart_segment : (s : Standing) (k : ℕ) → accepts opening n s k ≡ true → (after_delivery opening n s (Restart k)).segment ≡ fresh k
   restart_segment s k sure = ap (λ (x : Standing). x.segment) (cond-true (accepts opening n s k) _ _ sure)
 
-  starts_fresh : (sealing : Seals) (text : List ℕ) (front : List Delivery) (k : ℕ) → IsStart sealing opening n text k front → (standing opening n front).segment ≡ fresh k
+  starts_fresh : (sealing : Seals) (text : List ℕ) (front : List Delivery) (k : ℕ) → IsStart sealing opening n text k front → (reader_state opening n front).segment ≡ fresh k
   starts_fresh sealing text front k h = grind (arith, common_steps, on_from, restart_segment)
 
   -- an undamaged payload leaves its rest
@@ -55,10 +55,10 @@ module _ (opening : OpensBlock) (n : ℕ) where
   rest_of sealing text k = record { start = k; bytes = drop (k * (n + tag_length)) (payload sealing n text); ended = true; late = false }
 
   undamaged_standing : (sealing : Seals) (text : List ℕ) (k : ℕ) (ds : List Delivery) (u : IsUndamaged sealing opening n text k ds)
-      → standing opening n ds ≡ record (standing opening n u.front) { segment = rest_of sealing text k }
+      → reader_state opening n ds ≡ record (reader_state opening n u.front) { segment = rest_of sealing text k }
   undamaged_standing sealing text k ds u =
-      let s = standing opening n u.front in
-      ap (standing opening n) u.is
+      let s = reader_state opening n u.front in
+      ap (reader_state opening n) u.is
       ∙ (on_from u.front (map Piece u.pieces ++ End ∷ []) begin
       ∙ (on_from (map Piece u.pieces) (End ∷ []) s
       ∙ (ap (λ (x : Standing). after_delivery opening n x End) (pieces_from u.pieces s k [] (starts_fresh sealing text u.front k u.starts))
@@ -93,10 +93,10 @@ module _ (sealing : Seals) (opening : OpensBlock) (valid : IsChunkBox sealing op
   Stays s = AllByRecursion Good s.given_up → IsSound s
 
   restarted : (s : Standing) (k : ℕ) → IsSound s → Good s.segment → accepts opening n s k ≡ true
-      → IsSound (record { given_up = s.given_up ++ s.segment ∷ []; base = take (k * n) (text_held opening n s); segment = fresh k; refused = s.refused })
+      → IsSound (record { given_up = s.given_up ++ s.segment ∷ []; base = take (k * n) (released_text opening n s); segment = fresh k; refused = s.refused })
   restarted s k sound good sure =
       let p = (released_segment sealing opening valid n text few positive s.segment s.base sound.small sound.base good).prefix in
-      let held = text_held opening n s in
+      let held = released_text opening n s in
       let a : (nat_lt k chunk_limit ≡ true) × (nat_le (k * n) (length held) ≡ true) = and_parts (nat_lt k chunk_limit) (nat_le (k * n) (length held)) sure in
       let le : k * n ≤ length held = leb-true (k * n) (length held) a.1 in
       record { small = ltb-true k chunk_limit a.0; base = sym (take-append-le (k * n) held p.0 le) ∙ ap (take (k * n)) p.1 }
@@ -120,17 +120,17 @@ module _ (sealing : Seals) (opening : OpensBlock) (valid : IsChunkBox sealing op
   sound_from (d ∷ ds) s stays = sound_from ds (after_delivery opening n s d) (sound_after d s stays)
 
   undamaged_done : (k : ℕ) (ds : List Delivery) → AreAuthentic sealing opening n text ds → IsUndamaged sealing opening n text k ds
-      → (outcome opening n (standing opening n ds).segment).status ≡ Done
+      → (outcome opening n (reader_state opening n ds).segment).status ≡ Done
   undamaged_done k ds auth u =
       let is = ap (λ (s : Standing). s.segment) (undamaged_standing opening n sealing text k ds u) in
       ap (λ (x : Segment). (outcome opening n x).status) is
       ∙ rest_done sealing opening valid n positive text few (rest_of opening n sealing text k) (undamaged_rest opening n sealing text k ds u) (subst Good is auth.1)
 
   pub held_right : (ds : List Delivery) → AreAuthentic sealing opening n text ds
-      → IsRight sealing opening n text ((k : ℕ) × IsUndamaged sealing opening n text k ds) (standing opening n ds).segment
-      (text_held opening n (standing opening n ds)) (outcome opening n (standing opening n ds).segment).status
+      → IsRight sealing opening n text ((k : ℕ) × IsUndamaged sealing opening n text k ds) (reader_state opening n ds).segment
+      (released_text opening n (reader_state opening n ds)) (outcome opening n (reader_state opening n ds).segment).status
   held_right ds auth =
-      let s = standing opening n ds in
+      let s = reader_state opening n ds in
       let start : IsSound begin = record { small = omega arith; base = let z : 0 ≡ 0 * n = omega arith in ap (λ (k : ℕ). take k text) z } in
       let sound = sound_from ds begin (λ _. start) auth.0 in
       right_after sealing opening valid n text few positive s.segment auth.1 ((k : ℕ) × IsUndamaged sealing opening n text k ds) s.base sound.small sound.base
@@ -165,7 +165,7 @@ pub comes_back : PayloadRoundTrip
 comes_back sealing opening n text so ds w =
     (held_right sealing opening so.valid n text so.few so.some ds (whole_is_right sealing opening n text so ds w)).whole (0, whole_is sealing opening n text ds w)
 
-clear_closed : (n : ℕ) (text : List ℕ) → IsClosed clear_sealing clear_opening n text
+clear_closed : (n : ℕ) (text : List ℕ) → HasUnambiguousEnd clear_sealing clear_opening n text
 clear_closed n text full = grind (arith, common_steps)
 
 pub clear_is_sealable : ClearIsSealable
@@ -234,15 +234,15 @@ pub written : {B : Type 0} (sealing : B → Seals) (opening : B → OpensBlock) 
     → 0 < n → r.key ≡ key → (ds : List Delivery) → Replays opening n r ds → HoldsWritten (sealing key) (opening key) n ds r.text r.opener.status
 written sealing opening n key r valid positive same ds h text few auth =
     let op = opening key in
-    let k : standing (opening r.key) n ds ≡ standing op n ds = ap (λ k. standing (opening k) n ds) same in
-    let is : r.text ≡ text_held op n (standing op n ds) =
-    h.text ∙ (ap (λ s. text_held (opening r.key) n s) k ∙ ap (λ k. text_held (opening k) n (standing op n ds)) same) in
-    let status : r.opener.status ≡ (outcome op n (standing op n ds).segment).status =
-    h.segment.status ∙ (ap (λ k. (outcome (opening k) n (standing (opening r.key) n ds).segment).status) (h.key ∙ same)
+    let k : reader_state (opening r.key) n ds ≡ reader_state op n ds = ap (λ k. reader_state (opening k) n ds) same in
+    let is : r.text ≡ released_text op n (reader_state op n ds) =
+    h.text ∙ (ap (λ s. released_text (opening r.key) n s) k ∙ ap (λ k. released_text (opening k) n (reader_state op n ds)) same) in
+    let status : r.opener.status ≡ (outcome op n (reader_state op n ds).segment).status =
+    h.segment.status ∙ (ap (λ k. (outcome (opening k) n (reader_state (opening r.key) n ds).segment).status) (h.key ∙ same)
     ∙ ap (λ s. (outcome op n s.segment).status) k) in
-    let Right : List ℕ → Status → Type 0 = IsRight (sealing key) op n text ((k : ℕ) × IsUndamaged (sealing key) op n text k ds) (standing op n ds).segment in
+    let Right : List ℕ → Status → Type 0 = IsRight (sealing key) op n text ((k : ℕ) × IsUndamaged (sealing key) op n text k ds) (reader_state op n ds).segment in
     subst (λ (t : List ℕ). Right t r.opener.status) (sym is)
-    (subst (Right (text_held op n (standing op n ds))) (sym status) (held_right (sealing key) op valid n text few positive ds auth))
+    (subst (Right (released_text op n (reader_state op n ds))) (sym status) (held_right (sealing key) op valid n text few positive ds auth))
 
 -- what `take` does with a delivery, by what it does with the state
 pub taken : {B : Type 0} {n : ℕ} {g : _} (sealing : B → Seals) (opening : B → OpensBlock) (old new : ReplayState B n g) (d : Delivery)

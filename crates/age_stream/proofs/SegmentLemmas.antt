@@ -19,9 +19,9 @@ use Rattle.age_chunk.specs.declared.fault.StreamKind.TheVariants.{ChunkDamaged, 
 use Rattle.age_chunk.specs.declared.fault.StreamKind.{StreamKind}
 use Rattle.age_chunk.proofs.{nonce_bytes-length, nonce_bytes-number, nonce_bytes-flag, get_or-first_chunks, length-first_chunks}
 use Rattle.age_stream.specs.Segment.{Segment}
-use Rattle.age_stream.specs.{Outcome, outcome, unless_greatest, front_texts, whole_blocks, failed, with_piece, stop, Status, Open, Done, IsWriters, IsAuthentic}
+use Rattle.age_stream.specs.{Outcome, outcome, unless_greatest, leading_plaintexts, whole_blocks, failed, with_piece, stop, Status, Open, Done, IsWriters, IsAuthentic}
 use Rattle.age_stream.specs.{IsPrefixOf, Frontier, verdict, block_at, text_then, text_before_last, released, Failed, sealed_as, compared, IsFirstWrong}
-use Rattle.age_stream.specs.{IsInPlace, IsRest, IsRight, ReleasesWritten, IsClosed}
+use Rattle.age_stream.specs.{IsInPlace, IsRest, IsRight, ReleasesWritten, HasUnambiguousEnd}
 use Rattle.age_stream.proofs.ChunkLemmas.{last_chunk_le, length-sealed, pair_before, pair_last, last_index_le, all_full}
 use Rattle.age_stream.proofs.TableLemmas.{block_full, block_is, by_lines, front_is, outcome_is, texts_fit, ended_waits, frontier, length-whole_blocks}
 use Rattle.age_stream.proofs.TableLemmas.{line_last, by_both, last_status, whole_within, opens_before}
@@ -177,10 +177,10 @@ module _ (sealing : Seals) (opening : OpensBlock) (valid : IsChunkBox sealing op
       subst (λ (k : ℕ). IsChunk n text k false (get_or rest j []) × (k + 1 < chunk_limit)) s (f (suc j) (omega (arith, lt)))))
 
   pub front_carries : (blocks : List (List ℕ)) (i : ℕ)
-      → ((j : ℕ) → j < length (front_texts opening i blocks) → IsWriters sealing opening n text (nonce_bytes (i + j) false) (get_or blocks j []))
-      → Carries i (front_texts opening i blocks)
+      → ((j : ℕ) → j < length (leading_plaintexts opening i blocks) → IsWriters sealing opening n text (nonce_bytes (i + j) false) (get_or blocks j []))
+      → Carries i (leading_plaintexts opening i blocks)
   front_carries blocks i w =
-      let texts = front_texts opening i blocks in
+      let texts = leading_plaintexts opening i blocks in
       carries texts i (λ j lt.
       let p = opens_before (i + j) _ _ ((front_is opening blocks i).opens j lt) in
       let low : i + j + 1 < chunk_limit = ltb-true (i + j + 1) chunk_limit p.0 in
@@ -208,12 +208,12 @@ module _ (sealing : Seals) (opening : OpensBlock) (valid : IsChunkBox sealing op
   whole i start texts x e c = grind (arith, common_steps)
 
   -- each block in front is the writer's
-  pub front_written : (s : Segment) → IsAuthentic sealing opening n text s → (j : ℕ) → j < length (front_texts opening s.start (whole_blocks n s.bytes))
+  pub front_written : (s : Segment) → IsAuthentic sealing opening n text s → (j : ℕ) → j < length (leading_plaintexts opening s.start (whole_blocks n s.bytes))
       → IsWriters sealing opening n text (nonce_bytes (s.start + j) false) (get_or (whole_blocks n s.bytes) j [])
   front_written s given j lt = grind (arith, common_steps, block_full, block_is, texts_fit)
 
   pub released_segment : (s : Segment) (base : List ℕ) → s.start < chunk_limit → base ≡ take (s.start * n) text
-      → IsAuthentic sealing opening n text s → IsReleased (s.start + length (front_texts opening s.start (whole_blocks n s.bytes))) base (outcome opening n s)
+      → IsAuthentic sealing opening n text s → IsReleased (s.start + length (leading_plaintexts opening s.start (whole_blocks n s.bytes))) base (outcome opening n s)
   released_segment s base small e given =
       let b = stop opening n s in
       let i = b.index in
@@ -269,11 +269,11 @@ module _ (sealing : Seals) (opening : OpensBlock) (valid : IsChunkBox sealing op
 
   -- the blocks in front are the same
   front_step : (block : List ℕ) (blocks : List (List ℕ)) (i : ℕ) (o : Option (List ℕ)) → text_before_last opening i block ≡ o
-      → ((j : ℕ) → j < suc (length blocks) → j ≤ length (text_then opening o (front_texts opening (i + 1) blocks))
+      → ((j : ℕ) → j < suc (length blocks) → j ≤ length (text_then opening o (leading_plaintexts opening (i + 1) blocks))
       → Same (nonce_bytes (i + j) false) (get_or (block ∷ blocks) j []))
-      → (((j : ℕ) → j < length blocks → j ≤ length (front_texts opening (i + 1) blocks) → Same (nonce_bytes (i + 1 + j) false) (get_or blocks j []))
-      → front_texts opening (i + 1) blocks ≡ front_texts other (i + 1) blocks)
-      → text_then opening o (front_texts opening (i + 1) blocks) ≡ text_then other o (front_texts other (i + 1) blocks)
+      → (((j : ℕ) → j < length blocks → j ≤ length (leading_plaintexts opening (i + 1) blocks) → Same (nonce_bytes (i + 1 + j) false) (get_or blocks j []))
+      → leading_plaintexts opening (i + 1) blocks ≡ leading_plaintexts other (i + 1) blocks)
+      → text_then opening o (leading_plaintexts opening (i + 1) blocks) ≡ text_then other o (leading_plaintexts other (i + 1) blocks)
   front_step block blocks i None e f more = refl
   front_step block blocks i (Some x) e f more =
       ap (λ (ts : List (List ℕ)). x ∷ ts)
@@ -281,14 +281,14 @@ module _ (sealing : Seals) (opening : OpensBlock) (valid : IsChunkBox sealing op
       (f (suc j) (omega arith) (omega arith))))
 
   front_same : (blocks : List (List ℕ)) (i : ℕ)
-      → ((j : ℕ) → j < length blocks → j ≤ length (front_texts opening i blocks) → Same (nonce_bytes (i + j) false) (get_or blocks j []))
-      → front_texts opening i blocks ≡ front_texts other i blocks
+      → ((j : ℕ) → j < length blocks → j ≤ length (leading_plaintexts opening i blocks) → Same (nonce_bytes (i + j) false) (get_or blocks j []))
+      → leading_plaintexts opening i blocks ≡ leading_plaintexts other i blocks
   front_same [] i f = refl
   front_same (block ∷ blocks) i f =
       let z : i + 0 ≡ i = omega arith in
       let here : Same (nonce_bytes i false) block = subst (λ (k : ℕ). Same (nonce_bytes k false) block) z (f 0 (omega arith) (omega arith)) in
       front_step block blocks i (text_before_last opening i block) refl f (λ f'. front_same blocks (i + 1) f')
-      ∙ ap (λ (o : Option (List ℕ)). text_then other (unless_greatest i o) (front_texts other (i + 1) blocks)) here
+      ∙ ap (λ (o : Option (List ℕ)). text_then other (unless_greatest i o) (leading_plaintexts other (i + 1) blocks)) here
 
   module _ (s : Segment) (given : IsAuthentic sealing opening n text s) where
     abbrev here : Frontier
@@ -305,7 +305,7 @@ module _ (sealing : Seals) (opening : OpensBlock) (valid : IsChunkBox sealing op
 
     compares : outcome opening n s ≡ outcome other n s
     compares =
-        let front : here.texts ≡ front_texts other s.start blocks = front_same blocks s.start
+        let front : here.texts ≡ leading_plaintexts other s.start blocks = front_same blocks s.start
         (λ j l le. let lt : j < length s.bytes / (n + tag_length) = omega (arith, l, length-whole_blocks n s) in
         subst (Same (nonce_bytes (s.start + j) false)) (block_is n s j lt)
         (same (nonce_bytes (s.start + j) false) (block_at n s.bytes j) (given.not_last j le (block_full n s j lt)))) in
@@ -440,7 +440,7 @@ module _ (sealing : Seals) (opening : OpensBlock) (valid : IsChunkBox sealing op
   whole_of i [] l h = refl
   whole_of i (d ∷ ds) l h = grind (arith, common_steps, append_assoc, block_on, full_len, whole_of (i + 1) ds l h.1)
 
-  front_opens : (i : ℕ) (ds : List (List ℕ)) → i + length ds < chunk_limit → front_texts opening i (blocks_of i ds) ≡ ds
+  front_opens : (i : ℕ) (ds : List (List ℕ)) → i + length ds < chunk_limit → leading_plaintexts opening i (blocks_of i ds) ≡ ds
   front_opens i [] h = refl
   front_opens i (d ∷ ds) h = grind (arith, common_steps, lt-ltb, front_opens (i + 1) ds (omega (arith, h)))
 
@@ -512,10 +512,10 @@ module _ (sealing : Seals) (opening : OpensBlock) (valid : IsChunkBox sealing op
         let le : k ≤ length cs = omega (arith, length-first_chunks n q text, below) in
         ap (drop (k * (n + tag_length))) (payload_is text) ∙ (drop_of 0 k cs tail cs_full le ∙ ap (λ (j : ℕ). bytes_of j ds ++ tail) z)
 
-    open_front : front_texts opening k (blocks_of k ds) ≡ ds
+    open_front : leading_plaintexts opening k (blocks_of k ds) ≡ ds
     open_front = front_opens k ds (omega (arith, ds_len, few))
 
-    front_after : (ys : List (List ℕ)) → front_texts opening k (blocks_of k ds ++ ys) ≡ ds ++ front_texts opening q ys
+    front_after : (ys : List (List ℕ)) → leading_plaintexts opening k (blocks_of k ds ++ ys) ≡ ds ++ leading_plaintexts opening q ys
     front_after ys = grind (arith, common_steps, ds_len, front_on, length-blocks_of, open_front)
 
     tail_most : length tail ≤ n + tag_length
@@ -528,8 +528,8 @@ module _ (sealing : Seals) (opening : OpensBlock) (valid : IsChunkBox sealing op
     last_block : block_at n bytes (length ds) ≡ tail
     last_block = grind (arith, common_steps, drop_at, front_size, tail_most, take_all)
 
-    front_begins : front_texts opening k (whole_blocks n bytes) ≡ ds ++ front_texts opening q (whole_blocks n tail)
-    front_begins = ap (front_texts opening k) (whole_of k ds tail ds_full) ∙ front_after (whole_blocks n tail)
+    front_begins : leading_plaintexts opening k (whole_blocks n bytes) ≡ ds ++ leading_plaintexts opening q (whole_blocks n tail)
+    front_begins = ap (leading_plaintexts opening k) (whole_of k ds tail ds_full) ∙ front_after (whole_blocks n tail)
 
     -- where the segment stands, unless the last block opens as one before the last
     abbrev end : Frontier
@@ -562,7 +562,7 @@ module _ (sealing : Seals) (opening : OpensBlock) (valid : IsChunkBox sealing op
     shut_if given None e full = e
     shut_if given (Some t) e full =
         let W : ℕ → List ℕ → Type 0 = λ i b. IsWriters sealing opening n text (nonce_bytes i false) b in
-        let begun = ap length front_begins ∙ length-append ds (front_texts opening q (whole_blocks n tail)) in
+        let begun = ap length front_begins ∙ length-append ds (leading_plaintexts opening q (whole_blocks n tail)) in
         let w : W q tail =
         subst (λ (i : ℕ). W i tail) ds_len (subst (W (k + length ds)) last_block (given.not_last (length ds) (omega (arith, begun)) (ap length last_block ∙ full))) in
         let c = writer_text sealing opening valid n text few positive q false tail t (omega (arith, few)) e w in
@@ -629,7 +629,7 @@ module _ (sealing : Seals) (opening : OpensBlock) (valid : IsChunkBox sealing op
     pub rest_done : IsAuthentic sealing opening n text s → (outcome opening n s).status ≡ Done
     rest_done auth = grind (arith, common_steps, is_left, rest_is_done)
 
-    pub rest_right : IsClosed sealing opening n text → IsAuthentic sealing opening n text s
+    pub rest_right : HasUnambiguousEnd sealing opening n text → IsAuthentic sealing opening n text s
     rest_right closed = subst (IsAuthentic sealing opening n text) (sym is_left) (rest_authentic sealing opening valid n positive text few s.start rest.below closed)
 
   pub segment_right : (s : Segment) → ReleasesWritten sealing opening n s (released opening n s) (outcome opening n s).status

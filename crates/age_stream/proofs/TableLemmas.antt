@@ -10,7 +10,7 @@ use Rattle.age_chunk.specs.declared.fault.StreamKind.{StreamKind}
 use Rattle.age_chunk.specs.declared.fault.StreamKind.TheVariants.{ChunkDamaged, Trailing, TooManyChunks}
 use Rattle.age_chunk.proofs.{length-first_chunks, get_or-first_chunks}
 use Rattle.age_stream.specs.Segment.{Segment}
-use Rattle.age_stream.specs.{Outcome, Frontier, outcome, stop, verdict, stays, first_line, block_at, failed, front_texts, text_then, text_before_last}
+use Rattle.age_stream.specs.{Outcome, Frontier, outcome, stop, verdict, stays, first_line, block_at, failed, leading_plaintexts, text_then, text_before_last}
 use Rattle.age_stream.specs.{whole_blocks, rest_bytes, is_waiting, is_empty_last, is_tried, Status, Open, LastSeen, Done, Failed, unless_greatest}
 use Rattle.age_stream.specs.inner.{status_after, at_block}
 
@@ -104,9 +104,9 @@ pub rest_short : (n : ℕ) (bytes : List ℕ) → length (rest_bytes n bytes) < 
 rest_short n bytes = grind (arith, common_steps)
 
 -- no more texts than blocks
-pub length-front_texts : (opening : OpensBlock) (blocks : List (List ℕ)) (i : ℕ) → length (front_texts opening i blocks) ≤ length blocks
-length-front_texts opening [] i = grind (arith, common_steps)
-length-front_texts opening (block ∷ blocks) i = grind (arith, common_steps, length-front_texts opening blocks (i + 1))
+pub length-leading_plaintexts : (opening : OpensBlock) (blocks : List (List ℕ)) (i : ℕ) → length (leading_plaintexts opening i blocks) ≤ length blocks
+length-leading_plaintexts opening [] i = grind (arith, common_steps)
+length-leading_plaintexts opening (block ∷ blocks) i = grind (arith, common_steps, length-leading_plaintexts opening blocks (i + 1))
 
 -- a block opens as one before the last only where its number isn't the greatest
 pub opens_before : (i : ℕ) (o : Option (List ℕ)) (x : List ℕ) → unless_greatest i o ≡ Some x → (nat_lt (i + 1) chunk_limit ≡ true) × (o ≡ Some x)
@@ -119,27 +119,27 @@ module _ (opening : OpensBlock) where
     pub stops : length texts < length blocks → text_before_last opening (i + length texts) (get_or blocks (length texts) []) ≡ None
 
   front_step : (i : ℕ) (block : List ℕ) (blocks : List (List ℕ)) (o : Option (List ℕ)) → text_before_last opening i block ≡ o
-      → IsFront (i + 1) blocks (front_texts opening (i + 1) blocks) → IsFront i (block ∷ blocks) (text_then opening o (front_texts opening (i + 1) blocks))
+      → IsFront (i + 1) blocks (leading_plaintexts opening (i + 1) blocks) → IsFront i (block ∷ blocks) (text_then opening o (leading_plaintexts opening (i + 1) blocks))
   front_step i block blocks None e more = record {
     opens = λ j lt. absurd (omega arith);
     stops = λ lt. let z : i ≡ i + 0 = omega arith in subst (λ (k : ℕ). text_before_last opening k block ≡ None) z e;
   }
   front_step i block blocks (Some x) e more =
-      let texts = front_texts opening (i + 1) blocks in
+      let texts = leading_plaintexts opening (i + 1) blocks in
       let next : i + 1 + length texts ≡ i + suc (length texts) = omega arith in
       record {
         opens = λ j lt. by_number j lt;
         stops = λ lt. subst (λ (k : ℕ). text_before_last opening k (get_or blocks (length texts) []) ≡ None) next (more.stops (omega (arith, lt)));
       }
     where
-      by_number : (j : ℕ) → j < suc (length (front_texts opening (i + 1) blocks))
-          → text_before_last opening (i + j) (get_or (block ∷ blocks) j []) ≡ Some (get_or (x ∷ front_texts opening (i + 1) blocks) j [])
+      by_number : (j : ℕ) → j < suc (length (leading_plaintexts opening (i + 1) blocks))
+          → text_before_last opening (i + j) (get_or (block ∷ blocks) j []) ≡ Some (get_or (x ∷ leading_plaintexts opening (i + 1) blocks) j [])
       by_number zero lt = let z : i ≡ i + 0 = omega arith in subst (λ (k : ℕ). text_before_last opening k block ≡ Some x) z e
       by_number (suc j) lt =
           let z : i + 1 + j ≡ i + suc j = omega arith in
-          subst (λ (k : ℕ). text_before_last opening k (get_or blocks j []) ≡ Some (get_or (front_texts opening (i + 1) blocks) j [])) z (more.opens j (omega (arith, lt)))
+          subst (λ (k : ℕ). text_before_last opening k (get_or blocks j []) ≡ Some (get_or (leading_plaintexts opening (i + 1) blocks) j [])) z (more.opens j (omega (arith, lt)))
 
-  pub front_is : (blocks : List (List ℕ)) (i : ℕ) → IsFront i blocks (front_texts opening i blocks)
+  pub front_is : (blocks : List (List ℕ)) (i : ℕ) → IsFront i blocks (leading_plaintexts opening i blocks)
   front_is [] i = record { opens = λ j lt. absurd (omega arith); stops = λ lt. absurd (omega arith) }
   front_is (block ∷ blocks) i = front_step i block blocks (text_before_last opening i block) refl (front_is blocks (i + 1))
 
@@ -179,10 +179,10 @@ module _ (n : ℕ) (s : Segment) where
 
 module _ (opening : OpensBlock) (n : ℕ) (s : Segment) where
   abbrev pub texts_of : List (List ℕ)
-  texts_of = front_texts opening s.start (whole_blocks n s.bytes)
+  texts_of = leading_plaintexts opening s.start (whole_blocks n s.bytes)
 
   pub texts_fit : length texts_of ≤ length s.bytes / (n + tag_length)
-  texts_fit = omega (arith, length-whole_blocks n s, length-front_texts opening (whole_blocks n s.bytes) s.start)
+  texts_fit = omega (arith, length-whole_blocks n s, length-leading_plaintexts opening (whole_blocks n s.bytes) s.start)
 
   pub outcome_is : outcome opening n s ≡ verdict opening (stop opening n s)
   unfolding outcome

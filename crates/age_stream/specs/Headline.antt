@@ -7,7 +7,7 @@ use Rattle.std.specs.Borrow.{Bor}
 use Rattle.age_chunk.specs.{Seals, OpensBlock, tag_length, nonce_bytes, chunks, sealed, chunk_limit, payload}
 use Rattle.age_chunk.specs.{chunk_count}
 use Rattle.age_chunk.specs.declared.fault.StreamKind.TheVariants.{ChunkDamaged, TooManyChunks}
-use Rattle.age_stream.specs.Segment.{Segment, outcome, failed, block_at, stop, is_tried, standing, accepts}
+use Rattle.age_stream.specs.Segment.{Segment, outcome, failed, block_at, stop, is_tried, reader_state, accepts}
 use Rattle.age_stream.specs.declared.delivery.Delivery.{Delivery}
 use Rattle.age_stream.specs.declared.delivery.Delivery.TheVariants.{Piece, End, Restart}
 use Rattle.age_stream.specs.declared.step.Status.{Status}
@@ -34,8 +34,8 @@ module _ (sealing : Seals) (opening : OpensBlock) (n : ℕ) (text : List ℕ) wh
   -- each segment of the deliveries is authentic, also the ones that were given up
   abbrev pub AreAuthentic : List Delivery → Type 0
   AreAuthentic deliveries =
-      AllByRecursion IsAuthentic (standing opening n deliveries).given_up
-      × IsAuthentic (standing opening n deliveries).segment
+      AllByRecursion IsAuthentic (reader_state opening n deliveries).given_up
+      × IsAuthentic (reader_state opening n deliveries).segment
 
 -- ---- An undamaged payload.
 
@@ -46,7 +46,7 @@ module _ (sealing : Seals) (opening : OpensBlock) (n : ℕ) (text : List ℕ) wh
   IsStart k front =
       ((front ≡ []) × (k ≡ 0))
       ⊎ ((earlier : List Delivery) × (front ≡ earlier ++ Restart k ∷ [])
-      × (accepts opening n (standing opening n earlier) k ≡ true))
+      × (accepts opening n (reader_state opening n earlier) k ≡ true))
 
   -- the deliveries are undamaged from chunk k on: a front, then the writer's blocks from k on, in
   -- any pieces, and an end
@@ -127,7 +127,7 @@ module _ (sealing : Seals) (opening : OpensBlock) (n : ℕ) where
   HoldsWritten deliveries held status = (text : List ℕ) → chunk_count n text ≤ chunk_limit
       → AreAuthentic sealing opening n text deliveries
       → IsRight sealing opening n text ((k : ℕ) × IsUndamaged sealing opening n text k deliveries)
-      (standing opening n deliveries).segment held status
+      (reader_state opening n deliveries).segment held status
 
   -- the headline of one segment, which may start at any chunk, also past the end of the plaintext:
   -- of the plaintext before its start, and what it released

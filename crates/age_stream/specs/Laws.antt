@@ -8,7 +8,7 @@ use Rattle.age_chunk.specs.{OfAllBoxes, tag_length, Seals, OpensBlock, IsChunkBo
 use Rattle.age_chunk.specs.{clear_opening, chunk_limit, chunk_count, chunk_length, payload, nonce_bytes}
 use Rattle.age_chunk.specs.{chunks, sealed, last_index, last_chunk, sealed_before_last, block_bytes}
 use Rattle.age_chunk.specs.declared.fault.StreamFault.{StreamFault}
-use Rattle.age_stream.specs.Segment.{Segment, outcome, standing, text_held, Outcome, released, with_piece}
+use Rattle.age_stream.specs.Segment.{Segment, outcome, reader_state, released_text, Outcome, released, with_piece}
 use Rattle.age_stream.specs.Segment.{with_end, fresh}
 use Rattle.age_stream.specs.Headline.{IsAuthentic, AreAuthentic, IsRest, IsUndamaged, IsPrefixOf}
 use Rattle.age_stream.specs.Headline.{ReleasesWritten}
@@ -84,13 +84,13 @@ pub record AreWhole (bytes : List ℕ) (deliveries : List Delivery) : Type 0 whe
 -- the deliveries of all of these bytes give the plaintext, and its end is reported
 abbrev pub GivesBack : OpensBlock → ℕ → List ℕ → List ℕ → Type 0
 GivesBack opening n bytes text = (deliveries : List Delivery) → AreWhole bytes deliveries
-    → (text_held opening n (standing opening n deliveries) ≡ text)
-    × ((outcome opening n (standing opening n deliveries).segment).status ≡ Done)
+    → (released_text opening n (reader_state opening n deliveries) ≡ text)
+    × ((outcome opening n (reader_state opening n deliveries).segment).status ≡ Done)
 
 module _ (sealing : Seals) (opening : OpensBlock) (n : ℕ) (text : List ℕ) where
   -- a full last block isn't also one before the last: a short one is never tried so
-  abbrev pub IsClosed : Type 0
-  IsClosed = length (last_chunk n text) ≡ n
+  abbrev pub HasUnambiguousEnd : Type 0
+  HasUnambiguousEnd = length (last_chunk n text) ≡ n
       → opening (nonce_bytes (last_index n text) false)
       (sealing (nonce_bytes (last_index n text) true) (last_chunk n text))
       ≡ None
@@ -101,7 +101,7 @@ module _ (sealing : Seals) (opening : OpensBlock) (n : ℕ) (text : List ℕ) wh
     pub valid : IsChunkBox sealing opening
     pub some : 0 < n
     pub few : chunk_count n text ≤ chunk_limit
-    pub closed : IsClosed
+    pub closed : HasUnambiguousEnd
 
 -- a claim about every sealable payload
 abbrev pub OfAllSealable : (Seals → OpensBlock → ℕ → List ℕ → Type 0) → Type 0
@@ -118,7 +118,7 @@ RestIsAuthentic = OfAllSealable (λ sealing opening n text. (s : Segment)
 abbrev pub UndamagedIsAuthentic : Type 0
 UndamagedIsAuthentic = OfAllSealable (λ sealing opening n text. (k : ℕ)
     (deliveries : List Delivery) (rest : IsUndamaged sealing opening n text k deliveries)
-    → AllByRecursion (IsAuthentic sealing opening n text) (standing opening n rest.front).given_up
+    → AllByRecursion (IsAuthentic sealing opening n text) (reader_state opening n rest.front).given_up
     → AreAuthentic sealing opening n text deliveries)
 
 -- deliveries of a complete payload are authentic

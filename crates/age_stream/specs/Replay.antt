@@ -3,7 +3,7 @@ use Rattle.std.specs.Prelude.{◌≡◌, ◌<◌, ◌≤◌, ◌+◌, ℕ, List,
 use Rattle.std.specs.Prelude.{OnErr}
 use Rattle.age_chunk.specs.{Seals, OpensBlock}
 use Rattle.age_chunk.specs.declared.fault.Memory.{Memory}
-use Rattle.age_stream.specs.Segment.{Standing, standing, text_held, outcome}
+use Rattle.age_stream.specs.Segment.{Standing, reader_state, released_text, outcome}
 use Rattle.age_stream.specs.Headline.{HoldsWritten}
 use Rattle.age_stream.specs.Opener.{OpenerView, Stands, text_of_piece, text_at_end}
 use Rattle.age_stream.specs.declared.delivery.Delivery.{Delivery}
@@ -43,12 +43,12 @@ module _ {B : Type 0} (opening : B → OpensBlock) (n : ℕ) where
   pub record IsReplayAt (r : ReplayView B) (s : Standing) : Type 0 where
     pub key : r.opener.key ≡ r.key
     pub segment : Stands opening n r.opener s.segment
-    pub text : r.text ≡ text_held (opening r.key) n s
+    pub text : r.text ≡ released_text (opening r.key) n s
     pub refused : r.refused ≡ s.refused
 
   -- a replay was given these deliveries
   abbrev pub Replays : ReplayView B → List Delivery → Type 0
-  Replays r deliveries = IsReplayAt r (standing (opening r.key) n deliveries)
+  Replays r deliveries = IsReplayAt r (reader_state (opening r.key) n deliveries)
 
 -- the greatest number of bytes of plaintext that a delivery releases: room for no more is asked for
 abbrev pub could_release : {B : Type 0} → ℕ → OpenerView B → Delivery → ℕ
@@ -97,7 +97,7 @@ bytes_in (Restart k) = []
 -- a drill returns what the definitions give after these deliveries
 pub record IsHeldAfter (opening : OpensBlock) (n : ℕ) (deliveries : List Delivery)
     (drill : Drill) : Type 0 where
-  pub text : drill.text.items ≡ text_held opening n (standing opening n deliveries)
-  pub status : drill.status ≡ (outcome opening n (standing opening n deliveries).segment).status
-  pub index : drill.index ≡ (outcome opening n (standing opening n deliveries).segment).index
-  pub refused : drill.refused ≡ (standing opening n deliveries).refused
+  pub text : drill.text.items ≡ released_text opening n (reader_state opening n deliveries)
+  pub status : drill.status ≡ (outcome opening n (reader_state opening n deliveries).segment).status
+  pub index : drill.index ≡ (outcome opening n (reader_state opening n deliveries).segment).index
+  pub refused : drill.refused ≡ (reader_state opening n deliveries).refused

@@ -9,7 +9,7 @@ use Rattle.age_chunk.specs.{chunk_count, stream_fault_number, Seals, text_length
 use Rattle.age_chunk.specs.declared.fault.StreamFault.{StreamFault}
 use Rattle.age_chunk.specs.declared.fault.StreamKind.TheVariants.{TooManyChunks}
 use Rattle.age_stream.specs.Opener.{chunk_bytes}
-use Rattle.age_stream.specs.Laws.{GivesBack, IsClosed}
+use Rattle.age_stream.specs.Laws.{GivesBack, HasUnambiguousEnd}
 use Rattle.age_stream.specs.declared.sealer.SealerState.{SealerState}
 use Rattle.age_stream.specs.declared.step.Step.{Step}
 use Rattle.age_stream.specs.declared.whole_text.SealFault.{SealFault}
@@ -184,7 +184,7 @@ module _ (sealing : Seals) (opening : OpensBlock) (n : ℕ) (text : List ℕ) wh
     pub few : OnOk answer (chunk_count n text ≤ chunk_limit)
     -- the payload, delivered in any pieces and then an end, is held as the plaintext again, with
     -- the status Done
-    pub gives_back : IfOk answer (λ bytes. IsClosed sealing opening n text
+    pub gives_back : IfOk answer (λ bytes. HasUnambiguousEnd sealing opening n text
         → GivesBack opening n bytes.items text)
     -- a refusal has a reason; there was no room before
     pub refused : IfErr answer (SealRefuses n text 0)

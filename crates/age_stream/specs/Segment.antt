@@ -104,14 +104,14 @@ module _ (opening : OpensBlock) where
 
   -- the plaintexts of the blocks in front, which open as not the last, the first of them at number
   -- i
-  abbrev pub front_texts : ℕ → List (List ℕ) → List (List ℕ)
-  front_texts i [] = []
-  front_texts i (block ∷ blocks) = text_then (text_before_last i block) (front_texts (i + 1) blocks)
+  abbrev pub leading_plaintexts : ℕ → List (List ℕ) → List (List ℕ)
+  leading_plaintexts i [] = []
+  leading_plaintexts i (block ∷ blocks) = text_then (text_before_last i block) (leading_plaintexts (i + 1) blocks)
 
   -- the frontier of a segment: at the block after those in front
   abbrev pub stop : ℕ → Segment → Frontier
   stop n s =
-      let texts = front_texts s.start (whole_blocks n s.bytes) in
+      let texts = leading_plaintexts s.start (whole_blocks n s.bytes) in
       let j = length texts in
       record {
         texts = texts;
@@ -189,12 +189,12 @@ with_end s = record s { ended = true }
 
 module _ (opening : OpensBlock) (n : ℕ) where
   -- the text held: the plaintext before the current segment, and what that segment released
-  abbrev pub text_held : Standing → List ℕ
-  text_held s = s.base ++ flat_map (λ text. text) (outcome opening n s.segment).texts
+  abbrev pub released_text : Standing → List ℕ
+  released_text s = s.base ++ flat_map (λ text. text) (outcome opening n s.segment).texts
 
   -- a restart at chunk k is accepted: the text held has that many full chunks
   abbrev pub accepts : Standing → ℕ → Bool
-  accepts s k = nat_lt k chunk_limit && nat_le (k * n) (length (text_held s))
+  accepts s k = nat_lt k chunk_limit && nat_le (k * n) (length (released_text s))
 
   -- the standing after one more delivery
   abbrev pub after_delivery : Standing → Delivery → Standing
@@ -204,7 +204,7 @@ module _ (opening : OpensBlock) (n : ℕ) where
       if accepts s k
       then record s {
         given_up = s.given_up ++ s.segment ∷ [];
-        base = take (k * n) (text_held s);
+        base = take (k * n) (released_text s);
         segment = fresh k;
       }
       else record s { refused = min (s.refused + 1) 18446744073709551615 }
@@ -215,5 +215,5 @@ module _ (opening : OpensBlock) (n : ℕ) where
   standing_from s (delivery ∷ deliveries) = standing_from (after_delivery s delivery) deliveries
 
   -- the standing after all deliveries
-  abbrev pub standing : List Delivery → Standing
-  standing = standing_from begin
+  abbrev pub reader_state : List Delivery → Standing
+  reader_state = standing_from begin

@@ -1,7 +1,7 @@
 //! The headline: the plaintext released under any deliveries is a prefix of the written one.
 ghost use Rattle.std.specs.Prelude.{◌<◌, List};
 ghost use Rattle.age_stream.specs.Segment.{Segment};
-ghost use Rattle.age_stream.specs.{outcome, released, standing, text_held, HoldsWritten, ReleasesWritten};
+ghost use Rattle.age_stream.specs.{outcome, released, reader_state, released_text, HoldsWritten, ReleasesWritten};
 ghost use Rattle.age_stream.specs.declared.delivery.Delivery.{Delivery};
 ghost use Rattle.age_chunk.specs.{tag_length, text_length};
 
@@ -21,10 +21,10 @@ pub fn held_is_written<B: ChunkBox, const SEALED: usize>()
     requires least { tag_length < SEALED }
     ensures held { (key : B) (deliveries : List Delivery)
         → HoldsWritten (B.sealing key) (B.opening key) (text_length SEALED) deliveries
-        (text_held (B.opening key) (text_length SEALED)
-        (standing (B.opening key) (text_length SEALED) deliveries))
+        (released_text (B.opening key) (text_length SEALED)
+        (reader_state (B.opening key) (text_length SEALED) deliveries))
         (outcome (B.opening key) (text_length SEALED)
-        (standing (B.opening key) (text_length SEALED) deliveries).segment).status }
+        (reader_state (B.opening key) (text_length SEALED) deliveries).segment).status }
     ensures segment { (key : B) (s : Segment)
         → ReleasesWritten (B.sealing key) (B.opening key) (text_length SEALED) s
         (released (B.opening key) (text_length SEALED) s)

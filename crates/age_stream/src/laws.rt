@@ -54,8 +54,8 @@ pub fn payload_is_longer()
     ensures { PayloadIsLonger }
 {}
 
-/// Proves that a plaintext is as long as [`text_len_of`](crate::text_len_of) says of its payload's
-/// length. A law about the definitions: the call does nothing.
+/// Proves that a plaintext is as long as [`plaintext_len`](crate::plaintext_len) says of its
+/// payload's length. A law about the definitions: the call does nothing.
 #[tactic(auto, using(crate::proofs::LawLemmas::lengths_are_one))]
 pub fn lengths_are_one()
     ensures { LengthsAreOne }

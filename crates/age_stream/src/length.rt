@@ -13,7 +13,7 @@ const BLOCK: u128 = BLOCK_LEN as u128;
 /// Returns the length in bytes of the plaintext whose payload has `size` bytes, in chunks of
 /// [`CHUNK_LEN`](crate::CHUNK_LEN), or `None` if no payload has that length. Requires a size below
 /// 2^127.
-pub fn text_len_of(size: u128) -> Option<u128>
+pub fn plaintext_len(size: u128) -> Option<u128>
     requires { size < 2 ^ 127 }
     ensures { IsTextLengthOf size result }
 {

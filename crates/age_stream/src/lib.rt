@@ -37,7 +37,7 @@ pub use laws::{
     nonces_differ, payload_is_longer, pieces_join, released_grows, released_is_written, round_trip,
     sealed_grows, sealings_differ, undamaged_is_authentic,
 };
-pub use length::text_len_of;
+pub use length::plaintext_len;
 pub use opener::Opener;
 pub use replay::{Drill, Replay};
 pub use sealer::Sealer;

@@ -194,7 +194,7 @@ impl<'k, B: ChunkBox, const SEALED: usize> OpenerState<'k, B, SEALED> {
 ///
 /// `SEALED` is the length of a full block in bytes, from 17 to 65,552
 /// ([`BLOCK_LEN`](crate::BLOCK_LEN), which age files have); each call that makes an opener requires
-/// this. `feed_piece` in `age_opening/src/payload.rt` feeds complete pieces and writes the
+/// this. `feed_piece` in `age_file_decrypt/src/payload.rt` feeds complete pieces and writes the
 /// plaintext that is lent.
 ///
 /// Contracts see the key, the bytes of the block that is open, the chunk's number and the status.

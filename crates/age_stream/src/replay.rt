@@ -87,7 +87,7 @@ impl<'k, B: ChunkBox, const SEALED: usize> ReplayState<'k, B, SEALED> {
     }
 
     /// Returns the number of bytes of plaintext that an end releases, if it releases any.
-    fn end_room(&self) -> usize
+    fn last_chunk_room(&self) -> usize
         ensures { result ≡ text_at_end self.now.opener }
     {
         match self.opener.status() {
@@ -107,7 +107,7 @@ impl<'k, B: ChunkBox, const SEALED: usize> ReplayState<'k, B, SEALED> {
     }
 
     /// Ends the opener. The text must have room for the last plaintext.
-    fn end_opener(&mut self)
+    fn finish_opener(&mut self)
         requires { vec_len self.old.text + text_at_end self.old.opener
             ≤ vec_capacity self.old.text }
         ensures { Goes B.opening self.old self.new
@@ -119,12 +119,12 @@ impl<'k, B: ChunkBox, const SEALED: usize> ReplayState<'k, B, SEALED> {
     }
 
     /// Ends the opener, after reserving room for the last plaintext.
-    fn take_end(&mut self) -> Result<(), Memory>
+    fn deliver_eof(&mut self) -> Result<(), Memory>
         ensures { Delivers B.opening self.old End result self.new }
     {
-        let room = self.end_room();
+        let room = self.last_chunk_room();
         self.text.reserve(room)?;
-        self.end_opener();
+        self.finish_opener();
         Ok(())
     }
 
@@ -156,7 +156,7 @@ impl<'k, B: ChunkBox, const SEALED: usize> ReplayState<'k, B, SEALED> {
     {
         match delivery {
             Delivery::Piece(piece) => self.take_piece(piece),
-            Delivery::End => self.take_end(),
+            Delivery::End => self.deliver_eof(),
             Delivery::Restart(k) => {
                 self.restart(*k);
                 Ok(())

@@ -7,24 +7,25 @@
 
 use age_cli::{RunError, read_words, run_words, status};
 use age_cli_args::Request;
-use age_disk::{HostFiles, HostOut, Watched};
-use age_hints::{
-    RunContext, explain, explain_refusal, explain_word_like_help, find_row, find_word_like_help,
+use age_cli_hints::{
+    RunContext, explain, explain_refusal, explain_word_starting_with_h, find_fault_help,
+    find_word_starting_with_h,
 };
+use age_cli_messages::{LineStyle, ProgressLine, announce_reading, report_non_utf8};
+use age_host::{HostFiles, HostOut, RecordingStream};
 use age_io::{Reading, Writing};
-use age_messages::{LineStyle, ProgressLine, announce_reading, explain_words};
 use clap::Error;
 use std::alloc::Global;
 use std::io::{self, Eprint, IsTerminal};
 use std::process::ExitCode;
 
 /// Returns the arguments of the program. Fails if memory runs out, or if one of them isn't UTF-8.
-fn args_of(rt: &HostRuntime) -> io::Result<Vec<String>> {
+fn read_args(rt: &HostRuntime) -> io::Result<Vec<String>> {
     Ok(std::env::args(rt)?.collect(rt.alloc())?)
 }
 
 /// Returns the arguments after the program's name.
-fn words_of<'a>(alloc: Global, args: &'a [String]) -> io::Result<Vec<&'a str>> {
+fn arguments_after_name<'a>(alloc: Global, args: &'a [String]) -> io::Result<Vec<&'a str>> {
     let mut words = Vec::new(alloc);
     for arg in args.iter().skip(1) {
         words.push(arg.as_str())?;
@@ -39,12 +40,12 @@ fn out_of_memory(rt: &HostRuntime) -> ExitCode {
 }
 
 /// Reports that the command line can't be read, and returns the status.
-fn unread(rt: &HostRuntime, error: &io::Error) -> ExitCode {
+fn report_unreadable(rt: &HostRuntime, error: &io::Error) -> ExitCode {
     if error.kind() == io::ErrorKind::OutOfMemory {
         return out_of_memory(rt);
     }
     let _ = eprintln!(rt; "age_tool: bad command line");
-    explain_words(rt);
+    report_non_utf8(rt);
     ExitCode::from(2)
 }
 
@@ -58,7 +59,7 @@ fn progress_style(rt: &HostRuntime) -> LineStyle {
 }
 
 /// Prints what a fault means, and returns the status.
-fn print_row(rt: &HostRuntime, row: &str) -> ExitCode {
+fn print_fault_help(rt: &HostRuntime, row: &str) -> ExitCode {
     match println!(rt; "{row}") {
         Ok(()) => ExitCode::SUCCESS,
         Err(_) => {
@@ -69,7 +70,7 @@ fn print_row(rt: &HostRuntime, row: &str) -> ExitCode {
 }
 
 /// Returns the request of the arguments. If they make none, returns one that names no file.
-fn asked_by<'w>(read: &Result<Option<Request<'w>>, Error>) -> Request<'w> {
+fn request_or_inspect<'w>(read: &Result<Option<Request<'w>>, Error>) -> Request<'w> {
     match read {
         Ok(Some(asked)) => *asked,
         _ => Request::Inspect(None),
@@ -77,7 +78,7 @@ fn asked_by<'w>(read: &Result<Option<Request<'w>>, Error>) -> Request<'w> {
 }
 
 /// Reports why the parser of command lines refuses the words, and returns the status.
-fn refuse(rt: &HostRuntime, words: &[&str], error: &Error) -> ExitCode {
+fn report_refusal(rt: &HostRuntime, words: &[&str], error: &Error) -> ExitCode {
     match explain_refusal(rt, words, error) {
         Ok(()) => ExitCode::from(2),
         Err(_) => out_of_memory(rt),
@@ -86,15 +87,15 @@ fn refuse(rt: &HostRuntime, words: &[&str], error: &Error) -> ExitCode {
 
 /// Runs the command that the words ask for, over the files of the system and the standard streams,
 /// prints what people should know of the result, and returns the status.
-fn obey<'w>(rt: &HostRuntime, words: &'w [&'w str]) -> ExitCode {
+fn run_arguments<'w>(rt: &HostRuntime, words: &'w [&'w str]) -> ExitCode {
     if words.is_empty() {
         announce_reading(rt);
     }
     let read = read_words(rt.alloc(), words);
-    let asked = asked_by(&read);
+    let asked = request_or_inspect(&read);
     let mut files = HostFiles::new(rt);
-    let mut input = Reading::new(Watched::new(rt.reader()));
-    let mut output = Writing::new(Watched::new(io::writer(rt)));
+    let mut input = Reading::new(RecordingStream::new(rt.reader()));
+    let mut output = Writing::new(RecordingStream::new(io::writer(rt)));
     let mut faults = HostOut::faults(rt);
     let mut progress = ProgressLine::new(Writing::new(rt.stderr()), progress_style(rt), rt);
     let ended = run_words(
@@ -109,7 +110,7 @@ fn obey<'w>(rt: &HostRuntime, words: &'w [&'w str]) -> ExitCode {
     );
     let ending = match &ended {
         Ok(()) => None,
-        Err(RunError::Words(error)) => return refuse(rt, words, error),
+        Err(RunError::Words(error)) => return report_refusal(rt, words, error),
         Err(RunError::Unread) => return ExitCode::from(2),
         Err(RunError::Ended(ending)) => Some(ending),
     };
@@ -125,22 +126,22 @@ fn obey<'w>(rt: &HostRuntime, words: &'w [&'w str]) -> ExitCode {
 
 /// Runs the program, and returns its exit status.
 fn main(rt: HostRuntime) -> ExitCode {
-    let args = match args_of(&rt) {
+    let args = match read_args(&rt) {
         Ok(args) => args,
-        Err(error) => return unread(&rt, &error),
+        Err(error) => return report_unreadable(&rt, &error),
     };
-    match words_of(rt.alloc(), args.as_slice()) {
+    match arguments_after_name(rt.alloc(), args.as_slice()) {
         Ok(words) => match (
-            find_row(words.as_slice()),
-            find_word_like_help(words.as_slice()),
+            find_fault_help(words.as_slice()),
+            find_word_starting_with_h(words.as_slice()),
         ) {
-            (Some(row), _) => print_row(&rt, row),
+            (Some(row), _) => print_fault_help(&rt, row),
             (None, Some(word)) => {
-                explain_word_like_help(&rt, word);
+                explain_word_starting_with_h(&rt, word);
                 ExitCode::from(2)
             }
-            (None, None) => obey(&rt, words.as_slice()),
+            (None, None) => run_arguments(&rt, words.as_slice()),
         },
-        Err(error) => unread(&rt, &error),
+        Err(error) => report_unreadable(&rt, &error),
     }
 }

@@ -160,13 +160,13 @@ type Row<'a> = (&'a [u8], Delivery<'a>, &'a [u8], &'a [u8], Ending, u64);
 /// Returns whether a row is right with a [`ClearBox`].
 fn is_right(alloc: Global, row: Row<'_>) -> bool {
     let (before, then, after, text, ending, chunk) = row;
-    let status = status_of(ending, chunk);
+    let status = to_status(ending, chunk);
     let events = [Piece(before), then, Piece(after), End];
     leaves(alloc, &ClearBox, &events, (text, status, chunk, 0))
 }
 
 /// Returns the status of an ending.
-fn status_of(ending: Ending, chunk: u64) -> Status {
+fn to_status(ending: Ending, chunk: u64) -> Status {
     match ending {
         Some(kind) => Status::Failed(StreamFault { kind, chunk }),
         None => Status::Done,
@@ -288,7 +288,7 @@ fn is_bit_right(alloc: Global, key: &PayloadKey, sealed: &[u8], bit: usize) -> b
     }
     let chunk = bit / 160;
     let text = TEXT.get(..4 * chunk).unwrap_or(TEN_TEXT);
-    let status = status_of(DAMAGED, chunk as u64);
+    let status = to_status(DAMAGED, chunk as u64);
     leaves(
         alloc,
         key,

@@ -162,7 +162,7 @@ fn stops(alloc: Global, example: &Example, run: &Run, turn: u64) -> bool {
                 && bytes.len() == len_before(run, turn)
                 && whole(example, engine).starts_with(bytes.as_slice())
                 && position.is_some() == (turn >= position_from)
-                && goes_on(alloc, example, position, bytes.as_slice())
+                && can_resume(alloc, example, position, bytes.as_slice())
         }
         None => false,
     }
@@ -184,7 +184,7 @@ fn len_before(run: &Run, turn: u64) -> usize {
 
 /// Returns whether a stopped run has no position, or the right one for its output, from which
 /// another run makes the complete text.
-fn goes_on(alloc: Global, example: &Example, position: Option<Position>, old: &[u8]) -> bool {
+fn can_resume(alloc: Global, example: &Example, position: Option<Position>, old: &[u8]) -> bool {
     let Some(position) = position else {
         return true;
     };
@@ -217,18 +217,18 @@ fn outcome(alloc: Global, example: &Example, engine: Engine, failure: Failure) -
 }
 
 /// Returns the number of the call of this kind that fails, or `None` if none does.
-fn turn_of(failure: Failure, call: Call) -> Option<u64> {
+fn find_turn(failure: Failure, call: Call) -> Option<u64> {
     (failure.0 == call).then_some(failure.1)
 }
 
 /// Makes a source of some bytes, whose calls are of this kind.
 fn source(alloc: Global, bytes: &[u8], failure: Failure, call: Call) -> Option<MemSource> {
-    Some(MemSource::new(bytes.to_vec(alloc).ok()?, STEP, turn_of(failure, call)))
+    Some(MemSource::new(bytes.to_vec(alloc).ok()?, STEP, find_turn(failure, call)))
 }
 
 /// Makes a sink with room for the age file.
 fn sink(alloc: Global, failure: Failure) -> Option<MemSink> {
-    MemSink::new(alloc, 200_229, STEP, turn_of(failure, Put)).ok()
+    MemSink::new(alloc, 200_229, STEP, find_turn(failure, Put)).ok()
 }
 
 /// Runs an encryption in which one call fails.

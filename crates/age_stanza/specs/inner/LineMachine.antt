@@ -25,8 +25,8 @@ use Rattle.age_stanza.specs.declared.header.Header.{Header}
 use Rattle.age_stanza.specs.declared.header.Stanza.{Stanza}
 use Rattle.age_stanza.specs.declared.place.Next.{Next}
 use Rattle.age_stanza.specs.declared.place.Next.TheVariants.{Go, Done}
-use Rattle.age_stanza.specs.declared.place.Place.{Place}
-use Rattle.age_stanza.specs.declared.place.Place.TheVariants.{Start, Between, InBody}
+use Rattle.age_stanza.specs.declared.place.LineState.{LineState}
+use Rattle.age_stanza.specs.declared.place.LineState.TheVariants.{Start, Between, InBody}
 
 -- a list of bytes, else none
 abbrev pub only_bytes : Option (List ℕ) → Option (List ℕ)
@@ -76,7 +76,7 @@ body_line_result ss args body false (Some more) =
     Ok (Go (Between (ss ++ record { args = args; body = body ++ more } ∷ [])))
 
 -- where a line leads
-unfoldable pub step : Place → List ℕ → Result Next HeadKind
+unfoldable pub step : LineState → List ℕ → Result Next HeadKind
 step Start l =
     if bytes_eq l version then Ok (Go (Between []))
     else if bytes_eq l armor || bytes_eq l (armor ++ 13 ∷ []) then Err Armored
@@ -97,13 +97,13 @@ fault_at kind n = record { kind = kind; line = n }
 abbrev pub Found : Type 0
 Found = Option (Header × List ℕ)
 
-abbrev pub after : List ℕ → (Place → Found) → Result Next HeadKind → Found
+abbrev pub after : List ℕ → (LineState → Found) → Result Next HeadKind → Found
 after rest go (Err kind) = None
 after rest go (Ok (Done h)) = Some (h, rest)
 after rest go (Ok (Go place)) = go place
 
 -- the header that bytes lead to, from a place in whose line the characters so far are l
-unfoldable pub walk : Place → List ℕ → List ℕ → Found
+unfoldable pub walk : LineState → List ℕ → List ℕ → Found
 walk place l [] = None
 walk place l (c ∷ cs) =
     if c == 10 then after cs (λ next. walk next [] cs) (step place l)
@@ -135,14 +135,14 @@ unfoldable pub whole_lines : List ℕ → List ℕ
 whole_lines cs = flat_map line (first_chunks 64 (length cs / 64) cs)
 
 -- what the finished lines were before the line of a place
-abbrev pub bytes_before : Place → List ℕ
+abbrev pub bytes_before : LineState → List ℕ
 bytes_before Start = []
 bytes_before (Between ss) = stanzas_text ss
 bytes_before (InBody ss args body) =
     stanzas_text ss ++ (line (argument_line args) ++ whole_lines (base64_text body))
 
 -- what stands before a place is valid, and a body so far is full lines
-abbrev pub IsPlace : Place → Type 0
+abbrev pub IsPlace : LineState → Type 0
 IsPlace Start = Unit {0}
 IsPlace (Between ss) = AllByRecursion IsStanza ss
 IsPlace (InBody ss args body) =
@@ -150,7 +150,7 @@ IsPlace (InBody ss args body) =
     × (length body % 48 ≡ 0)
 
 -- finished lines led to this place, in line n
-pub record LeadTo (place : Place) (n : ℕ) : Type 0 where
+pub record LeadTo (place : LineState) (n : ℕ) : Type 0 where
   pub known : IsPlace place
   pub reaches : (rest : List ℕ) → walk Start [] (bytes_before place ++ rest) ≡ walk place [] rest
   pub line_is : n ≡ line_after (bytes_before place)
@@ -158,7 +158,7 @@ pub record LeadTo (place : Place) (n : ℕ) : Type 0 where
   pub are_bytes : IsBytes (bytes_before place)
 
 -- what is kept of the fields of a partial header
-pub record IsPartial (place : Place) (l : List ℕ) (bytes lines : ℕ) : Type 0 where
+pub record IsPartial (place : LineState) (l : List ℕ) (bytes lines : ℕ) : Type 0 where
   pub lead_to : LeadTo place (lines + 1)
   pub one_line : IsLine l
   pub line_bytes : IsBytes l
@@ -167,7 +167,7 @@ pub record IsPartial (place : Place) (l : List ℕ) (bytes lines : ℕ) : Type 0
 
 -- finished lines, and a begun one after them
 pub record UnderWay (held : List ℕ) : Type 0 where
-  pub place : Place
+  pub place : LineState
   pub n : ℕ
   pub l : List ℕ
   pub led : LeadTo place n

@@ -3,12 +3,12 @@
 ghost use Rattle.age_stanza.specs.inner.{Gives, step as step_of, end_line_result, argument_line_result};
 ghost use Rattle.age_stanza.specs.inner.{mac_of as spec_mac_of, AddsLine, arguments_of as spec_arguments_of};
 
-use super::{ARMOR, ARMOR_CR, Next, Place};
+use super::{ARMOR, ARMOR_CR, LineState, Next};
 use crate::argument::Arguments;
-use crate::argument_line::arguments_of;
+use crate::argument_line::split_arguments;
 use crate::header::{Header, Stanza, Stanzas};
 use crate::lengths::{COLUMNS, LINE_BYTES, VERSION};
-use crate::text::{decode_line, mac_of};
+use crate::text::{decode_line, parse_mac};
 use age_fault::HeadKind;
 use age_io::Bytes;
 use std::alloc::Global;
@@ -16,10 +16,10 @@ use std::alloc::Global;
 /// Parses the first line. Only the version line is valid; an armored file's has a fault of its own.
 #[tactic(auto, unfolding(crate::specs::inner::LineMachine::step))]
 fn first(alloc: Global, line: &[u8]) -> Result<Next, HeadKind>
-    ensures { Gives result (step_of Place.Start line.now) }
+    ensures { Gives result (step_of LineState.Start line.now) }
 {
     if line == VERSION.as_slice() {
-        return Ok(Next::Go(Place::Between(Stanzas::new(alloc))));
+        return Ok(Next::Go(LineState::Between(Stanzas::new(alloc))));
     }
     if line == ARMOR.as_slice() || line == ARMOR_CR.as_slice() {
         return Err(HeadKind::Armored);
@@ -31,7 +31,7 @@ fn first(alloc: Global, line: &[u8]) -> Result<Next, HeadKind>
 fn end(stanzas: Stanzas, line: &[u8]) -> Result<Next, HeadKind>
     ensures { Gives result (end_line_result stanzas (spec_mac_of line.now)) }
 {
-    let Some(mac) = mac_of(line) else {
+    let Some(mac) = parse_mac(line) else {
         return Err(HeadKind::BadEndLine);
     };
     if stanzas.is_empty() {
@@ -45,11 +45,11 @@ fn end(stanzas: Stanzas, line: &[u8]) -> Result<Next, HeadKind>
 fn begin(alloc: Global, stanzas: Stanzas, line: &[u8]) -> Result<Next, HeadKind>
     ensures { Gives result (argument_line_result stanzas (spec_arguments_of line.now)) }
 {
-    let Some(args) = arguments_of(alloc, line)? else {
+    let Some(args) = split_arguments(alloc, line)? else {
         return Err(HeadKind::BadStanzaLine);
     };
     let body = Bytes::new(alloc);
-    Ok(Next::Go(Place::InBody {
+    Ok(Next::Go(LineState::InBody {
         stanzas,
         args,
         body,
@@ -78,35 +78,35 @@ fn body_line(
     mut body: Bytes,
     line: &[u8],
 ) -> Result<Next, HeadKind>
-    ensures { Gives result (step_of (Place.InBody stanzas args body) line.now) }
+    ensures { Gives result (step_of (LineState.InBody stanzas args body) line.now) }
 {
     add_line(&mut body, line)?;
     if line.len() == COLUMNS {
-        return Ok(Next::Go(Place::InBody {
+        return Ok(Next::Go(LineState::InBody {
             stanzas,
             args,
             body,
         }));
     }
     stanzas.push(Stanza { args, body })?;
-    Ok(Next::Go(Place::Between(stanzas)))
+    Ok(Next::Go(LineState::Between(stanzas)))
 }
 
 /// Parses a line, wherever in the header it is.
 #[tactic(auto, unfolding(crate::specs::inner::LineMachine::step))]
-pub(crate) fn step(alloc: Global, place: Place, line: &[u8]) -> Result<Next, HeadKind>
+pub(crate) fn step(alloc: Global, place: LineState, line: &[u8]) -> Result<Next, HeadKind>
     ensures { Gives result (step_of place line.now) }
 {
     match place {
-        Place::Start => first(alloc, line),
-        Place::Between(stanzas) => {
+        LineState::Start => first(alloc, line),
+        LineState::Between(stanzas) => {
             if line.starts_with(b"---") {
                 end(stanzas, line)
             } else {
                 begin(alloc, stanzas, line)
             }
         }
-        Place::InBody {
+        LineState::InBody {
             stanzas,
             args,
             body,

@@ -1,6 +1,6 @@
 //! Tests that run the examples, over a file that Python made.
 
-use age_examples::{Counted, Either, Measure, seal_to, text_of};
+use age_examples::{Counted, CountingSink, Either, open_bytes, seal_to};
 use age_file::{MemSink, MemSource, Source};
 use age_keys::{FileKey, KnownKey, Passphrase, payload_key};
 use age_vectors::FILE_KEY;
@@ -16,9 +16,9 @@ pub(crate) const FILE: [u8; 113] =
 #[test]
 fn a_file_in_memory(rt: HostRuntime) -> Result<(), Fail> {
     let key = KnownKey::new(FILE_KEY);
-    let text = text_of(rt.alloc(), &key, FILE.to_vec(rt.alloc())?)?;
+    let text = open_bytes(rt.alloc(), &key, FILE.to_vec(rt.alloc())?)?;
     assert!(rt; text.as_slice() == b"hello".as_slice());
-    let cut = text_of(rt.alloc(), &key, FILE[..112].to_vec(rt.alloc())?);
+    let cut = open_bytes(rt.alloc(), &key, FILE[..112].to_vec(rt.alloc())?);
     assert!(rt; matches!(&cut, Err(fault) if fault.number() == 17));
     Ok(())
 }
@@ -29,7 +29,7 @@ fn the_second_of_two_keys(rt: HostRuntime) -> Result<(), Fail> {
         first: Passphrase::new(b"another", 10).ok_or("no passphrase")?,
         second: KnownKey::new(FILE_KEY),
     };
-    let text = text_of(rt.alloc(), &both, FILE.to_vec(rt.alloc())?)?;
+    let text = open_bytes(rt.alloc(), &both, FILE.to_vec(rt.alloc())?)?;
     assert!(rt; text.as_slice() == b"hello".as_slice());
     Ok(())
 }
@@ -49,7 +49,7 @@ fn a_payload_that_is_kept_or_measured(rt: HostRuntime) -> Result<(), Fail> {
     let mut kept = MemSink::new(rt.alloc(), 100, 7, None)?;
     seal_to(&key, b"hello", &mut kept)?;
     assert!(rt; kept.bytes() == &FILE[92..]);
-    let mut measured = Measure::new();
+    let mut measured = CountingSink::new();
     seal_to(&key, b"hello", &mut measured)?;
     assert!(rt; measured.count == 21);
     Ok(())

@@ -46,7 +46,7 @@ fn a_header(rt: HostRuntime) {
 }
 
 /// Returns whether a fault comes again at each later call, also that memory ran out.
-fn is_kept(alloc: Global) -> bool {
+fn is_durable(alloc: Global) -> bool {
     let mut parser = HeadParser::new(alloc);
     let Err(fault) = parser.feed(b"-> x\n") else {
         return false;
@@ -62,7 +62,7 @@ fn is_kept(alloc: Global) -> bool {
 
 #[test]
 fn a_fault_that_stays(rt: HostRuntime) {
-    assert!(rt; is_kept(rt.alloc()));
+    assert!(rt; is_durable(rt.alloc()));
 }
 
 #[test]

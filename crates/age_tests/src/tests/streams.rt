@@ -10,15 +10,15 @@ use std::io::{self, ErrorKind, Read, Write};
 /// A reader or writer that passes calls on to another. The call numbered `fail_call`, from 0,
 /// fails, and moves nothing.
 #[derive(Drop)]
-struct FailsAt<T> {
+struct FailingIo<T> {
     inner: T,
     calls: u32,
     fail_call: u32,
 }
 
-impl<T> FailsAt<T> {
-    fn new(inner: T, fail_call: u32) -> FailsAt<T> {
-        FailsAt {
+impl<T> FailingIo<T> {
+    fn new(inner: T, fail_call: u32) -> FailingIo<T> {
+        FailingIo {
             inner,
             calls: 0,
             fail_call,
@@ -35,14 +35,14 @@ impl<T> FailsAt<T> {
     }
 }
 
-impl<T: Read> Read for FailsAt<T> {
+impl<T: Read> Read for FailingIo<T> {
     fn read(&mut self, buf: &mut [u8]) -> io::Result<usize> {
         self.turn()?;
         self.inner.read(buf)
     }
 }
 
-impl<T: Write> Write for FailsAt<T> {
+impl<T: Write> Write for FailingIo<T> {
     fn write(&mut self, buf: &[u8]) -> io::Result<usize> {
         self.turn()?;
         self.inner.write(buf)
@@ -56,7 +56,7 @@ impl<T: Write> Write for FailsAt<T> {
 
 #[test]
 fn a_reader(rt: HostRuntime) {
-    let mut source = Reading::new(FailsAt::new(b"abc".as_slice(), 1));
+    let mut source = Reading::new(FailingIo::new(b"abc".as_slice(), 1));
     let mut into = [0u8; 2];
     assert!(rt; source.pull(&mut into) == Ok(2) && into == *b"ab");
     assert!(rt; source.pull(&mut into) == Err(Failed) && source.failures() == 1);
@@ -68,7 +68,7 @@ fn a_reader(rt: HostRuntime) {
 #[test]
 fn a_writer(rt: HostRuntime) {
     let mut held = [0u8; 3];
-    let mut sink = Writing::new(FailsAt::new(held.as_mut_slice(), 1));
+    let mut sink = Writing::new(FailingIo::new(held.as_mut_slice(), 1));
     assert!(rt; sink.put(b"ab") == Ok(2));
     assert!(rt; sink.flush() == Err(Failed) && sink.failures() == 1);
     assert!(rt; sink.flush() == Ok(()));
@@ -79,10 +79,10 @@ fn a_writer(rt: HostRuntime) {
 
 /// Returns the number of the fault with which a decryption stops if this read and this write fail,
 /// or 0 if it doesn't stop.
-fn fault_of(alloc: Global, fail_read: u32, fail_write: u32) -> u8 {
+fn run_failing_io(alloc: Global, fail_read: u32, fail_write: u32) -> u8 {
     let mut held = [0u8; 5];
-    let mut source = Reading::new(FailsAt::new(FILE.as_slice(), fail_read));
-    let mut sink = Writing::new(FailsAt::new(held.as_mut_slice(), fail_write));
+    let mut source = Reading::new(FailingIo::new(FILE.as_slice(), fail_read));
+    let mut sink = Writing::new(FailingIo::new(held.as_mut_slice(), fail_write));
     match decrypt(alloc, &KnownKey::new(FILE_KEY), &mut source, &mut sink) {
         Ok(_) => 0,
         Err(stopped) => stopped.fault.number(),
@@ -100,6 +100,6 @@ fn a_decryption(rt: HostRuntime) {
         (9, 1, 27),
         (2, 2, 0),
     ] {
-        assert!(rt; fault_of(rt.alloc(), fail_read, fail_write) == number);
+        assert!(rt; run_failing_io(rt.alloc(), fail_read, fail_write) == number);
     }
 }

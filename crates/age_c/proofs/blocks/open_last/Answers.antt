@@ -6,8 +6,8 @@ use Rattle.age_c.proofs.blocks.open_last.Goals as goal
 
 pub returns-clause-takes : goal.returns-clause-takes
 returns-clause-takes c =
-    let ended = c.end_opener-written in
-    let view : c.between-opener.result ≡ opener_of c.args.reader.now c.args.status = cc (c.between-opener.ensures.view, c.key_of-key.ensures) in
+    let ended = c.finish_opener-written in
+    let view : c.between-opener.result ≡ opener_of c.args.reader.now c.args.status = cc (c.between-opener.ensures.view, c.load_reader_key-key.ensures) in
     let passes = passes_both (λ s. with_piece s c.args.rest.now) with_end _ _ _ _ c.feed_rest.ensures.passes ended.ensures.passes in
     record {
       takes = takes_of (λ s. with_end (with_piece s c.args.rest.now)) _ _ c.args.status _ _ _ _ _ view c.requires.status passes

@@ -10,6 +10,6 @@ returns-in-Ok-clause-size c =
     let head : c.in-Ok.header ≡ scrypt_head c.args.pass.now c.args.work random.salt random.file_key = cc (c.in-Ok.ensures.head, c.new-key.ensures) in
     let salt : length random.salt ≡ 16 = search in
     let key : length random.file_key ≡ 16 = search in
-    let fronts = rw head at c.front_of.ensures.front in
-    IfOk-weaker c.front_of.result _ _
+    let fronts = rw head at c.encode_front.ensures.front in
+    IfOk-weaker c.encode_front.result _ _
     (λ front it. front_size c.args.pass.now c.args.work random.file_key random.salt random.payload_nonce front.items it salt key c.requires.most_log) fronts

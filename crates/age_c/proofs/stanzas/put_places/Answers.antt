@@ -24,6 +24,6 @@ loop-index-preserved c =
       text = omega (arith, was.text, parts);
       bodies = omega (arith, was.bodies);
       told = rw (c.stanza_len-at.ensures, c.len-body_at.ensures) (place_next c.loop-index.places _ c.args.stanzas.now i c.loop-index.at
-          c.loop-index.body_at s _ (omega arith) c.index-stanzas-index.is (omega arith) (ap (set c.loop-index.places i) c.place_of.ensures) was.told);
-      after = drop-set-lt (length c.args.stanzas.now) c.loop-index.places i c.place_of.result (omega arith) ∙ was.after;
+          c.loop-index.body_at s _ (omega arith) c.index-stanzas-index.is (omega arith) (ap (set c.loop-index.places i) c.locate_stanza.ensures) was.told);
+      after = drop-set-lt (length c.args.stanzas.now) c.loop-index.places i c.locate_stanza.result (omega arith) ∙ was.after;
     }

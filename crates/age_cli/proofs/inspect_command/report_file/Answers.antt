@@ -1,8 +1,8 @@
 use Rattle.std.proofs.Common.{◌∙◌, Ok, ap}
 use Rattle.std.proofs.lemmas.Result.{on_ok_weaker}
-use Rattle.age_fileset.specs.{Gave, reading_of}
-use Rattle.age_fileset.specs.declared.files.Missing.TheVariants.{Fails}
-use Rattle.age_fileset.proofs.{came_one, came_then, does_then, grows_by, opened_does, opened_came, then_came}
+use Rattle.age_cli_files.specs.{Gave, reading_of}
+use Rattle.age_cli_files.specs.declared.file_set.IfMissing.TheVariants.{Fails}
+use Rattle.age_cli_files.proofs.{came_one, came_then, does_then, grows_by, opened_does, opened_came, then_came}
 use Rattle.age_cli.proofs.{whole_report}
 use Rattle.age_cli.proofs.inspect_command.report_file.Goals as goal
 

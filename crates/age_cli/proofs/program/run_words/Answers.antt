@@ -12,20 +12,20 @@ returns-in-Ok-Some-clause-runs g c =
     let words = texts c.args.words.now in
     let made = rw c.in-Ok-Some.is at c.requires.read.made in
     let is = rw c.in-Ok-Some.is at c.in-Ok-Some.field-0-is in
-    runs words _ _ c.perform.result (c.perform.ensures.obeys words (subst (λ (o : Option Request). IfSome o (IsMadeBy words)) is made))
+    runs words _ _ c.run_and_conclude.result (c.run_and_conclude.ensures.obeys words (subst (λ (o : Option Request). IfSome o (IsMadeBy words)) is made))
 
 pub returns-in-Ok-None-clause-runs : goal.returns-in-Ok-None-clause-runs
 returns-in-Ok-None-clause-runs g c =
     let words = texts c.args.words.now in
     let unread = rw c.in-Ok-None.is at c.requires.read.unread in
     let is = rw c.in-Ok-None.is at c.in-Ok-None.field-0-is in
-    rw c.reported.ensures.same (
+    rw c.report_once.ensures.same (
     runs words _ _ (Err Unread)
     (record { done = tt; cause = subst (λ (o : Option Request). IfNone o (IsCausedBy words Unread)) is unread; untouched = refl; quiet = λ no. (refl, refl) }))
 
 pub returns-in-Err-clause-runs : goal.returns-in-Err-clause-runs
 returns-in-Err-clause-runs g c =
-    rw c.reported-in-Err.ensures.same (
+    rw c.report_once-in-Err.ensures.same (
     let words = texts c.args.words.now in
     let did = c.answer.ensures in
     let read = rw c.in-Err.is at c.requires.read.refuses in

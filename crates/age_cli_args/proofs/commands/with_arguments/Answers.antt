@@ -12,8 +12,8 @@ pub loop-argument-preserved : goal.loop-argument-preserved
 loop-argument-preserved c a h =
     let rest = c.loop-argument.invariant a h in
     let added = c.in_ok-whole.ensures in
-    let local = c.arg_of.ensures.local in
-    (add_one _ _ _ _ _ _ c.loop-argument-test.true (added.shape local) c.arg_of.ensures.rule ∙ rest.0, rw (added.globals, rest.1, local) refl)
+    let local = c.build_arg.ensures.local in
+    (add_one _ _ _ _ _ _ c.loop-argument-test.true (added.shape local) c.build_arg.ensures.rule ∙ rest.0, rw (added.globals, rest.1, local) refl)
 
 pub returns : goal.returns
 returns c a h =

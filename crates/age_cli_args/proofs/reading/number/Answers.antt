@@ -12,7 +12,7 @@ returns-in-Some-clause-value c =
     let f = found_of c.args.matches.now in
     let id = c.args.id.now in
     let n = c.in-Some.n in
-    IfSome_then c.within.result c.within.ensures.some (λ m w. subst (λ (o : Option Text). IsNumber c.args.default o m) (one_text-rows f id)
+    IfSome_then c.work_factor_in_range.result c.work_factor_in_range.ensures.some (λ m w. subst (λ (o : Option Text). IsNumber c.args.default o m) (one_text-rows f id)
     (subst (λ (k : ℕ). IsNumber c.args.default (one_text f id) k) (sym w.0)
     (number_read (λ bs r. ParsesUnsigned 32 10 bs r × ExplainsUnsignedError 10 bs r × HasUnsignedDigitsIfOk bs r)
     (one_text f id) n c.args.default c.in-Some.ensures.none c.in-Some.ensures.value (λ t x g. g.0) w.1 w.2)))
@@ -21,9 +21,9 @@ pub returns-in-Some-clause-none : goal.returns-in-Some-clause-none
 returns-in-Some-clause-none c =
     let f = found_of c.args.matches.now in
     let id = c.args.id.now in
-    none_weaker c.within.result _ _ (λ out m is. not_number (λ bs r. ParsesUnsigned 32 10 bs r × ExplainsUnsignedError 10 bs r × HasUnsignedDigitsIfOk bs r)
+    none_weaker c.work_factor_in_range.result _ _ (λ out m is. not_number (λ bs r. ParsesUnsigned 32 10 bs r × ExplainsUnsignedError 10 bs r × HasUnsignedDigitsIfOk bs r)
     (one_text f id) c.in-Some.n m c.args.default c.in-Some.ensures.none c.in-Some.ensures.value (λ t x g. g.0) out
-    (subst (λ (o : Option Text). IsNumber c.args.default o m) (sym (one_text-rows f id)) is)) c.within.ensures.none
+    (subst (λ (o : Option Text). IsNumber c.args.default o m) (sym (one_text-rows f id)) is)) c.work_factor_in_range.ensures.none
 
 pub returns-in-None-clause-value : goal.returns-in-None-clause-value
 returns-in-None-clause-value c =

@@ -1,5 +1,5 @@
 use Rattle.std.proofs.Common.{List, subst, sym, ap}
-use Rattle.age_fileset.specs.{FilesView, Outcome}
+use Rattle.age_cli_files.specs.{FilesView, Outcome}
 use Rattle.age_cli_memory.specs.{AreTrue}
 use Rattle.age_cli_memory.proofs.{leaves, reports, spares_asked, spares_done, spares_refused}
 use Rattle.age_cli_memory.proofs.laws.runs_keep_files.Goals as goal

@@ -18,8 +18,8 @@ loop-at-preserved g c =
     let on : take at text ++ take taken piece ≡ take (at + taken) text = take_on at taken text in
     let blocks : List ℕ → List ℕ = λ t. block_bytes (sealed_before_last (g.B.ChunkBox.sealing c.args.key.now) chunk_length t) in
     let chunk = rw inv.key at (c.in_ok-step.ensures.takes.chunk (take at text) inv.holds) in
-    let grown : blocks (take at text) ++ c.bytes_of.result.now ≡ blocks (take (at + taken) text) =
-    ap (λ (t : List ℕ). blocks (take at text) ++ t) c.bytes_of.ensures ∙ sym chunk ∙ ap blocks on in
+    let grown : blocks (take at text) ++ c.unwrap_chunk.result.now ≡ blocks (take (at + taken) text) =
+    ap (λ (t : List ℕ). blocks (take at text) ++ t) c.unwrap_chunk.ensures ∙ sym chunk ∙ ap blocks on in
     record {
       within = omega (
         arith,

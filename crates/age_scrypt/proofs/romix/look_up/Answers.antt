@@ -9,14 +9,14 @@ unfolding part x_block
 loop-round-preserved c =
     let x : List ℕ = c.loop-round.x in
     let table : List ℕ = c.args.table.now in
-    let place : ℕ = c.place_of-at.result in
+    let place : ℕ = c.pick_block-at.result in
     let width : 256 * place + 256 - 256 * place ≡ 256 = omega arith in
     let long : length (part 256 table place) ≡ 256 = omega (arith, length-take {A = ℕ}, length-drop {A = ℕ}) in
     let mixed : c.xor_blocks.new.to ≡ xor_words x (part 256 table place) = rw width at c.xor_blocks.ensures in
     record {
       x = λ b t e.
           let is = c.loop-round.invariant.x b t e in
-          let there = table_at c.args.n b table _ place t c.requires.count.some (c.place_of-at.ensures.place _ is) in
+          let there = table_at c.args.n b table _ place t c.requires.count.some (c.pick_block-at.ensures.place _ is) in
           rw add-one (c.block_mix.ensures.mixed _ (rw (← mixed) at (xor_turned _ _ x (part 256 table place) is there (omega arith) long)));
       counted = omega arith;
     }

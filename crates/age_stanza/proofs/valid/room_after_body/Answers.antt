@@ -9,4 +9,4 @@ returns-then-room-body-clause-leaves c =
 
 pub returns-clause-leaves : goal.returns-clause-leaves
 returns-clause-leaves c =
-    leaves _ _ _ _ c.checked_sub.ensures (length-body c.args.body.now ∙ ap (λ (n : ℕ). n + n / 64 + 1) (sym c.characters_of-characters.ensures.value))
+    leaves _ _ _ _ c.checked_sub.ensures (length-body c.args.body.now ∙ ap (λ (n : ℕ). n + n / 64 + 1) (sym c.count_characters-characters.ensures.value))

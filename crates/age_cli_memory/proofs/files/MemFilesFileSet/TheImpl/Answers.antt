@@ -1,6 +1,6 @@
 use Rattle.std.proofs.Common.{rules, arith}
 use Rattle.std.proofs.lemmas.Grind.{common_steps}
-use Rattle.age_fileset.proofs.{does_only, gave_puts}
+use Rattle.age_cli_files.proofs.{does_only, gave_puts}
 use Rattle.age_cli_memory.proofs.files.MemFilesFileSet.TheImpl.Goals as goal
 
 pub check_streams-tells : goal.check_streams-tells
@@ -21,11 +21,11 @@ prepare-tells g x c = record { same = search rules; faults = grind (arith, commo
 pub check_absent-tells : goal.check_absent-tells
 check_absent-tells g x c = record { same = search rules; faults = grind (arith, common_steps) }
 
-pub settle-tells : goal.settle-tells
-settle-tells g x c = record { noted = search rules; same = search rules; most = grind (arith, common_steps) }
+pub durable_len-tells : goal.durable_len-tells
+durable_len-tells g x c = record { noted = search rules; same = search rules; most = grind (arith, common_steps) }
 
-pub settled_so_far-tells : goal.settled_so_far-tells
-settled_so_far-tells g x c = record { noted = search rules; most = grind (arith, common_steps) }
+pub known_durable_len-tells : goal.known_durable_len-tells
+known_durable_len-tells g x c = record { noted = search rules; most = grind (arith, common_steps) }
 
 pub close-tells : goal.close-tells
 close-tells g x c = record { noted = grind (arith, common_steps); closed = grind (arith, common_steps); faults = search rules }

@@ -1,5 +1,5 @@
 use Rattle.std.proofs.Common.{rules, refl}
-use Rattle.age_fileset.specs.{Absent, Present}
+use Rattle.age_cli_files.specs.{Absent, Present}
 use Rattle.age_cli_memory.proofs.{kept_one}
 use Rattle.age_cli_memory.proofs.files.MemFilesFileSet.is_absent.Goals as goal
 

@@ -1,5 +1,5 @@
 use Rattle.std.proofs.Common.{rules, refl, Some, length}
-use Rattle.age_fileset.specs.{Found}
+use Rattle.age_cli_files.specs.{Found}
 use Rattle.age_cli_memory.proofs.{kept_one}
 use Rattle.age_cli_memory.proofs.files.MemFilesFileSet.open.Goals as goal
 

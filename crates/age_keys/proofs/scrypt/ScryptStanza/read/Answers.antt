@@ -12,7 +12,7 @@ returns-clause-read c =
     three_arguments (codes "scrypt") c.salt-item.result log c.args.stanza.now.args (sym c.is_scrypt.ensures ∙ c.if-not-is_scrypt.false)
     (rw slice at c.in-len3.len_at_least) (rw slice at c.in-len3.len_below) (rw slice at c.salt-item.is) (rw slice at c.log-item.is) in (
       digits_value 10 log,
-      c.number_of.ensures ∙ ap (λ (cs : List ℕ). min (digits_value 10 cs) 4294967295) c.as_slice-2.ensures,
+      c.parse_decimal.ensures ∙ ap (λ (cs : List ℕ). min (digits_value 10 cs) 4294967295) c.as_slice-2.ensures,
       record {
         characters = log;
         args = three ∙ ap (λ (t : List ℕ). codes "scrypt" ∷ t ∷ log ∷ []) (sym c.as_slice-else-not-is_scrypt.ensures ∙ c.if-not-read_base64.ensures.read);

@@ -1,7 +1,0 @@
-use Rattle.std.proofs.Common.{arith}
-use Rattle.std.proofs.lemmas.Grind.{common_steps}
-use Rattle.age_fileset.proofs.{does_only, gave_puts}
-use Rattle.age_cli_tests.proofs.tests.CountedFileSet.close_input.Goals as goal
-
-pub returns-clause-does : goal.returns-clause-does
-returns-clause-does g = grind (arith, common_steps, does_only, gave_puts)

@@ -1,8 +1,0 @@
-use Rattle.std.proofs.Common.{refl}
-use Rattle.age_disk.proofs.files.HostFilesFileSet.TheImpl.Goals as goal
-
-pub open-tells : goal.open-tells
-open-tells g x c = let e = c.ensures in record { noted = rw (e.came, e.unended) refl; begun = e.begun; named = e.named; faults = e.faults }
-
-pub replace-tells : goal.replace-tells
-replace-tells g x c = let e = c.ensures in record { noted = rw (e.came, e.unended) refl; faults = e.faults }

@@ -1,0 +1,3 @@
+pub mod OverwriteState
+pub mod inner
+unfoldable pub use OverwriteState.*

@@ -1,3 +1,0 @@
-pub mod Held
-pub mod inner
-unfoldable pub use Held.*

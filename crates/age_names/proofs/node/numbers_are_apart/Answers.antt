@@ -1,6 +1,0 @@
-use Rattle.std.proofs.lemmas.Grind.{common_steps}
-use Rattle.std.proofs.Common.{arith}
-use Rattle.age_names.proofs.node.numbers_are_apart.Goals as goal
-
-pub returns : goal.returns
-returns c one other first second same = grind (arith, common_steps)

@@ -1,5 +1,0 @@
-use Rattle.age_opening.proofs.RunLemmas.{in_a_row}
-use Rattle.age_opening.proofs.laws.runs_in_a_row.Goals as goal
-
-pub returns : goal.returns
-returns c = λ text last earlier few follow. in_a_row text few last earlier follow

@@ -1,9 +1,0 @@
-//! The encryption of a file under a passphrase, from any source to any sink.
-#![tactic(auto)]
-
-mod encryption;
-mod sealing;
-mod secret;
-
-pub use encryption::{Front, Written, encrypt, encrypt_after};
-pub use secret::Secret;
