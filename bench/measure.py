@@ -28,7 +28,12 @@ def least(call, turns):
 def resident(process):
     """The most memory that a process has had resident so far, in MiB; 0 once it has ended."""
     status = pathlib.Path(f"/proc/{process}/status").read_text()
-    return max((int(it.split()[1]) for it in status.splitlines() if it.startswith("VmHWM:")), default=0) / 1024
+    return (
+        max(
+            (int(it.split()[1]) for it in status.splitlines() if it.startswith("VmHWM:")), default=0
+        )
+        / 1024
+    )
 
 
 def cost(process, start):

@@ -101,7 +101,9 @@ def restore(file, key, out):
             ahead = file.read(65552)
             text = opened(key, number.to_bytes(11, "big") + bytes([not ahead]), piece)
             if text is None or (not text and number > 0):
-                sys.exit(f"restore: damaged or cut at chunk {number}: {out}.part holds what was before it")
+                sys.exit(
+                    f"restore: damaged or cut at chunk {number}: {out}.part holds what was before it"
+                )
             part.write(text)
             if not ahead:
                 break

@@ -5,12 +5,20 @@ import signal
 import sys
 
 # Names and pages are UTF-8: in a locale that isn't, Python begins once more.
-if sys.getfilesystemencoding() != "utf-8" and os.environ.get("PYTHONUTF8") != "1" and hasattr(sys, "orig_argv"):
+if (
+    sys.getfilesystemencoding() != "utf-8"
+    and os.environ.get("PYTHONUTF8") != "1"
+    and hasattr(sys, "orig_argv")
+):
     os.environ["PYTHONUTF8"] = "1"
     os.execv(sys.executable, sys.orig_argv)
 
 # A checkout may be another user's.
-os.environ |= {"GIT_CONFIG_COUNT": "1", "GIT_CONFIG_KEY_0": "safe.directory", "GIT_CONFIG_VALUE_0": "*"}
+os.environ |= {
+    "GIT_CONFIG_COUNT": "1",
+    "GIT_CONFIG_KEY_0": "safe.directory",
+    "GIT_CONFIG_VALUE_0": "*",
+}
 
 # A shell that runs the tests in the background has them ignore interrupts, and nohup has them ignore hangups. What they start would, too,
 # but for a signal that is handled, as by nothing here.

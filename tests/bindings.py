@@ -27,6 +27,7 @@ def module():
     os.environ["AGEFILE_LIBRARY"] = str(built.library() / "libagefile.so")
     sys.path.insert(0, str(PYTHON))
     import agefile._keys, agefile._output
+
     return agefile
 
 
@@ -48,7 +49,14 @@ def setUpModule():
 def python_with(module):
     """A Python that has this module: this one, or the system's."""
     found = f"import importlib.util; raise SystemExit(importlib.util.find_spec('{module}') is None)"
-    return next((it for it in (sys.executable, "/usr/bin/python3") if os.path.exists(it) and process.run([it, "-c", found]).returncode == 0), None)
+    return next(
+        (
+            it
+            for it in (sys.executable, "/usr/bin/python3")
+            if os.path.exists(it) and process.run([it, "-c", found]).returncode == 0
+        ),
+        None,
+    )
 
 
 def plain_of(length):
@@ -93,6 +101,7 @@ def by_python(data, size=-1, **keys):
 @contextlib.contextmanager
 def limited(seconds):
     """Ends a call that would wait forever."""
+
     def ended(*_):
         raise TimeoutError(f"no answer in {seconds} s")
 
@@ -115,7 +124,7 @@ def slow(data, size=7_000, buffering=0, pause=0.002):
         with open(sink, "wb", buffering=0) as sender, contextlib.suppress(BrokenPipeError):
             for at in range(0, len(data), size):
                 time.sleep(pause)
-                sender.write(data[at:at + size])
+                sender.write(data[at : at + size])
 
     thread = threading.Thread(target=sends)
     thread.start()
@@ -138,7 +147,9 @@ class BindingsCase(Case):
     def sealed(self, text):
         """The file of a text, whose file key is KEY."""
         self.write("in", text)
-        self.tool(*"encrypt --pass pw --log 1 --no-sync --random random in sealed".split(), check=True)
+        self.tool(
+            *"encrypt --pass pw --log 1 --no-sync --random random in sealed".split(), check=True
+        )
         return self.read("sealed")
 
     def judged(self, data, word="pw"):

@@ -28,7 +28,13 @@ def copy_to_pack(to):
     """Makes a copy of this checkout that packs what was built, and builds nothing."""
     library()
     program()
-    shutil.copytree(TOP, to, ignore=shutil.ignore_patterns("out", ".git", "target", "__pycache__", "libagefile_*.a", "tests", "edits"))
+    shutil.copytree(
+        TOP,
+        to,
+        ignore=shutil.ignore_patterns(
+            "out", ".git", "target", "__pycache__", "libagefile_*.a", "tests", "edits"
+        ),
+    )
     for name, script in STUBS.items():
         (to / name).write_text(script)
 
@@ -36,15 +42,31 @@ def copy_to_pack(to):
 def see_fresh(made, command, crate, *more):
     """Leaves tests out if a file isn't there, or a source of what it is made of has changed since, by the time that nothing sets back."""
     kit = shutil.which("rt")
-    sources = [*more, TOP / "crates.txt", TOP / "HANDLES", *([os.path.realpath(kit)] if kit else [])]
-    sources += [it for name in with_used(crate) for part in ("src", "specs", "proofs") for it in (CRATES / name / part).rglob("*")]
+    sources = [
+        *more,
+        TOP / "crates.txt",
+        TOP / "HANDLES",
+        *([os.path.realpath(kit)] if kit else []),
+    ]
+    sources += [
+        it
+        for name in with_used(crate)
+        for part in ("src", "specs", "proofs")
+        for it in (CRATES / name / part).rglob("*")
+    ]
     if not made.exists() or max(os.stat(it).st_ctime for it in sources) > made.stat().st_mtime:
-        raise unittest.SkipTest(f"run {command}: {made.relative_to(TOP)} isn't there, or is older than its sources")
+        raise unittest.SkipTest(
+            f"run {command}: {made.relative_to(TOP)} isn't there, or is older than its sources"
+        )
 
 
 def cache(name):
     """A folder for what a compiler keeps: beside the library, or among temporary files if that is another user's."""
-    return LIBRARY / name if os.access(LIBRARY, os.W_OK) else pathlib.Path(tempfile.gettempdir(), f"age-{name}-{os.getuid()}")
+    return (
+        LIBRARY / name
+        if os.access(LIBRARY, os.W_OK)
+        else pathlib.Path(tempfile.gettempdir(), f"age-{name}-{os.getuid()}")
+    )
 
 
 @functools.cache
@@ -60,7 +82,9 @@ def library():
     """The folder of the C library, unless it isn't built; AGE_C_DIR names another."""
     if "AGE_C_DIR" not in os.environ:
         parts = [it for at in (TOP / "bindings" / "c", TOP / "include") for it in at.glob("*.[ch]")]
-        see_fresh(LIBRARY / "libagefile.so", "bindings/build", "age_c", TOP / "bindings" / "build", *parts)
+        see_fresh(
+            LIBRARY / "libagefile.so", "bindings/build", "age_c", TOP / "bindings" / "build", *parts
+        )
     return LIBRARY
 
 
@@ -69,5 +93,7 @@ def proved_object():
     """The object of the program, as a run left it that proved the same sources; AGE_OBJECT names another."""
     made = os.environ.get("AGE_OBJECT") or libraries.Made("age_tool").found()
     if not made:
-        raise unittest.SkipTest("run python3 -m tools.libraries age_tool: no run left the object of these sources")
+        raise unittest.SkipTest(
+            "run python3 -m tools.libraries age_tool: no run left the object of these sources"
+        )
     return pathlib.Path(made)

@@ -30,7 +30,9 @@ def needs(*tools, root=False):
 
 def twice(one, other):
     """What is said of two names of one file, of which the first is the one to be written, if one is."""
-    return f"age_tool: same file named twice\nage_tool: {one} and {other} are the same file\n".encode()
+    return (
+        f"age_tool: same file named twice\nage_tool: {one} and {other} are the same file\n".encode()
+    )
 
 
 # The lines that are advice for people: they may change, and have tests of their own (tests/program/test_advice.py).
@@ -43,7 +45,9 @@ ADVICE = re.compile(
 def without_advice(said):
     """What was said on standard error, and then the advice in it."""
     lines = said.splitlines(keepends=True)
-    return b"".join(it for it in lines if not ADVICE.match(it)), b"".join(it for it in lines if ADVICE.match(it))
+    return b"".join(it for it in lines if not ADVICE.match(it)), b"".join(
+        it for it in lines if ADVICE.match(it)
+    )
 
 
 def feed(data, size):
@@ -92,7 +96,12 @@ class Case(unittest.TestCase):
 
     def tool(self, *words, **more):
         """Runs the program. What it says on standard error is `stderr`, and the advice in it `advice`."""
-        more = {"stdin": subprocess.DEVNULL, "stdout": subprocess.PIPE, "stderr": subprocess.PIPE, "timeout": SECONDS} | more
+        more = {
+            "stdin": subprocess.DEVNULL,
+            "stdout": subprocess.PIPE,
+            "stderr": subprocess.PIPE,
+            "timeout": SECONDS,
+        } | more
         ended = process.run([self.program, *words], cwd=self.room, **more)
         if ended.stderr is not None:
             ended.stderr, ended.advice = without_advice(ended.stderr)

@@ -18,13 +18,19 @@ import unittest
 
 from tests import case, pages
 
-LISTED = [it for it in pathlib.Path(__file__).with_name("optional").read_text().splitlines() if it and not it.startswith("#")]
+LISTED = [
+    it
+    for it in pathlib.Path(__file__).with_name("optional").read_text().splitlines()
+    if it and not it.startswith("#")
+]
 
 
 def may_lack(reason):
     """Whether tests/optional has this reason to leave a check out, or all that the check needs and lacks."""
     lacks = reason.removeprefix("needs ").split(" and ")
-    return all(it in LISTED for it in lacks) or any(it.endswith(":") and reason.startswith(it) for it in LISTED)
+    return all(it in LISTED for it in lacks) or any(
+        it.endswith(":") and reason.startswith(it) for it in LISTED
+    )
 
 
 class Counted(unittest.TextTestResult):
@@ -41,7 +47,9 @@ class Counted(unittest.TextTestResult):
 
     def stopTest(self, test):
         threading.excepthook = threading.__excepthook__
-        name, reasons = test.id().rpartition(".")[2], [why for it, why in self.skipped if test in (it, getattr(it, "test_case", None))]
+        name, reasons = test.id().rpartition(".")[2], [
+            why for it, why in self.skipped if test in (it, getattr(it, "test_case", None))
+        ]
         self.seconds[name] = round(time.monotonic() - self.begun, 1)
         if self.checks or Counted.asserted:
             self.ran.append(name)
@@ -56,13 +64,16 @@ class Counted(unittest.TextTestResult):
 
     def addSuccess(self, test):
         if not (self.checks or Counted.asserted):
-            return self.addFailure(test, (AssertionError, AssertionError("no check was made"), None))
+            return self.addFailure(
+                test, (AssertionError, AssertionError("no check was made"), None)
+            )
         super().addSuccess(test)
         self.passed += self.checks == 0
 
 
 def counting(check):
     """The same assertion, which is counted."""
+
     @functools.wraps(check)
     def counted(*words, **more):
         Counted.asserted += 1
@@ -73,16 +84,28 @@ def counting(check):
 
 def says(page, phrase):
     """Whether a page has a phrase. ("24 calls" isn't what "224 calls" says.)"""
-    return re.search(rf"(?<![\w,.]){re.escape(phrase)}(?!\w)", " ".join((pages.TOP / page).read_text().split()))
+    return re.search(
+        rf"(?<![\w,.]){re.escape(phrase)}(?!\w)", " ".join((pages.TOP / page).read_text().split())
+    )
 
 
 def wrong_beside(result, module, read):
     """What no test says is wrong: pages that lack a phrase, or were read and aren't listed, what was left out without being listed, and that
     nothing was checked."""
-    yield from (f"{page} doesn't say: {phrase}" for page, phrase in case.CLAIMED if not says(page, phrase))
-    yield from (f"{it} is read, and READS doesn't list it" for it in sorted(read) if not pages.is_listed(it, module))
+    yield from (
+        f"{page} doesn't say: {phrase}" for page, phrase in case.CLAIMED if not says(page, phrase)
+    )
+    yield from (
+        f"{it} is read, and READS doesn't list it"
+        for it in sorted(read)
+        if not pages.is_listed(it, module)
+    )
     if os.environ.get("AGE_TEST_ALL"):
-        yield from (f"{test}: left out, and tests/optional doesn't list this: {why}" for test, why in result.skipped if not may_lack(why))
+        yield from (
+            f"{test}: left out, and tests/optional doesn't list this: {why}"
+            for test, why in result.skipped
+            if not may_lack(why)
+        )
     if not (result.testsRun or result.skipped):
         yield "no check was made"
 
@@ -93,12 +116,28 @@ def main(file, result_file=None):
     [path] = pathlib.Path(__file__).parent.glob(f"*/{file}.py")
     read = pages.watched()
     module = importlib.import_module(f"tests.{path.parent.name}.{file}")
-    result = unittest.TextTestRunner(sys.stdout, verbosity=2, resultclass=Counted).run(unittest.defaultTestLoader.loadTestsFromModule(module))
+    result = unittest.TextTestRunner(sys.stdout, verbosity=2, resultclass=Counted).run(
+        unittest.defaultTestLoader.loadTestsFromModule(module)
+    )
     wrong = [*wrong_beside(result, module, read)]
-    failed = len(wrong) + sum(map(len, (result.failures, result.errors, result.expectedFailures, result.unexpectedSuccesses)))
-    print(*wrong, f"{result.passed} passed, {failed} failed, {len(result.skipped)} skipped", sep="\n")
+    failed = len(wrong) + sum(
+        map(
+            len,
+            (result.failures, result.errors, result.expectedFailures, result.unexpectedSuccesses),
+        )
+    )
+    print(
+        *wrong, f"{result.passed} passed, {failed} failed, {len(result.skipped)} skipped", sep="\n"
+    )
     if result_file:
-        told = {"passed": result.passed, "failed": failed, "skipped": len(result.skipped), "ran": result.ran, "left out": result.left_out, "seconds": result.seconds}
+        told = {
+            "passed": result.passed,
+            "failed": failed,
+            "skipped": len(result.skipped),
+            "ran": result.ran,
+            "left out": result.left_out,
+            "seconds": result.seconds,
+        }
         pathlib.Path(result_file).write_text(json.dumps(told))
     return failed != 0
 

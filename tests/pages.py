@@ -30,7 +30,11 @@ def watched():
     read = set()
 
     def see(event, words):
-        if event == "open" and isinstance(words[0], (str, os.PathLike)) and os.fspath(words[0]).endswith((".md", ".svg")):
+        if (
+            event == "open"
+            and isinstance(words[0], (str, os.PathLike))
+            and os.fspath(words[0]).endswith((".md", ".svg"))
+        ):
             name = os.path.relpath(os.path.realpath(words[0]), TOP)
             if is_page(name) and not name.startswith(".."):
                 read.add(name)
@@ -45,14 +49,22 @@ def is_listed(page, module):
 
 def listed_in(file):
     """READS of a file of tests, which isn't loaded for that."""
-    found = [it.value for it in ast.parse(file.read_text()).body if isinstance(it, ast.Assign) and getattr(it.targets[0], "id", None) == "READS"]
+    found = [
+        it.value
+        for it in ast.parse(file.read_text()).body
+        if isinstance(it, ast.Assign) and getattr(it.targets[0], "id", None) == "READS"
+    ]
     return ast.literal_eval(found[0]) if found else []
 
 
 def readers(changed):
     """The files of tests that read one of these pages."""
     files = sorted(TOP.glob("tests/*/test_*.py"))
-    return [it.stem for it in files if any(fnmatch.fnmatchcase(page, one) for one in listed_in(it) for page in changed)]
+    return [
+        it.stem
+        for it in files
+        if any(fnmatch.fnmatchcase(page, one) for one in listed_in(it) for page in changed)
+    ]
 
 
 def sum_of(path):
@@ -62,11 +74,25 @@ def sum_of(path):
 
 def sums():
     """A checksum of all that isn't a page, and those of the pages."""
-    listed = subprocess.run(["git", "ls-files", "-z", "--cached", "--others", "--exclude-standard"], cwd=TOP, stdout=subprocess.PIPE, check=True).stdout
-    names = sorted(it for it in {os.fsdecode(it) for it in listed.split(b"\0")} if it and os.path.lexists(TOP / it))
+    listed = subprocess.run(
+        ["git", "ls-files", "-z", "--cached", "--others", "--exclude-standard"],
+        cwd=TOP,
+        stdout=subprocess.PIPE,
+        check=True,
+    ).stdout
+    names = sorted(
+        it
+        for it in {os.fsdecode(it) for it in listed.split(b"\0")}
+        if it and os.path.lexists(TOP / it)
+    )
     kit = subprocess.run(["rt", "version"], capture_output=True, check=True).stdout.decode()
     others = [(it, sum_of(TOP / it)) for it in names if not is_page(it)]
-    return {"others": hashlib.sha256(repr((kit, sys.version, os.uname().release, others)).encode()).hexdigest(), "pages": {it: sum_of(TOP / it) for it in names if is_page(it)}}
+    return {
+        "others": hashlib.sha256(
+            repr((kit, sys.version, os.uname().release, others)).encode()
+        ).hexdigest(),
+        "pages": {it: sum_of(TOP / it) for it in names if is_page(it)},
+    }
 
 
 def place():

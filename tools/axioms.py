@@ -19,7 +19,12 @@ REACHED = re.compile(r"(?m)^\s*(\w+(?:::\w+)+)\b.*\breached$")
 
 def roots():
     """The program and the static library."""
-    return [name for name, line in lines().items() if " staticlib" in line.partition(":")[0] or (TOP / "crates" / name / "src" / "main.rt").is_file()]
+    return [
+        name
+        for name, line in lines().items()
+        if " staticlib" in line.partition(":")[0]
+        or (TOP / "crates" / name / "src" / "main.rt").is_file()
+    ]
 
 
 def asked(crate, room):
@@ -28,8 +33,19 @@ def asked(crate, room):
     workspace = Workspace(room, below)
     collections.deque(workspace.prove(), maxlen=0)
     copy_into(workspace.top, [*below, crate])
-    words = [kit() / "bin" / "rattle", "check", *workspace.words(crate, processors()), "--list-axioms"]
-    how = {"stdin": subprocess.DEVNULL, "stdout": subprocess.PIPE, "stderr": subprocess.STDOUT, "text": True, "errors": "replace"}
+    words = [
+        kit() / "bin" / "rattle",
+        "check",
+        *workspace.words(crate, processors()),
+        "--list-axioms",
+    ]
+    how = {
+        "stdin": subprocess.DEVNULL,
+        "stdout": subprocess.PIPE,
+        "stderr": subprocess.STDOUT,
+        "text": True,
+        "errors": "replace",
+    }
     run = subprocess.run(words, cwd=workspace.top / "crates" / crate, **how)
     if run.returncode:
         raise Unproved(f"{run.stdout}{crate} isn't proved\n")

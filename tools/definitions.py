@@ -32,7 +32,12 @@ PRELUDE = {
     "drop": of_two(lambda n, xs: xs[n:]),
     "replicate": of_two(lambda n, x: bytes([x]) * n),
 }
-OPERATORS = {"+": lambda x, y: x + y, "-": lambda x, y: max(x - y, 0), "++": joined, "∷": lambda x, xs: (x, *xs)}
+OPERATORS = {
+    "+": lambda x, y: x + y,
+    "-": lambda x, y: max(x - y, 0),
+    "++": joined,
+    "∷": lambda x, xs: (x, *xs),
+}
 
 
 class Parser:
@@ -48,7 +53,9 @@ class Parser:
     def take(self, wanted=None):
         token = self.next()
         if wanted is not None and token != wanted:
-            raise ValueError(f"{wanted} is missing before {' '.join(self.tokens[self.at : self.at + 6])}")
+            raise ValueError(
+                f"{wanted} is missing before {' '.join(self.tokens[self.at : self.at + 6])}"
+            )
         self.at += 1
         return token
 
@@ -82,7 +89,11 @@ class Parser:
 
     def application(self):
         function, parts = self.atom(), []
-        while self.next() in ("(", "[]") or self.next().isdigit() or (NAME.fullmatch(self.next()) and self.next() not in WORDS):
+        while (
+            self.next() in ("(", "[]")
+            or self.next().isdigit()
+            or (NAME.fullmatch(self.next()) and self.next() not in WORDS)
+        ):
             parts.append(self.atom())
 
         def value(names):
@@ -134,7 +145,13 @@ def pattern(parser):
     """A parameter of an equation: a function that says which names get which values, or None if it doesn't fit."""
     if parser.next() != "(":
         name = parser.take()
-        return lambda value: {name: value} if not name[0].isupper() else {} if value == (name,) else None
+        return (
+            lambda value: {name: value}
+            if not name[0].isupper()
+            else {}
+            if value == (name,)
+            else None
+        )
     parser.take("(")
     constructor, names = parser.take(), []
     while parser.next() != ")":
@@ -179,6 +196,11 @@ def read(path):
     names = dict(PRELUDE)
     for statement in re.split(r"\n(?=[^\s}])", text):
         head = NAME.match(statement)
-        if head and head[0] not in ("use", "pub", "abbrev") and "=" in statement and not re.match(r"\S+ :", statement):
+        if (
+            head
+            and head[0] not in ("use", "pub", "abbrev")
+            and "=" in statement
+            and not re.match(r"\S+ :", statement)
+        ):
             names.setdefault(head[0], Equations(names)).texts.append(statement)
     return names

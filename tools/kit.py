@@ -16,13 +16,22 @@ def folder():
 
 def identity():
     """The kit's name, and the checksum of its logic, as `rt version` tells them."""
-    name, _, logic = subprocess.run(["rt", "version"], check=True, capture_output=True, text=True).stdout.strip().partition(" ")
+    name, _, logic = (
+        subprocess.run(["rt", "version"], check=True, capture_output=True, text=True)
+        .stdout.strip()
+        .partition(" ")
+    )
     return name, logic.removeprefix("logic ")
 
 
 def uses(crate):
     """The crates of the kit that one of them names."""
-    words = (it.split() for it in (folder() / "rlibs" / f"{crate}.rlib" / "format").read_text(errors="replace").splitlines())
+    words = (
+        it.split()
+        for it in (folder() / "rlibs" / f"{crate}.rlib" / "format")
+        .read_text(errors="replace")
+        .splitlines()
+    )
     return [it[1] for it in words if it[:1] == ["dep"]]
 
 

@@ -25,8 +25,10 @@ TARGET = os.environ.get("TARGET") or OWN_TARGET
 PARTS = ("src", "specs", "proofs")
 # What `rattle` says of code that it proves and that `rt ci` refuses: that a contract says nothing, in a line of its own, or in the last line that
 # the code does what HANDLES doesn't allow, or what no contract tells.
-BEYOND = re.compile(r"(?m)^warning: no call of `(?![^`]*::fn::)|^note: the search for empty contracts did not end"
-                    r"|^logic=proved .* (?:foreign|hides|partial|may-abort|may-wait|may-serve|bugs|main)=")
+BEYOND = re.compile(
+    r"(?m)^warning: no call of `(?![^`]*::fn::)|^note: the search for empty contracts did not end"
+    r"|^logic=proved .* (?:foreign|hides|partial|may-abort|may-wait|may-serve|bugs|main)="
+)
 # How many of the files that were made are kept, those used last.
 MOST = 32
 SAID = re.compile(r"rt: (\w+) (proved|is kept: .*)\n")
@@ -48,13 +50,21 @@ def note_older_kit():
     said = subprocess.run(["rt", "help"], capture_output=True, text=True)
     if "What a run passed is kept" not in said.stdout + said.stderr:
         name = (kit() / "KIT-ID").read_text().split()[0]
-        print(f"note: {name} keeps nothing of what it proves: all is proved anew, which takes longer", file=sys.stderr, flush=True)
+        print(
+            f"note: {name} keeps nothing of what it proves: all is proved anew, which takes longer",
+            file=sys.stderr,
+            flush=True,
+        )
 
 
 @functools.cache
 def sum_of_kit():
     """A sum of what names the kit, and of the sizes and times of what proves and compiles by it."""
-    parts = [it for pattern in ("KIT-ID", "bin/*", "toolchain/bin/*", "logic_built/*", "rlibs/*/format") for it in sorted(kit().glob(pattern))]
+    parts = [
+        it
+        for pattern in ("KIT-ID", "bin/*", "toolchain/bin/*", "logic_built/*", "rlibs/*/format")
+        for it in sorted(kit().glob(pattern))
+    ]
     known = [(str(it), it.stat().st_size, it.stat().st_mtime_ns) for it in parts]
     return sum_of((kit() / "KIT-ID").read_text(), known)
 
@@ -71,7 +81,13 @@ def sum_of_sources(crate, top=TOP):
     """A sum of all that a proof of a crate reads in a workspace: its sources and those of the crates that it uses, what crates.txt and HANDLES say
     of them, and the kit."""
     of = with_used(crate)
-    files = [it for name in of for part in PARTS for it in sorted((top / "crates" / name / part).rglob("*")) if it.is_file()]
+    files = [
+        it
+        for name in of
+        for part in PARTS
+        for it in sorted((top / "crates" / name / part).rglob("*"))
+        if it.is_file()
+    ]
     held = [(str(it.relative_to(top)), sum_of_file(it)) for it in files]
     return sum_of(sum_of_kit(), [lines()[it] for it in of], (top / "HANDLES").read_text(), held)
 
@@ -96,10 +112,22 @@ class Workspace:
         if not self.names:
             return
         note_older_kit()
-        how = {"stdin": subprocess.DEVNULL, "stdout": subprocess.PIPE, "stderr": subprocess.STDOUT, "text": True, "errors": "replace"}
+        how = {
+            "stdin": subprocess.DEVNULL,
+            "stdout": subprocess.PIPE,
+            "stderr": subprocess.STDOUT,
+            "text": True,
+            "errors": "replace",
+        }
         env = {**os.environ, "PYTHONPATH": str(TOP)}
         # In a session of its own, an interrupt at the terminal doesn't reach it: it would wait for its checks, which end with it.
-        with subprocess.Popen([sys.executable, "-m", "tools.rt_ci"], cwd=self.top, start_new_session=True, env=env, **how) as run:
+        with subprocess.Popen(
+            [sys.executable, "-m", "tools.rt_ci"],
+            cwd=self.top,
+            start_new_session=True,
+            env=env,
+            **how,
+        ) as run:
             self.run, said = run, ""
             try:
                 for line in run.stdout:
@@ -129,26 +157,59 @@ class Workspace:
             words += ["--extern", f"{it}={self.library(it)}/{it}.rlib"]
         for it in with_used(crate)[:-1]:
             words += ["-L", f"dependency={self.library(it)}"]
-        words += ["--antt-project", f"{kit()}/rattle/logic/antt-project.json", "--logic-built", f"{kit()}/logic_built"]
+        words += [
+            "--antt-project",
+            f"{kit()}/rattle/logic/antt-project.json",
+            "--logic-built",
+            f"{kit()}/logic_built",
+        ]
         words += ["--jobs", str(jobs), "--links", f"{crate}="]
-        return words + ["--crate-type", "staticlib"] * (lines()[crate].partition(":")[0].split()[1:2] == ["staticlib"])
+        return words + ["--crate-type", "staticlib"] * (
+            lines()[crate].partition(":")[0].split()[1:2] == ["staticlib"]
+        )
 
     def compile(self, crate, jobs):
         """Proves a program or a static library, and compiles it in the same run: the path of its object or library."""
         made = self.top / "crates" / crate / "out" / f"{crate}.{'o' if is_program(crate) else 'a'}"
         made.parent.mkdir(exist_ok=True)
         words = [kit() / "bin" / "rattle", "build", *self.words(crate, jobs), "--empty-contracts"]
-        words += ["--toolchain", kit() / "toolchain", "--target", TARGET, "--backend", "llvm", "-o", made]
-        run = subprocess.run(words, cwd=made.parent.parent, stdin=subprocess.DEVNULL, stdout=subprocess.PIPE, stderr=subprocess.STDOUT, text=True, errors="replace")
-        if run.returncode or "\nlogic=proved " not in f"\n{run.stdout}" or BEYOND.search(run.stdout):
-            raise Unproved(f"{run.stdout}{crate} NOT PROVED: rattle ended with status {run.returncode}\n")
+        words += [
+            "--toolchain",
+            kit() / "toolchain",
+            "--target",
+            TARGET,
+            "--backend",
+            "llvm",
+            "-o",
+            made,
+        ]
+        run = subprocess.run(
+            words,
+            cwd=made.parent.parent,
+            stdin=subprocess.DEVNULL,
+            stdout=subprocess.PIPE,
+            stderr=subprocess.STDOUT,
+            text=True,
+            errors="replace",
+        )
+        if (
+            run.returncode
+            or "\nlogic=proved " not in f"\n{run.stdout}"
+            or BEYOND.search(run.stdout)
+        ):
+            raise Unproved(
+                f"{run.stdout}{crate} NOT PROVED: rattle ended with status {run.returncode}\n"
+            )
         return made
 
 
 def places():
     """Where it is kept what runs made of proved sources: for all checkouts of this user, or else in this one."""
     cache = pathlib.Path(os.environ.get("XDG_CACHE_HOME") or os.path.expanduser("~/.cache"))
-    return [*([cache / "age_tool"] if cache.is_absolute() else []), TOP / "bindings" / "out" / "kept"]
+    return [
+        *([cache / "age_tool"] if cache.is_absolute() else []),
+        TOP / "bindings" / "out" / "kept",
+    ]
 
 
 def kept(kind, name):
@@ -187,7 +248,11 @@ class Made:
     def keep(self, made):
         """Keeps a file: its path."""
         found = keep("made", self.name + sum_of_file(made), lambda to: shutil.copy(made, to))
-        for it in sorted(found.parent.iterdir(), key=lambda it: -it.stat().st_mtime)[MOST:] if found else ():
+        for it in (
+            sorted(found.parent.iterdir(), key=lambda it: -it.stat().st_mtime)[MOST:]
+            if found
+            else ()
+        ):
             it.unlink()
         return found
 
@@ -220,7 +285,11 @@ def main(crate):
         done.append(it)
         how = "was proved before" if is_kept else "proved"
         taken = f"{(time.monotonic() - begun) / 60:.0f} min"
-        print(f"[{of if it == crate else len(done)}/{of}] {it} {how}, {taken}", file=sys.stderr, flush=True)
+        print(
+            f"[{of if it == crate else len(done)}/{of}] {it} {how}, {taken}",
+            file=sys.stderr,
+            flush=True,
+        )
 
     for it in (signal.SIGTERM, signal.SIGHUP):
         signal.signal(it, lambda number, _: sys.exit(128 + number))

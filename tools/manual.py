@@ -41,13 +41,26 @@ def tables(text):
 
 def faults(text):
     """The row of each fault in a page, with what it leaves in OUT: nothing new, unless the page's list of exceptions names its number."""
-    left = {number: " ".join(said.split()) for numbers, said in re.findall(r"(?m)^- \*\*([\d, ]+)\*\*: (.*(?:\n  .*)*)", text) for number in numbers.split(", ")}
-    return [{**row, "What is left in OUT": left.get(row["No."], "unchanged")} for row in tables(text) if "No." in row]
+    left = {
+        number: " ".join(said.split())
+        for numbers, said in re.findall(r"(?m)^- \*\*([\d, ]+)\*\*: (.*(?:\n  .*)*)", text)
+        for number in numbers.split(", ")
+    }
+    return [
+        {**row, "What is left in OUT": left.get(row["No."], "unchanged")}
+        for row in tables(text)
+        if "No." in row
+    ]
 
 
 def roff(text):
     """Markdown as a line of roff: code in bold, links as their words."""
-    text = re.sub(r"\[([^]]*)\]\([^)]*\)", r"\1", text).replace(r"\|", "|").replace("\\", r"\e").replace("-", r"\-")
+    text = (
+        re.sub(r"\[([^]]*)\]\([^)]*\)", r"\1", text)
+        .replace(r"\|", "|")
+        .replace("\\", r"\e")
+        .replace("-", r"\-")
+    )
     text = re.sub(r"`([^`]*)`", r"\\fB\1\\fR", text)
     return rf"\&{text}" if text.startswith((".", "'")) else text
 
@@ -62,8 +75,12 @@ def text_of_faults():
     parts, page = [HEAD], SOURCE.read_text()
     for row in faults(page):
         parts.append(f".SS {row['No.']} {row['Name']}\n{roff(sentence(row['What it means']))}\n")
-        parts.append(f".br\nOUT: {roff(row['What is left in OUT'])}.\n.br\nWhat to do: {roff(row['What to do'])}.\n")
-    parts.append(".SH STATUS 2\nA command line that can't be obeyed ends with status 2, and a message from the parser or one of these.\n")
+        parts.append(
+            f".br\nOUT: {roff(row['What is left in OUT'])}.\n.br\nWhat to do: {roff(row['What to do'])}.\n"
+        )
+    parts.append(
+        ".SH STATUS 2\nA command line that can't be obeyed ends with status 2, and a message from the parser or one of these.\n"
+    )
     for row in (it for it in tables(page) if "Message" in it):
         parts.append(f".TP\n{roff(row['Message'])}\n{roff(sentence(row['What it means']))}\n")
     parts.append(".SH SEE ALSO\n.BR age_tool (1)\n")
@@ -90,15 +107,24 @@ def plain(text):
     """Markdown as a terminal shows it, in lines of 80 columns, none of which breaks code."""
     text = re.sub(r"\[([^]]*)\]\([^)]*\)", r"\1", text).replace(r"\|", "|")
     text = re.sub("`([^`]*)`", lambda it: it[1].replace(" ", "\0"), text)
-    return "\n".join(textwrap.wrap(text, 80, break_long_words=False, break_on_hyphens=False)).replace("\0", " ")
+    return "\n".join(
+        textwrap.wrap(text, 80, break_long_words=False, break_on_hyphens=False)
+    ).replace("\0", " ")
 
 
 def rows_of_faults():
     """The file of the program that has a row for each fault."""
     rows, last = [], 0
     for row in faults(SOURCE.read_text()):
-        said = [f"{row['No.']} {row['Name']}", sentence(row["What it means"]), f"OUT: {row['What is left in OUT']}.", f"What to do: {row['What to do']}."]
+        said = [
+            f"{row['No.']} {row['Name']}",
+            sentence(row["What it means"]),
+            f"OUT: {row['What is left in OUT']}.",
+            f"What to do: {row['What to do']}.",
+        ]
         text = "\n".join(map(plain, said)).replace("\\", "\\\\").replace('"', '\\"')
         last = max(last, int(row["No."]))
         rows.append(f'        {row["No."]} => ("{row["Name"]}", "{text}"),\n')
-    return f"{ROWS_HEAD % last}{''.join(rows)}        _ => return None,\n    }};\n    Some(row)\n}}\n"
+    return (
+        f"{ROWS_HEAD % last}{''.join(rows)}        _ => return None,\n    }};\n    Some(row)\n}}\n"
+    )

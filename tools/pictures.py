@@ -24,8 +24,15 @@ CUTS = [
     Cut("in the nonce", 9, "16 NonceCut", 0),
     Cut("just before a chunk", NONCE + BLOCK, "20 Truncated chunk 1", 1),
     Cut("in the first 15 bytes of a chunk", NONCE + BLOCK + 9, "18 ChunkCut chunk 1", 1),
-    Cut("later in a chunk, as nearly every cut does", NONCE + BLOCK + 40_000, "17 ChunkDamaged chunk 1", 1),
-    Cut("after bytes that were appended", NONCE + 2 * BLOCK + LAST + 1, "17 ChunkDamaged chunk 2", 2),
+    Cut(
+        "later in a chunk, as nearly every cut does",
+        NONCE + BLOCK + 40_000,
+        "17 ChunkDamaged chunk 1",
+        1,
+    ),
+    Cut(
+        "after bytes that were appended", NONCE + 2 * BLOCK + LAST + 1, "17 ChunkDamaged chunk 2", 2
+    ),
 ]
 # What `resume` does, and the fault if that fails. The position is at chunk 2.
 STEPS = [
@@ -37,7 +44,15 @@ STEPS = [
     ("the blocks before it are skipped in IN, unread if IN is a regular file", 20),
     ("each later chunk is opened, checked and written", 17),
 ]
-FAULTS = {17: "ChunkDamaged", 20: "Truncated", 23: "BadPosition", 24: "OtherFile", 25: "ShortText", 30: "PositionForged", 31: "OldTextDiffers"}
+FAULTS = {
+    17: "ChunkDamaged",
+    20: "Truncated",
+    23: "BadPosition",
+    24: "OtherFile",
+    25: "ShortText",
+    30: "PositionForged",
+    31: "OldTextDiffers",
+}
 
 
 def words_of(name):
@@ -49,8 +64,14 @@ def differences():
     """What the pictures should say and don't."""
     for name, wanted in (
         ("cut.svg", [part for it in CUTS for part in (it.where, it.fault)]),
-        ("resume.svg", [part for words, fault in STEPS for part in (words, f"{fault} {FAULTS[fault]}")]),
+        (
+            "resume.svg",
+            [part for words, fault in STEPS for part in (words, f"{fault} {FAULTS[fault]}")],
+        ),
     ):
         yield from (f"docs/{name} doesn't say: {it}" for it in wanted if it not in words_of(name))
     shown = {*re.findall(r"\bage_\w+", " ".join(words_of("crates.svg")))}
-    yield from (f"docs/crates.svg: {it} is {'not there' if it in lines() else 'no crate'}" for it in sorted(shown ^ {*lines()}))
+    yield from (
+        f"docs/crates.svg: {it} is {'not there' if it in lines() else 'no crate'}"
+        for it in sorted(shown ^ {*lines()})
+    )

@@ -57,7 +57,11 @@ def contract_of(promise):
 def definition_of(promise):
     """The definition that a promise names, by its module and name; of several in unlike crates that of its own crate."""
     chapter, _, name = promise.definition.partition(".")
-    found = [(module, name) for module, it in reading().modules.items() if module.endswith(f".{chapter}") and ".specs." in module and name in it.definitions]
+    found = [
+        (module, name)
+        for module, it in reading().modules.items()
+        if module.endswith(f".{chapter}") and ".specs." in module and name in it.definitions
+    ]
     return sorted(found, key=lambda it: it[0].split(".")[1] != promise.crate)[:1]
 
 
@@ -101,8 +105,15 @@ def described(module, name):
     known = reading().modules[module]
     text = known.definitions[name]
     said = comments_of(known.path) if hasattr(known, "path") else {}
-    parts = {part: {"sum": sum_of(it)} | ({"says": said[name, part]} if said.get((name, part)) else {}) for part, it in parts_of(text).items()}
-    return {"sum": sum_of("\n".join(text))} | ({"says": said[name, ""]} if said.get((name, "")) else {}) | ({"parts": parts} if parts else {})
+    parts = {
+        part: {"sum": sum_of(it)} | ({"says": said[name, part]} if said.get((name, part)) else {})
+        for part, it in parts_of(text).items()
+    }
+    return (
+        {"sum": sum_of("\n".join(text))}
+        | ({"says": said[name, ""]} if said.get((name, "")) else {})
+        | ({"parts": parts} if parts else {})
+    )
 
 
 def text_of(module, name):
@@ -115,27 +126,54 @@ def one_promise(promise):
     clause = promise.clause if promise.clause != "-" else ""
     stated = [it for it in contract if it[0] == "ensures" and (not clause or it[1] == clause)]
     required = [it for it in contract if it[0] == "requires"]
-    cited, asked = ({it for _, _, text in them for it in file_of(promise).cited_in(text)} for them in (stated, required))
+    cited, asked = (
+        {it for _, _, text in them for it in file_of(promise).cited_in(text)}
+        for them in (stated, required)
+    )
     # (the clause may say more than this promise, which is then a part of what it leads to)
     reached = reading().closure([*(root or cited), *asked])
     leads = not root or root[0] in reading().closure(cited)
     keys = sorted(key_of(*it) for it in reached)
     sums = sorted((key_of(*it).partition(" ")[2], sum_of(text_of(*it))) for it in reached)
     held = {
-        "name": slug(promise.promise), "promise": promise.promise, "crate": promise.crate, "function": f"{promise.module}::{promise.name}", "clause": clause,
-        "states": {name or str(place): text for place, (_, name, text) in enumerate(stated)}, "requires": {name or str(place): text for place, (_, name, text) in enumerate(required)},
+        "name": slug(promise.promise),
+        "promise": promise.promise,
+        "crate": promise.crate,
+        "function": f"{promise.module}::{promise.name}",
+        "clause": clause,
+        "states": {name or str(place): text for place, (_, name, text) in enumerate(stated)},
+        "requires": {name or str(place): text for place, (_, name, text) in enumerate(required)},
         "clauses": [name for kind, name, _ in contract if kind == "ensures" and name],
-        "definition": key_of(*root[0]) if root else "", "reads": text_of(*root[0]) if root else "",
-        "cites": sorted({key_of(*it) for it in (reading().modules[root[0][0]].cites[root[0][1]] if root else cited) if it in reached}),
-        "leads": leads, "definitions": keys, "edits": [it for it in (promise.edit,) if it != "-"],
+        "definition": key_of(*root[0]) if root else "",
+        "reads": text_of(*root[0]) if root else "",
+        "cites": sorted(
+            {
+                key_of(*it)
+                for it in (reading().modules[root[0][0]].cites[root[0][1]] if root else cited)
+                if it in reached
+            }
+        ),
+        "leads": leads,
+        "definitions": keys,
+        "edits": [it for it in (promise.edit,) if it != "-"],
     }
     return held | {"sum": sum_of(json.dumps([held["states"], held["requires"], sums]))}, reached
 
 
 def sources_of(crate):
     """The sum of all that a crate's proof reads of the crate itself."""
-    files = sorted(it for part in ("src", "specs", "proofs") for it in (CRATES / crate / part).rglob("*") if it.is_file())
-    return sum_of("".join(f"{it.relative_to(CRATES / crate)} {hashlib.sha256(it.read_bytes()).hexdigest()}\n" for it in files))
+    files = sorted(
+        it
+        for part in ("src", "specs", "proofs")
+        for it in (CRATES / crate / part).rglob("*")
+        if it.is_file()
+    )
+    return sum_of(
+        "".join(
+            f"{it.relative_to(CRATES / crate)} {hashlib.sha256(it.read_bytes()).hexdigest()}\n"
+            for it in files
+        )
+    )
 
 
 def file_sum(path):
@@ -144,15 +182,27 @@ def file_sum(path):
 
 def trusted():
     """What isn't proved and has to be as it is said: the kit's libraries, the calls that are noted by hand, the model of a disk, the C code."""
-    kits = sorted({it for line in lines().values() for it in line.partition(":")[2].split()} - {*crates()})
+    kits = sorted(
+        {it for line in lines().values() for it in line.partition(":")[2].split()} - {*crates()}
+    )
     disks = [it.relative_to(TOP) for it in sorted(CRATES.glob("*/specs/Disk.antt"))]
     script = TOP / "checks" / "noted"
     noted = loaded(script) if script.is_file() else None
     place = noted and f"crates/{noted.NOTED}"
     calls = sorted({it for them in noted.CALLERS.values() for it in them.split()}) if noted else []
-    files = [it for it in (*(f"bindings/c/{name}.c" for name in C_SOURCES), "release/kit.c") if (TOP / it).is_file()]
-    return {"libraries": kits, "noted": {"file": place, "sum": file_sum(place), "calls": calls} if noted and (TOP / place).is_file() else None,
-            "disk": {str(it): file_sum(it) for it in disks}, "c": {it: file_sum(it) for it in files}}
+    files = [
+        it
+        for it in (*(f"bindings/c/{name}.c" for name in C_SOURCES), "release/kit.c")
+        if (TOP / it).is_file()
+    ]
+    return {
+        "libraries": kits,
+        "noted": {"file": place, "sum": file_sum(place), "calls": calls}
+        if noted and (TOP / place).is_file()
+        else None,
+        "disk": {str(it): file_sum(it) for it in disks},
+        "c": {it: file_sum(it) for it in files},
+    }
 
 
 def proof():
@@ -169,8 +219,15 @@ def proof():
     cores = {}
     for crate, name in sorted(core()):
         cores.setdefault(crate, []).append(name)
-    return {"promises": rows, "definitions": {key_of(*it): described(*it) for it in sorted(reached, key=lambda it: key_of(*it))}, "sources": sums,
-            "edits": cores, "trusted": trusted()}
+    return {
+        "promises": rows,
+        "definitions": {
+            key_of(*it): described(*it) for it in sorted(reached, key=lambda it: key_of(*it))
+        },
+        "sources": sums,
+        "edits": cores,
+        "trusted": trusted(),
+    }
 
 
 if __name__ == "__main__":

@@ -19,7 +19,12 @@ import sys
 from tools.workspace import loaded
 
 # What this rests on of rattle-kit-13f's `rt`, by sums of their texts: tests/tooling/test_rt_ci.py says how to renew them.
-KNOWN = {"in_lanes": "028904d9e05eb37c", "ci_over": "eec2c30f62220685", "Kept": "3fe4e52efb76fedd", "Crate": "e4f0ede07d0b597a"}
+KNOWN = {
+    "in_lanes": "028904d9e05eb37c",
+    "ci_over": "eec2c30f62220685",
+    "Kept": "3fe4e52efb76fedd",
+    "Crate": "e4f0ede07d0b597a",
+}
 
 
 def path():
@@ -28,8 +33,15 @@ def path():
 
 def sums(text):
     """Sums of the texts of what this replaces and calls."""
-    found = {it.name: ast.get_source_segment(text, it) for it in ast.parse(text).body if isinstance(it, (ast.FunctionDef, ast.ClassDef))}
-    return {it: hashlib.sha256(found.get(it, "").encode()).hexdigest()[:16] for it in ("in_lanes", "ci_over", "Kept", "Crate")}
+    found = {
+        it.name: ast.get_source_segment(text, it)
+        for it in ast.parse(text).body
+        if isinstance(it, (ast.FunctionDef, ast.ClassDef))
+    }
+    return {
+        it: hashlib.sha256(found.get(it, "").encode()).hexdigest()[:16]
+        for it in ("in_lanes", "ci_over", "Kept", "Crate")
+    }
 
 
 def changed(text):
@@ -59,7 +71,9 @@ def kept_first(rt):
             begun.append((self, {it.name: it for it in crates}))
 
     def is_kept(kept, crate, tests):
-        return kept.at and not kept.anew and os.path.isdir(kept.place(crate, tests, kept.key(crate)))
+        return (
+            kept.at and not kept.anew and os.path.isdir(kept.place(crate, tests, kept.key(crate)))
+        )
 
     def planned(tasks):
         (kept, crates), done = begun[-1], {}
@@ -67,14 +81,21 @@ def kept_first(rt):
             crate, tests = crates[key[0]], key[1] == "tests"
             if tests and not crate.has_tests():
                 done[key] = True
-            elif key[1] in ("proof", "tests") and all(map(done.get, waits)) and is_kept(kept, crate, tests):
+            elif (
+                key[1] in ("proof", "tests")
+                and all(map(done.get, waits))
+                and is_kept(kept, crate, tests)
+            ):
                 done[key] = call(done, 1)
 
         def over_done(call):
             return lambda given, jobs: call(collections.ChainMap(given, done), jobs)
 
-        left = {key: ([it for it in waits if it not in done], lines, needs, over_done(call))
-                for key, (waits, lines, needs, call) in tasks.items() if key not in done}
+        left = {
+            key: ([it for it in waits if it not in done], lines, needs, over_done(call))
+            for key, (waits, lines, needs, call) in tasks.items()
+            if key not in done
+        }
         return {**done, **in_lanes(left)}
 
     rt.Kept, rt.in_lanes = Kept, planned
@@ -83,7 +104,10 @@ def kept_first(rt):
 def main():
     rt = loaded(path())
     if others := changed(path().read_text()):
-        print(f"note: this kit's rt isn't the one that tools/rt_ci.py knows ({', '.join(others)}): `rt ci` runs as it is, some minutes slower", flush=True)
+        print(
+            f"note: this kit's rt isn't the one that tools/rt_ci.py knows ({', '.join(others)}): `rt ci` runs as it is, some minutes slower",
+            flush=True,
+        )
     else:
         rt.Crate.compile_by = at_once(rt.Crate.compile_by, rt.BACKENDS)
         kept_first(rt)

@@ -16,7 +16,22 @@ def library():
     """Builds it, and returns its path."""
     made = pathlib.Path(ROOM.name) / "shim.so"
     os.chmod(ROOM.name, 0o755)
-    subprocess.run(["cc", "-O2", "-Wall", "-Wextra", "-Werror", "-shared", "-fPIC", "-o", made, SOURCE, "-ldl"], check=True)
+    subprocess.run(
+        [
+            "cc",
+            "-O2",
+            "-Wall",
+            "-Wextra",
+            "-Werror",
+            "-shared",
+            "-fPIC",
+            "-o",
+            made,
+            SOURCE,
+            "-ldl",
+        ],
+        check=True,
+    )
     return made
 
 
@@ -24,4 +39,8 @@ def loaded(**variables):
     """The environment of a program that it is loaded into."""
     # (checks/coverage loads one into all)
     loads = " ".join(filter(None, (str(library()), os.environ.get("LD_PRELOAD"))))
-    return {**os.environ, "LD_PRELOAD": loads, **{name: str(value) for name, value in variables.items()}}
+    return {
+        **os.environ,
+        "LD_PRELOAD": loads,
+        **{name: str(value) for name, value in variables.items()},
+    }

@@ -19,14 +19,19 @@ WORD = re.compile(NAME)
 QUALIFIED = re.compile(rf"({NAME})\.({NAME})")
 COMMENT = {".rt": re.compile(r"//.*"), ".antt": re.compile(r"(?:^|(?<=\s))--.*", re.M)}
 LIBRARIES = "Rattle|base|mir|mathlib|antt"
-IMPORT = re.compile(rf"^ *(?:pub )?(?:ghost )?use ((?:{LIBRARIES})\.[\w.-]+)(?:\.\{{([^}}]*)\}}| as (\S+?);?$)", re.M)
+IMPORT = re.compile(
+    rf"^ *(?:pub )?(?:ghost )?use ((?:{LIBRARIES})\.[\w.-]+)(?:\.\{{([^}}]*)\}}| as (\S+?);?$)",
+    re.M,
+)
 # A source names a lemma by its path: `crate::proofs::File::name`.
 PATH = re.compile(rf"\b(crate|age_\w+)((?:\s*::\s*\w+)+)\s*::\s*({NAME})")
 KEYWORDS = r"(?:(?:abbrev|unfoldable|opaque|pub|rec) )*"
 RECORD = re.compile(rf"^( *){KEYWORDS}(?:record|data) (?:pub )?({NAME})")
 VALUE = re.compile(rf"^( *){KEYWORDS}({NAME}) :(?: |$)")
 # A type of the code: specs import it from `declared`, its file and its name, and its variants from below that.
-TYPE = re.compile(r"^pub(?:\([^)]*\))? (?:struct|enum) (\w+)[^;{]*(?:\{.*?^\}|\{[^\n]*\}|;)", re.M | re.S)
+TYPE = re.compile(
+    r"^pub(?:\([^)]*\))? (?:struct|enum) (\w+)[^;{]*(?:\{.*?^\}|\{[^\n]*\}|;)", re.M | re.S
+)
 DECLARED = re.compile(r"(Rattle\.\w+\.specs\.declared\..*?\.(\w+?))(?:\.TheVariants)?")
 # What a file passes on: a crate's definitions are imported from their folder, whose Lib.antt or inner.antt does so.
 PASSED = re.compile(r"^(?:unfoldable )?pub use ([\w.]+)\.(\{.*\}|\*)$", re.M)
@@ -49,7 +54,9 @@ class Source:
             if alias:
                 self.aliases[alias] = module
             for part in filter(None, (it.strip() for it in names.split(","))):
-                self.names[part.split(" as ")[-1].strip()].append((module, part.split(" as ")[0].strip()))
+                self.names[part.split(" as ")[-1].strip()].append(
+                    (module, part.split(" as ")[0].strip())
+                )
         self.text = IMPORT.sub(lambda found: "\n" * found[0].count("\n"), text)
         self.definitions, self.heads = {}, {}
         self.outside = self.text.splitlines() if self.is_code else []
@@ -93,12 +100,17 @@ class Source:
     def named_in(self, text):
         """What a part of a source names by a path, such as `crate::proofs::File::name`."""
         for crate, path, word in PATH.findall(text) if self.is_code else ():
-            yield ".".join(["Rattle", self.crate if crate == "crate" else crate, *re.findall(r"\w+", path)]), word
+            yield ".".join(
+                ["Rattle", self.crate if crate == "crate" else crate, *re.findall(r"\w+", path)]
+            ), word
 
     @functools.cached_property
     def cites(self):
         """What each definition cites, itself or by the heads above it; and under None, what the other lines cite."""
-        parts = {name: [*lines, *itertools.chain(*self.heads[name])] for name, lines in self.definitions.items()}
+        parts = {
+            name: [*lines, *itertools.chain(*self.heads[name])]
+            for name, lines in self.definitions.items()
+        }
         parts[None] = self.outside
         return {name: set(self.cited_in("\n".join(lines), name)) for name, lines in parts.items()}
 
@@ -110,7 +122,9 @@ class Source:
     def types(self):
         """The types that the code declares, each like a file that defines it alone, and cites nothing."""
         for found in TYPE.finditer(self.raw):
-            lines = [it for it in found[0].splitlines() if it.strip() and not re.match(r" *(//|#\[)", it)]
+            lines = [
+                it for it in found[0].splitlines() if it.strip() and not re.match(r" *(//|#\[)", it)
+            ]
             module = f"Rattle.{self.crate}.specs.declared.{self.name}.{found[1]}"
             yield Type(self.crate, module, {found[1]: lines}, {found[1]: set()})
 
@@ -119,7 +133,9 @@ class Source:
         lines, owner, is_trait = self.text.split("#[cfg(test)]")[0].splitlines(), None, False
         for i, line in enumerate(lines):
             trait = re.match(r"^pub trait (\w+)", line)
-            block = re.match(r"^pub (?:struct|enum) (\w+).*\{$", line) or re.match(r"^impl\b(?:<.*?>)? (?:[\w:]+(?:<.*>)? for )?(\w+)", line)
+            block = re.match(r"^pub (?:struct|enum) (\w+).*\{$", line) or re.match(
+                r"^impl\b(?:<.*?>)? (?:[\w:]+(?:<.*>)? for )?(\w+)", line
+            )
             if trait or block or line == "}":
                 owner = (trait or block).group(1) if trait or block else None
                 is_trait = bool(trait) or bool(block and " for " in line)
@@ -127,7 +143,12 @@ class Source:
             ghost, function = re.match(r"^    ghost (\w+)", line), FUNCTION.match(line)
             if ghost and owner and is_seen and ghost[1] not in HIDDEN:
                 yield f"{owner}::{ghost[1]}", until_closed(lines, i)
-            elif function and is_seen and (function[1] or is_trait) and (owner or function[2] in exported):
+            elif (
+                function
+                and is_seen
+                and (function[1] or is_trait)
+                and (owner or function[2] in exported)
+            ):
                 yield f"{owner}::{function[2]}" if owner else function[2], until_body(lines, i)
 
 
@@ -152,7 +173,9 @@ def passed_on(module):
     """What a module passes on from others, or a crate's folder of specs, of inner ones or of lemmas from its files: each name's definition."""
     _, crate, *within = module.split(".")
     folder = CRATES.joinpath(crate, *within)
-    file = next((it for it in (folder / "Lib.antt", folder.with_suffix(".antt")) if it.exists()), None)
+    file = next(
+        (it for it in (folder / "Lib.antt", folder.with_suffix(".antt")) if it.exists()), None
+    )
     names = {}
     for home, several in PASSED.findall(file.read_text()) if file else ():
         home = home if home.startswith("Rattle.") else f"{module}.{home}"
@@ -160,7 +183,10 @@ def passed_on(module):
             defined = source(CRATES.joinpath(*home.split(".")[1:]).with_suffix(".antt")).definitions
             names |= {name: (home, name) for name, lines in defined.items() if "pub " in lines[0]}
         else:
-            names |= {it.split(" as ")[-1]: (home, it.split(" as ")[0]) for it in several[1:-1].split(", ")}
+            names |= {
+                it.split(" as ")[-1]: (home, it.split(" as ")[0])
+                for it in several[1:-1].split(", ")
+            }
     return names
 
 
@@ -189,7 +215,11 @@ def used(tree):
 
 def exported_names(crate, name=None):
     """What the crate's root makes public, or one of its modules, with what it takes from others."""
-    files = [it for it in sources("src", crate) if it.name == name or name is None and it.name in ("lib", "main")]
+    files = [
+        it
+        for it in sources("src", crate)
+        if it.name == name or name is None and it.name in ("lib", "main")
+    ]
     text = "\n".join(it.text for it in files)
     names = set(re.findall(r"pub (?:const )?(?:fn|struct|enum|trait|type) (\w+)", text))
     within = f"{name}." if name else ""

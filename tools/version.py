@@ -13,8 +13,19 @@ HEADER = TOP / "include" / "agefile.h"
 # The file whose version is replaced in all.
 PROGRAM = TOP / "crates" / "age_cli_args" / "src" / "help.rt"
 # Where it stands, in one of the forms below. (pkg-config's and CMake's files, packages and archives get it as they are made.)
-FILES = ("README.md", "crates/age_cli_args/src/help.rt", "bindings/python/agefile/*.py", "bindings/python/agefile/program/*.py",
-         "bindings/rust/Cargo.lock", "bindings/rust/*/Cargo.toml", "debian/changelog", "debian/tests/control", "docs/*.1", "tests/release/test_release.py", "tests/library/test_languages.py")
+FILES = (
+    "README.md",
+    "crates/age_cli_args/src/help.rt",
+    "bindings/python/agefile/*.py",
+    "bindings/python/agefile/program/*.py",
+    "bindings/rust/Cargo.lock",
+    "bindings/rust/*/Cargo.toml",
+    "debian/changelog",
+    "debian/tests/control",
+    "docs/*.1",
+    "tests/release/test_release.py",
+    "tests/library/test_languages.py",
+)
 
 
 def version():

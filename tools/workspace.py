@@ -14,7 +14,9 @@ import sys
 TOP = pathlib.Path(__file__).resolve().parent.parent
 CRATES = TOP / "crates"
 # The program that is tested and measured.
-PROGRAM = pathlib.Path(os.environ.get("AGE_TOOL") or CRATES / "age_tool" / "out" / "age_tool").resolve()
+PROGRAM = pathlib.Path(
+    os.environ.get("AGE_TOOL") or CRATES / "age_tool" / "out" / "age_tool"
+).resolve()
 # The folder of the C library.
 LIBRARY = pathlib.Path(os.environ.get("AGE_C_DIR") or TOP / "bindings" / "out").resolve()
 # A crate's files that its proof, or a run of its program, reads.
@@ -87,7 +89,9 @@ def library():
 def proved_object():
     """The object of the program, as a run left it that proved the same sources, or proved now."""
     words = [sys.executable, "-m", "tools.libraries", "age_tool"]
-    return subprocess.run(words, cwd=TOP, stdout=subprocess.PIPE, text=True, check=True).stdout.strip()
+    return subprocess.run(
+        words, cwd=TOP, stdout=subprocess.PIPE, text=True, check=True
+    ).stdout.strip()
 
 
 def go_module():

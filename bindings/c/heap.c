@@ -30,6 +30,4 @@ struct tried rattle_realloc(void *at, size kept, size len, size align) {
     return tried(realloc(at, len ? len : align));
 }
 
-void rattle_dealloc(void *at) {
-    free(at);
-}
+void rattle_dealloc(void *at) { free(at); }

@@ -3,25 +3,35 @@
 #include "core.h"
 #include <string.h>
 
-int agefile_encrypt(agefile_key key, const void *text, size_t len, void *out, size_t room, size_t *written) {
+int agefile_encrypt(agefile_key key, const void *text, size_t len, void *out, size_t room,
+                    size_t *written) {
     agefile_encoder *it;
     size_t n = *written = 0;
     int answer = agefile_encoder_new(&it, key);
-    if (!answer) answer = agefile_encode(it, text, len, out, room, &n);
-    if (!answer) answer = agefile_encode_end(it, core_after(out, n), room - n, written);
-    if (!answer) *written += n;
-    else if (n) explicit_bzero(out, n);
+    if (!answer)
+        answer = agefile_encode(it, text, len, out, room, &n);
+    if (!answer)
+        answer = agefile_encode_end(it, core_after(out, n), room - n, written);
+    if (!answer)
+        *written += n;
+    else if (n)
+        explicit_bzero(out, n);
     agefile_encoder_free(it);
     return answer;
 }
-int agefile_decrypt(agefile_key key, const void *file, size_t len, void *out, size_t room, size_t *written) {
+int agefile_decrypt(agefile_key key, const void *file, size_t len, void *out, size_t room,
+                    size_t *written) {
     agefile_decoder *it;
     size_t n = *written = 0;
     int answer = agefile_decoder_new(&it, key);
-    if (!answer) answer = core_decode(it, file, len, out, room, &n);
-    if (!answer) answer = agefile_decode_end(it, core_after(out, n), room - n, written);
-    if (!answer) *written += n;
-    else if (n) explicit_bzero(out, n);
+    if (!answer)
+        answer = core_decode(it, file, len, out, room, &n);
+    if (!answer)
+        answer = agefile_decode_end(it, core_after(out, n), room - n, written);
+    if (!answer)
+        *written += n;
+    else if (n)
+        explicit_bzero(out, n);
     agefile_decoder_free(it);
     return answer;
 }

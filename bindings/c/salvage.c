@@ -4,15 +4,17 @@
  *
  * Each chunk that opens is written at its place, and zeros for each one that doesn't. For each part
  * that is lost it prints the first byte and the byte after the last. Status 0 means that nothing is
- * missing, 1 that something is, or that the file couldn't be opened, and then nothing is written. One
- * newline at the end of PASSFILE is ignored. A program can save a file that a key opens in the same way.
+ * missing, 1 that something is, or that the file couldn't be opened, and then nothing is written.
+ * One newline at the end of PASSFILE is ignored. A program can save a file that a key opens in the
+ * same way.
  */
 #include "agefile.h"
 
 #include <stdio.h>
 #include <string.h>
 
-static uint8_t front[1048592], block[AGEFILE_BLOCK], text[sizeof front + AGEFILE_CHUNK], zeros[AGEFILE_CHUNK];
+static uint8_t front[1048592], block[AGEFILE_BLOCK], text[sizeof front + AGEFILE_CHUNK],
+    zeros[AGEFILE_CHUNK];
 static size_t have, used; /* bytes of `front`, and how many of them were taken */
 static agefile_decoder *decoder;
 
@@ -27,7 +29,8 @@ static size_t next_block(void) {
 /* Writes zeros for what was lost before this place, and says so. */
 static void put_zeros(uint64_t *size, uint64_t end) {
     if (*size < end) {
-        fprintf(stderr, "salvage: lost: from byte %llu to before byte %llu\n", (unsigned long long)*size, (unsigned long long)end);
+        fprintf(stderr, "salvage: lost: from byte %llu to before byte %llu\n",
+                (unsigned long long)*size, (unsigned long long)end);
     }
     while (*size < end) {
         uint64_t len = end - *size < sizeof zeros ? end - *size : sizeof zeros;
@@ -54,9 +57,12 @@ static int salvage(void) {
         }
         chunk++;
     } while (len == sizeof block && !ended);
-    if (any) put_zeros(&size, end);
-    if (!any && !ended) fprintf(stderr, "salvage: no chunk opens\n");
-    if (!ended) fprintf(stderr, "salvage: the text may have been longer\n");
+    if (any)
+        put_zeros(&size, end);
+    if (!any && !ended)
+        fprintf(stderr, "salvage: no chunk opens\n");
+    if (!ended)
+        fprintf(stderr, "salvage: the text may have been longer\n");
     return ended && !missing;
 }
 
@@ -65,10 +71,14 @@ static int begin(const uint8_t *pass, size_t pass_len) {
     size_t written;
     int answer = agefile_decoder_new(&decoder, agefile_passphrase(pass, pass_len));
     have = fread(front, 1, sizeof front, stdin);
-    if (answer == 0) answer = agefile_decode(decoder, front, have, text, sizeof text, &written);
-    if (answer == 0 && !agefile_payload_at(decoder)) answer = agefile_decode_end(decoder, text, sizeof text, &written);
-    if (decoder && agefile_payload_at(decoder)) answer = 0; /* (what is wrong after it is for salvage) */
-    if (answer == 0) used = (size_t)agefile_payload_at(decoder);
+    if (answer == 0)
+        answer = agefile_decode(decoder, front, have, text, sizeof text, &written);
+    if (answer == 0 && !agefile_payload_at(decoder))
+        answer = agefile_decode_end(decoder, text, sizeof text, &written);
+    if (decoder && agefile_payload_at(decoder))
+        answer = 0; /* (what is wrong after it is for salvage) */
+    if (answer == 0)
+        used = (size_t)agefile_payload_at(decoder);
     return answer;
 }
 
@@ -82,9 +92,11 @@ int main(int argc, char **argv) {
     }
     pass_len = fread(pass, 1, sizeof pass, in);
     fclose(in);
-    if (pass_len > 0 && pass[pass_len - 1] == '\n') pass_len--;
+    if (pass_len > 0 && pass[pass_len - 1] == '\n')
+        pass_len--;
     int answer = begin(pass, pass_len), whole = 0;
-    if (answer == 0) whole = salvage();
+    if (answer == 0)
+        whole = salvage();
     if (fflush(stdout) != 0 || ferror(stdout) || ferror(stdin)) {
         fprintf(stderr, "salvage: a file can't be read or written\n");
         answer = 1;

@@ -9,12 +9,14 @@ from dask.distributed import Client
 
 NAME, OUT, PART, PIECE = "photos.tar.age", "photos.tar", 1 << 30, 4 << 20
 
+
 def opened(name, header=None):
     file = open(name, "rb")
     if header not in (None, agefile.inspect(file)):
         raise ValueError(f"{name} was replaced")
     with open("passphrase.txt", "rb") as word:
         return agefile.open(file, passphrase=word.read().removesuffix(b"\n"))
+
 
 def restore(at, header):
     with opened(NAME, header) as file, open(OUT + ".part", "r+b") as out:
@@ -25,10 +27,12 @@ def restore(at, header):
         out.flush()
         os.fsync(out.fileno())
 
+
 def check(name):
     with opened(name) as file:
         while file.read(PIECE):
             pass
+
 
 if __name__ == "__main__":
     header = agefile.inspect(NAME)  # whose salt no other file has

@@ -16,8 +16,14 @@ FILE_ID = "7753982837e300562bd5867c8e7a779f7ec1108a965a8e8d64ab9ae6503a3b72"
 # The chain over no chunk, over one and over two of the long text, and the tag of the position there.
 POSITIONS = (
     (64 * "0", "f0034a75f64bf49e9a20840c04d46964cdb08da96a3cc2327e5f0e036c5ba004"),
-    ("bdd0f72365f97335804629358ce658ffb0e0e9fb468614d0676b084ac14aba16", "27a674a0590ca523e509cebd309c8909255550446cc0316f456805c95c7e78f1"),
-    ("67ffbfa5bd20cb4433f6be27adf40f34a9c8b17511c0b2d683e4c56b2409068e", "844343d0fa1066850edeeedda735ea757fba6c5cea36fb3f0c14f8e7e944b249"),
+    (
+        "bdd0f72365f97335804629358ce658ffb0e0e9fb468614d0676b084ac14aba16",
+        "27a674a0590ca523e509cebd309c8909255550446cc0316f456805c95c7e78f1",
+    ),
+    (
+        "67ffbfa5bd20cb4433f6be27adf40f34a9c8b17511c0b2d683e4c56b2409068e",
+        "844343d0fa1066850edeeedda735ea757fba6c5cea36fb3f0c14f8e7e944b249",
+    ),
 )
 
 
@@ -46,17 +52,27 @@ class KnownFilesCase(Case):
         written = self.read("out") if self.is_there("out") else b""
         saved = self.read("position") if self.is_there("position") else None
         wanted = None if index is None else position(index)
-        self.see(name, (number, written, saved) == (fault, text, wanted), number, len(written), saved, ended.stderr)
+        self.see(
+            name,
+            (number, written, saved) == (fault, text, wanted),
+            number,
+            len(written),
+            saved,
+            ended.stderr,
+        )
 
     def confined(self, room, *words):
         """A run in which no file grows beyond this many bytes, unless that is negative."""
+
         def confine():
             # Without the signal that would end the program, a write beyond the limit fails.
             signal.signal(signal.SIGXFSZ, signal.SIG_IGN)
             resource.setrlimit(resource.RLIMIT_FSIZE, (room, room))
 
         self.remove("out", "position")
-        return self.tool(*words, "--save", "position", "in", "out", preexec_fn=confine if room >= 0 else None)
+        return self.tool(
+            *words, "--save", "position", "in", "out", preexec_fn=confine if room >= 0 else None
+        )
 
     def decrypt(self, file, room=-1, key=KEY):
         self.write("in", file)

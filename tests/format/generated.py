@@ -26,7 +26,12 @@ class Generated(Case):
 
     def tell(self):
         print(f"{self.id().rpartition('.')[2]}: {self.count} cases of the seed {SEED}")
-        self.see(f"{self.count} cases of the seed {SEED}", self.count and not self.wrong, len(self.wrong), self.wrong[:3])
+        self.see(
+            f"{self.count} cases of the seed {SEED}",
+            self.count and not self.wrong,
+            len(self.wrong),
+            self.wrong[:3],
+        )
 
     def turns(self, count):
         return range(max(1, int(count * MANY)))
@@ -39,11 +44,18 @@ class Generated(Case):
 
     def run_confined(self, *words, room=None, **more):
         """A run in which no file grows beyond so many bytes."""
+
         def confine():
             signal.signal(signal.SIGXFSZ, signal.SIG_IGN)
             resource.setrlimit(resource.RLIMIT_FSIZE, (room, room))
 
-        return process.run([self.program, *words], cwd=self.room, capture_output=True, preexec_fn=confine if room is not None else None, **({"input": b""} | more))
+        return process.run(
+            [self.program, *words],
+            cwd=self.room,
+            capture_output=True,
+            preexec_fn=confine if room is not None else None,
+            **({"input": b""} | more),
+        )
 
     def held(self, name):
         return self.read(name) if self.is_there(name) else None
@@ -51,11 +63,35 @@ class Generated(Case):
     def compare(self, ended, status, printed=b"", line=b"", case=None, **files):
         """Compares a run with what it has to be; `files` are what each holds then, None if there is none."""
         self.count += 1
-        said = [it for it in ended.stderr[len(line) :].splitlines() if not it.startswith(b"age_tool: ") or re.match(rb"age_tool: \d+ [A-Z]", it)]
+        said = [
+            it
+            for it in ended.stderr[len(line) :].splitlines()
+            if not it.startswith(b"age_tool: ") or re.match(rb"age_tool: \d+ [A-Z]", it)
+        ]
         held = {name: self.held(name) for name in files}
-        if (ended.returncode, ended.stdout, ended.stderr[: len(line)], said, held) != (status, printed, line, [], files):
-            sizes = {name: (held[name] == wanted, held[name] and len(held[name]), wanted and len(wanted)) for name, wanted in files.items()}
-            self.wrong.append((case, ended.args[1:], (ended.returncode, status), ended.stdout[-200:], printed[-200:], ended.stderr[-300:], line, sizes))
+        if (ended.returncode, ended.stdout, ended.stderr[: len(line)], said, held) != (
+            status,
+            printed,
+            line,
+            [],
+            files,
+        ):
+            sizes = {
+                name: (held[name] == wanted, held[name] and len(held[name]), wanted and len(wanted))
+                for name, wanted in files.items()
+            }
+            self.wrong.append(
+                (
+                    case,
+                    ended.args[1:],
+                    (ended.returncode, status),
+                    ended.stdout[-200:],
+                    printed[-200:],
+                    ended.stderr[-300:],
+                    line,
+                    sizes,
+                )
+            )
 
     def compare_fault(self, ended, fault, **more):
         """The same of a run that ends with a fault, or, if it is None, with all done."""
@@ -71,20 +107,42 @@ class GeneratedFiles(Generated):
 
     def make(self, text, key=None):
         """An age file: its front, its nonce and its key, and its box; and its payload."""
-        key, salt, self.nonce = key or self.random.randbytes(16), self.random.randbytes(16), self.random.randbytes(16)
+        key, salt, self.nonce = (
+            key or self.random.randbytes(16),
+            self.random.randbytes(16),
+            self.random.randbytes(16),
+        )
         stanzas = [standard.scrypt_stanza(b"p", 1, salt, key)]
-        self.key, self.front, self.box = key, header_text(stanzas, mac_of(stanzas, key)) + self.nonce, standard.RealBox(key, self.nonce)
+        self.key, self.front, self.box = (
+            key,
+            header_text(stanzas, mac_of(stanzas, key)) + self.nonce,
+            standard.RealBox(key, self.nonce),
+        )
         self.file_id = hashlib.sha256(self.front).digest()
         return standard.payload_of(self.box, text)
 
     def plaintext(self):
-        sizes = (0, 1, 100, CHUNK - 1, CHUNK, CHUNK + 1, 2 * CHUNK, 2 * CHUNK + 7, 3 * CHUNK, 200_000)
+        sizes = (
+            0,
+            1,
+            100,
+            CHUNK - 1,
+            CHUNK,
+            CHUNK + 1,
+            2 * CHUNK,
+            2 * CHUNK + 7,
+            3 * CHUNK,
+            200_000,
+        )
         return self.random.randbytes(self.pick(*sizes, self.random.randrange(1, 4 * CHUNK)))
 
     def near(self, size):
         """A length near one that matters."""
         places = [0, 1, 15, 16, 17, self.random.randrange(size + 1), size - 1, size]
-        places += [BLOCK * self.random.randrange(size // BLOCK + 1) + more for more in (-1, 0, 1, 15, 16, 17)]
+        places += [
+            BLOCK * self.random.randrange(size // BLOCK + 1) + more
+            for more in (-1, 0, 1, 15, 16, 17)
+        ]
         return max(0, min(size, self.pick(*places)))
 
     def option(self):
@@ -92,7 +150,9 @@ class GeneratedFiles(Generated):
 
     def position(self, index, text):
         """The position after so many chunks of a text."""
-        return Position(index, self.file_id, standard.chain_of(standard.parts_of(text)[:index] if index else [])).signed(self.key, self.nonce)
+        return Position(
+            index, self.file_id, standard.chain_of(standard.parts_of(text)[:index] if index else [])
+        ).signed(self.key, self.nonce)
 
     def prepare(self, data):
         """Writes IN, and what OUT holds before, if it is there."""

@@ -21,7 +21,10 @@ SUM = "29e1ddb94bef5c2932d3b7c4f42577567fed220ce833edeb38458dd320269263"
 
 # The faults that each outcome may have.
 FAULTS = {
-    "header failure": {*range(1, 12), 15, 254}, "no match": {12, 13}, "HMAC failure": {14}, "payload failure": {*range(17, 23)},
+    "header failure": {*range(1, 12), 15, 254},
+    "no match": {12, 13},
+    "HMAC failure": {14},
+    "payload failure": {*range(17, 23)},
     "armor failure": {1, 2, 3, 8},
 }
 
@@ -48,7 +51,10 @@ class Vector:
 
     def __init__(self, name, held):
         head, _, body = held.partition(b"\n\n")
-        self.said = {name: value for name, _, value in (line.decode().partition(": ") for line in head.splitlines())}
+        self.said = {
+            name: value
+            for name, _, value in (line.decode().partition(": ") for line in head.splitlines())
+        }
         self.name, self.expected = name, self.said["expect"]
         self.file = zlib.decompress(body) if "compressed" in self.said else body
         self.key = bytes.fromhex(self.said["file key"])
@@ -58,14 +64,21 @@ class Vector:
 
     def text_is(self, text):
         """Whether this is the text, or its beginning that comes out before a fault."""
-        return "payload" not in self.said or hashlib.sha256(text).hexdigest() == self.said["payload"]
+        return (
+            "payload" not in self.said or hashlib.sha256(text).hexdigest() == self.said["payload"]
+        )
 
 
 class CKey(ctypes.Structure):
     """agefile_key of agefile.h."""
 
-    _fields_ = [("kind", ctypes.c_uint32), ("work", ctypes.c_uint32), *((it, ctypes.c_char_p) for it in ("at", "with", "to")),
-                ("len", ctypes.c_size_t), ("with_len", ctypes.c_size_t)]
+    _fields_ = [
+        ("kind", ctypes.c_uint32),
+        ("work", ctypes.c_uint32),
+        *((it, ctypes.c_char_p) for it in ("at", "with", "to")),
+        ("len", ctypes.c_size_t),
+        ("with_len", ctypes.c_size_t),
+    ]
 
 
 class Decoding:
@@ -79,33 +92,43 @@ class Decoding:
     def key_of(self, vector):
         # (a key points to the bytes, which therefore stay)
         self.word = vector.passphrase and vector.passphrase.encode()
-        return self.c.agefile_passphrase(self.word, len(self.word)) if self.word else self.c.agefile_file_key(vector.key)
+        return (
+            self.c.agefile_passphrase(self.word, len(self.word))
+            if self.word
+            else self.c.agefile_file_key(vector.key)
+        )
 
     def in_pieces(self, vector, size):
         it, written, text = ctypes.c_void_p(), ctypes.c_size_t(), b""
         room = ctypes.create_string_buffer(size + 65_536)
         answer = self.c.agefile_decoder_new(ctypes.byref(it), self.key_of(vector))
-        pieces = [vector.file[at:at + size] for at in range(0, len(vector.file), size)]
+        pieces = [vector.file[at : at + size] for at in range(0, len(vector.file), size)]
         for piece in [*pieces, None]:
             if answer == 0:
                 words = [] if piece is None else [piece, ctypes.c_size_t(len(piece))]
                 call = self.c.agefile_decode_end if piece is None else self.c.agefile_decode
                 answer = call(it, *words, room, ctypes.c_size_t(len(room)), ctypes.byref(written))
-                text += room[:written.value]
+                text += room[: written.value]
         self.c.agefile_decoder_free(it)
         return answer, text
 
     def at_once(self, vector):
         written, room = ctypes.c_size_t(), ctypes.create_string_buffer(len(vector.file))
         size = ctypes.c_size_t(len(vector.file))
-        answer = self.c.agefile_decrypt(self.key_of(vector), vector.file, size, room, size, ctypes.byref(written))
-        return answer, room[:written.value]
+        answer = self.c.agefile_decrypt(
+            self.key_of(vector), vector.file, size, room, size, ctypes.byref(written)
+        )
+        return answer, room[: written.value]
 
 
 def vectors():
     """The vectors, by their names."""
     if folder := os.environ.get("CCTV"):
-        return [Vector(it.name, it.read_bytes()) for it in sorted(pathlib.Path(folder).iterdir()) if it.is_file()]
+        return [
+            Vector(it.name, it.read_bytes())
+            for it in sorted(pathlib.Path(folder).iterdir())
+            if it.is_file()
+        ]
     if hashlib.sha256(ARCHIVE.read_bytes()).hexdigest() != SUM:
         raise ValueError(f"{ARCHIVE} isn't what it was")
     with tarfile.open(ARCHIVE) as archive:
@@ -136,7 +159,9 @@ class VectorsTest(Case):
             return fault in FAULTS["armor failure"] and not text
         if vector.expected == "success":
             return fault == 0 and vector.text_is(text)
-        return fault in FAULTS[vector.expected] and (vector.expected != "payload failure" or vector.text_is(text))
+        return fault in FAULTS[vector.expected] and (
+            vector.expected != "payload failure" or vector.text_is(text)
+        )
 
     def by_program(self, vector, *words):
         self.write("in", vector.file)
@@ -149,16 +174,34 @@ class VectorsTest(Case):
         for vector in self.vectors:
             if vector.passphrase is not None:
                 self.write("pass", vector.passphrase.encode())
-                self.see(f"{vector.name} by its passphrase", self.judge(vector, *self.by_program(vector, "--pass", "pass")))
-            elif vector.expected in ("success", "payload failure", "HMAC failure") or vector.is_armored:
+                self.see(
+                    f"{vector.name} by its passphrase",
+                    self.judge(vector, *self.by_program(vector, "--pass", "pass")),
+                )
+            elif (
+                vector.expected in ("success", "payload failure", "HMAC failure")
+                or vector.is_armored
+            ):
                 found = self.by_program(vector, "--file-key", vector.key.hex())
-                self.see(f"{vector.name} by its file key", self.judge(vector, *found), found[0], len(found[1]))
+                self.see(
+                    f"{vector.name} by its file key",
+                    self.judge(vector, *found),
+                    found[0],
+                    len(found[1]),
+                )
 
     def test_module(self):
         agefile = bindings.module()
         for vector in self.vectors:
-            how = {"passphrase": vector.passphrase} if vector.passphrase is not None else {"identity": vector.identity}
-            if "AGE-SECRET-KEY-PQ" in vector.identity and vector.expected not in ("success", "payload failure"):
+            how = (
+                {"passphrase": vector.passphrase}
+                if vector.passphrase is not None
+                else {"identity": vector.identity}
+            )
+            if "AGE-SECRET-KEY-PQ" in vector.identity and vector.expected not in (
+                "success",
+                "payload failure",
+            ):
                 continue
             if "AGE-SECRET-KEY-1" not in vector.identity and vector.passphrase is None:
                 how = {"file_key": vector.key}
@@ -181,16 +224,39 @@ class VectorsTest(Case):
         bindings.module()
         c = Decoding(LIBRARY / "libagefile.so")
         for vector in self.vectors:
-            if vector.passphrase is None and vector.expected not in ("success", "payload failure", "HMAC failure") and not vector.is_armored:
+            if (
+                vector.passphrase is None
+                and vector.expected not in ("success", "payload failure", "HMAC failure")
+                and not vector.is_armored
+            ):
                 continue
             # (README counts those of the program and the module)
-            for size in (97, 65_536) if vector.passphrase or len(vector.file) > 10_000 else (1, 97, 65_536):
+            for size in (
+                (97, 65_536) if vector.passphrase or len(vector.file) > 10_000 else (1, 97, 65_536)
+            ):
                 fault, text = c.in_pieces(vector, size)
-                Case.see(self, f"{vector.name} in C, in pieces of {size}", self.judge(vector, fault, text), fault, len(text))
+                Case.see(
+                    self,
+                    f"{vector.name} in C, in pieces of {size}",
+                    self.judge(vector, fault, text),
+                    fault,
+                    len(text),
+                )
             fault, text = c.at_once(vector)
             whole = vector.expected == "success" and not vector.is_armored
-            Case.see(self, f"{vector.name} in C, at once", fault in (FAULTS["armor failure"] if vector.is_armored else FAULTS.get(vector.expected, {0}))
-                     and (vector.text_is(text) if whole else text == b""), fault, len(text))
+            Case.see(
+                self,
+                f"{vector.name} in C, at once",
+                fault
+                in (
+                    FAULTS["armor failure"]
+                    if vector.is_armored
+                    else FAULTS.get(vector.expected, {0})
+                )
+                and (vector.text_is(text) if whole else text == b""),
+                fault,
+                len(text),
+            )
 
     @needs("cargo")
     def test_rust(self):
@@ -198,13 +264,43 @@ class VectorsTest(Case):
         bindings.module()
         self.path("src").mkdir()
         self.write("src/main.rs", RUST.encode())
-        self.write("Cargo.toml", f'[package]\nname = "cctv"\nversion = "0.0.0"\nedition = "2021"\n\n[dependencies]\n'
-                                 f'agefile = {{ path = "{TOP}/bindings/rust/agefile" }}\n'.encode())
-        words = ["cargo", "build", "--release", "--offline", "--quiet", "--target-dir", built.cache("target")]
-        process.run(words, cwd=self.room, env={**os.environ, "AGEFILE_DIR": str(LIBRARY)}, check=True)
+        self.write(
+            "Cargo.toml",
+            f'[package]\nname = "cctv"\nversion = "0.0.0"\nedition = "2021"\n\n[dependencies]\n'
+            f'agefile = {{ path = "{TOP}/bindings/rust/agefile" }}\n'.encode(),
+        )
+        words = [
+            "cargo",
+            "build",
+            "--release",
+            "--offline",
+            "--quiet",
+            "--target-dir",
+            built.cache("target"),
+        ]
+        process.run(
+            words, cwd=self.room, env={**os.environ, "AGEFILE_DIR": str(LIBRARY)}, check=True
+        )
         for vector in self.vectors:
-            if vector.passphrase is None and vector.expected not in ("success", "payload failure", "HMAC failure") and not vector.is_armored:
+            if (
+                vector.passphrase is None
+                and vector.expected not in ("success", "payload failure", "HMAC failure")
+                and not vector.is_armored
+            ):
                 continue
-            by = ["key", vector.key.hex()] if vector.passphrase is None else ["word", vector.passphrase]
-            ended = process.run([built.cache("target") / "release" / "cctv", *by], input=vector.file, capture_output=True)
-            Case.see(self, f"{vector.name} in Rust", ended.returncode == 0 and self.judge(vector, int(ended.stderr), ended.stdout), ended.stderr)
+            by = (
+                ["key", vector.key.hex()]
+                if vector.passphrase is None
+                else ["word", vector.passphrase]
+            )
+            ended = process.run(
+                [built.cache("target") / "release" / "cctv", *by],
+                input=vector.file,
+                capture_output=True,
+            )
+            Case.see(
+                self,
+                f"{vector.name} in Rust",
+                ended.returncode == 0 and self.judge(vector, int(ended.stderr), ended.stdout),
+                ended.stderr,
+            )

@@ -40,20 +40,52 @@ class PayloadTest(KnownFilesCase):
     def test_long(self):
         """The index of a position counts whole chunks that were wholly written."""
         file = file_of(LONG)
-        self.see("the file is that of the digest", len(file) == 200_156 and hashlib.sha256(file).hexdigest() == LONG_DIGEST)
+        self.see(
+            "the file is that of the digest",
+            len(file) == 200_156 and hashlib.sha256(file).hexdigest() == LONG_DIGEST,
+        )
         self.ends("a file of four chunks", self.decrypt(file), 0, LONG)
-        for room, index in ((0, 0), (65_535, 0), (65_536, 1), (131_071, 1), (131_072, 2), (150_000, 2)):
-            self.ends(f"room for {room}", self.decrypt(file, room=max(room, 256)), 27, LONG[: max(room, 256)], index)
-        for length, fault, index in ((65_643, 17, 0), (65_644, 20, 1), (65_645, 18, 1), (131_196, 20, 2)):
-            self.ends(f"cut at {length}", self.decrypt(file[:length]), fault, LONG[: index * CHUNK], index)
+        for room, index in (
+            (0, 0),
+            (65_535, 0),
+            (65_536, 1),
+            (131_071, 1),
+            (131_072, 2),
+            (150_000, 2),
+        ):
+            self.ends(
+                f"room for {room}",
+                self.decrypt(file, room=max(room, 256)),
+                27,
+                LONG[: max(room, 256)],
+                index,
+            )
+        for length, fault, index in (
+            (65_643, 17, 0),
+            (65_644, 20, 1),
+            (65_645, 18, 1),
+            (131_196, 20, 2),
+        ):
+            self.ends(
+                f"cut at {length}", self.decrypt(file[:length]), fault, LONG[: index * CHUNK], index
+            )
         file = file_of(LONG[: 2 * CHUNK])
         self.ends("a full last chunk", self.decrypt(file), 0, LONG[: 2 * CHUNK])
-        self.ends("a byte after a full last chunk", self.decrypt(file + b"\0"), 21, LONG[: 2 * CHUNK], 1)
+        self.ends(
+            "a byte after a full last chunk", self.decrypt(file + b"\0"), 21, LONG[: 2 * CHUNK], 1
+        )
 
     def test_written(self):
         """A file is the one that Python makes of the same random bytes. The salts spell the whole alphabet."""
         self.write("pass", b"correct horse")
-        for log, text in ((1, b""), (2, LONG[:1]), (3, LONG[: CHUNK - 1]), (4, LONG[:CHUNK]), (10, LONG[: CHUNK + 1]), (1, LONG)):
+        for log, text in (
+            (1, b""),
+            (2, LONG[:1]),
+            (3, LONG[: CHUNK - 1]),
+            (4, LONG[:CHUNK]),
+            (10, LONG[: CHUNK + 1]),
+            (1, LONG),
+        ):
             self.see_written(log, hashlib.shake_128(text).digest(48), text)
         for at in (0, 21, 42, 43):
             spelled = ALPHABET[at : at + 21] + b"A"
@@ -66,22 +98,40 @@ class PayloadTest(KnownFilesCase):
         self.write("in", text)
         self.tool(*f"encrypt --pass pass --log {log} --random random in out".split(), check=True)
         file = self.read("out")
-        self.see(f"{len(text)} bytes at {log}", file == file_under(b"correct horse", log, random, text))
+        self.see(
+            f"{len(text)} bytes at {log}", file == file_under(b"correct horse", log, random, text)
+        )
         return file
 
     @needs("cc")
     def test_each_read_fails(self):
         """Seventeen reads give bytes, and one more finds the end. There is a position from the fourteenth on, which ends the nonce."""
         for turn in range(1, 20):
-            ended = self.reads_fail(turn, HELLO, "decrypt", "--file-key", KEY.hex(), "--save", "position", "/dev/stdin", "out")
+            ended = self.reads_fail(
+                turn,
+                HELLO,
+                "decrypt",
+                "--file-key",
+                KEY.hex(),
+                "--save",
+                "position",
+                "/dev/stdin",
+                "out",
+            )
             if turn < 19:
                 self.ends(f"read {turn} fails", ended, 26, b"", 0 if turn > 14 else None)
             else:
                 self.ends("no read fails", ended, 0, b"hello")
         for turn in range(1, 20):
             ended = self.reads_fail(turn, HELLO, "inspect")
-            holds = (ended.returncode, ended.stderr[:17]) == ((1, b"age_tool: 26 Read") if turn < 19 else (0, b""))
-            self.see(f"read {turn} of an inspection fails", holds and bool(ended.stdout) == (turn == 19), ended)
+            holds = (ended.returncode, ended.stderr[:17]) == (
+                (1, b"age_tool: 26 Read") if turn < 19 else (0, b"")
+            )
+            self.see(
+                f"read {turn} of an inspection fails",
+                holds and bool(ended.stdout) == (turn == 19),
+                ended,
+            )
 
     def reads_fail(self, turn, data, *words):
         """A run whose input comes in pieces of seven bytes, and whose read number `turn` fails, once."""
@@ -95,9 +145,21 @@ class PayloadTest(KnownFilesCase):
     def test_length_of_the_plaintext(self):
         """Nonce and payload take 16 bytes and, for each chunk, its text and 16; no text has an empty last chunk but the empty one."""
         for rest, plain in (
-            (0, "none"), (31, "none"), (32, 0), (33, 1), (65_568, 65_536), (65_569, "none"), (65_584, "none"), (65_585, 65_537),
-            (131_120, 131_072), (131_136, "none"), (131_137, 131_073),
+            (0, "none"),
+            (31, "none"),
+            (32, 0),
+            (33, 1),
+            (65_568, 65_536),
+            (65_569, "none"),
+            (65_584, "none"),
+            (65_585, 65_537),
+            (131_120, 131_072),
+            (131_136, "none"),
+            (131_137, 131_073),
         ):
             self.write("in", FRONT[:76] + rest * b"\7")
             report = f"version age-encryption.org/v1\nheader 76\nstanza x 0 0\nrest {rest}\nplain {plain}\n"
-            self.see(f"{rest} bytes after the header", self.tool("inspect", "in").stdout == report.encode())
+            self.see(
+                f"{rest} bytes after the header",
+                self.tool("inspect", "in").stdout == report.encode(),
+            )

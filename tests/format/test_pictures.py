@@ -15,7 +15,9 @@ class PicturesTest(Case):
             self.remove("out")
             self.write("cut", (whole + b"x")[: header + cut.after])
             said = self.tool("decrypt", "--pass", "pass", "cut", "out").stderr
-            self.see(f"what is said, {cut.where}", said == f"age_tool: {cut.fault}\n".encode(), said)
+            self.see(
+                f"what is said, {cut.where}", said == f"age_tool: {cut.fault}\n".encode(), said
+            )
             left = self.read("out") if self.is_there("out") else b""
             self.see(f"what is left, {cut.where}", left == text[: cut.left * CHUNK], len(left))
 
@@ -35,12 +37,26 @@ class PicturesTest(Case):
         at = payload + 2 * BLOCK
         damaged = file[:at] + bytes([file[at] ^ 1]) + file[at + 1 :]
         given = {
-            23: ("position", b"no position\n"), 24: ("in", self.read("other")), 30: ("position", forged), 25: ("old", old[:-1]), 31: ("old", b"x" + old[1:]),
-            20: ("in", file[: at - 1]), 17: ("in", damaged), None: ("in", file),
+            23: ("position", b"no position\n"),
+            24: ("in", self.read("other")),
+            30: ("position", forged),
+            25: ("old", old[:-1]),
+            31: ("old", b"x" + old[1:]),
+            20: ("in", file[: at - 1]),
+            17: ("in", damaged),
+            None: ("in", file),
         }
         self.see("all faults of the picture", {fault for _, fault in STEPS} == {*given} - {None})
         for fault, (name, held) in given.items():
             for it, right in (("in", file), ("position", saved), ("old", old)):
                 self.write(it, held if it == name else right)
-            said = self.tool("resume", "--position", "position", "--old", "old", "--pass", "pass", "in", "out").stderr
-            self.see(f"fault {fault}", said.startswith(f"age_tool: {fault} {FAULTS[fault]}".encode()) if fault else said == b"" and self.read("out") == text, said)
+            said = self.tool(
+                "resume", "--position", "position", "--old", "old", "--pass", "pass", "in", "out"
+            ).stderr
+            self.see(
+                f"fault {fault}",
+                said.startswith(f"age_tool: {fault} {FAULTS[fault]}".encode())
+                if fault
+                else said == b"" and self.read("out") == text,
+                said,
+            )

@@ -5,13 +5,26 @@ from tests import standard
 from tests.format.generated import Generated
 from tests.standard import CHUNKS, TAG
 
-NO_SCRIPT_LINE = ("piece {n} 1", "piece 0 {m}", "flip {n}", "end ", "restart 01", "restart 18446744073709551616", "piece 0", "", " end", "piece  0 0")
+NO_SCRIPT_LINE = (
+    "piece {n} 1",
+    "piece 0 {m}",
+    "flip {n}",
+    "end ",
+    "restart 01",
+    "restart 18446744073709551616",
+    "piece 0",
+    "",
+    " end",
+    "piece  0 0",
+)
 NO_SCRIPT_LINE += ("piece 18446744073709551615 1", "restart -1", "end\r", "piece 0 00")
 
 
 def is_script_line(line, size):
     """Whether this is a line of a script over so many bytes."""
-    found = re.fullmatch(r"(?:(piece) (0|[1-9]\d*) (0|[1-9]\d*)|(flip|restart) (0|[1-9]\d*)|end)", line)
+    found = re.fullmatch(
+        r"(?:(piece) (0|[1-9]\d*) (0|[1-9]\d*)|(flip|restart) (0|[1-9]\d*)|end)", line
+    )
     if not found or line.endswith("\r"):
         return False
     if found[1]:
@@ -36,9 +49,21 @@ def answers(box, payload, lines):
             held = base + standard.outcome(box, first, data, has_ended, is_late).text
             is_refused = numbers[0] >= CHUNKS or len(held) < numbers[0] * box.size
             if not is_refused:
-                base, first, data, has_ended, is_late = held[: numbers[0] * box.size], numbers[0], b"", False, False
+                base, first, data, has_ended, is_late = (
+                    held[: numbers[0] * box.size],
+                    numbers[0],
+                    b"",
+                    False,
+                    False,
+                )
         found = standard.outcome(box, first, data, has_ended, is_late)
-        status = "refused-25" if is_refused else found.status if isinstance(found.status, str) else f"failed-{found.status}"
+        status = (
+            "refused-25"
+            if is_refused
+            else found.status
+            if isinstance(found.status, str)
+            else f"failed-{found.status}"
+        )
         yield f"{number} {status} {len(base + found.text)}\n".encode()
 
 
@@ -47,8 +72,16 @@ class RandomDrillsTest(Generated):
 
     def payload(self, box):
         text = bytes(self.random.choices(range(97, 123), k=self.random.randrange(15)))
-        more = (b"x", box.seal(3, True, b""), box.seal(4, True, b"xy"), box.seal(CHUNKS - 1, False, b"XXXX"), bytes(TAG))
-        return bytearray(standard.payload_of(box, text) + (self.pick(*more) if self.is_rare(0.3) else b""))
+        more = (
+            b"x",
+            box.seal(3, True, b""),
+            box.seal(4, True, b"xy"),
+            box.seal(CHUNKS - 1, False, b"XXXX"),
+            bytes(TAG),
+        )
+        return bytearray(
+            standard.payload_of(box, text) + (self.pick(*more) if self.is_rare(0.3) else b"")
+        )
 
     def some_line(self, size):
         """A line of a script over so many bytes."""
@@ -69,7 +102,10 @@ class RandomDrillsTest(Generated):
         for _ in self.turns(500):
             payload = self.payload(box)
             lines = [self.some_line(len(payload)) for _ in range(self.random.randrange(1, 9))]
-            bad = next((at for at, line in enumerate(lines, 1) if not is_script_line(line, len(payload))), None)
+            bad = next(
+                (at for at, line in enumerate(lines, 1) if not is_script_line(line, len(payload))),
+                None,
+            )
             script = "".join(f"{it}\n" for it in lines).encode()
             if self.is_rare(0.03):
                 script, bad = script[:-1], bad or len(lines)
@@ -79,4 +115,6 @@ class RandomDrillsTest(Generated):
             if bad:
                 self.compare(ended, 2, line=b"age_tool: bad script line %d\n" % bad, case=script)
             else:
-                self.compare(ended, 0, b"".join(answers(box, payload, lines)), case=(script, payload))
+                self.compare(
+                    ended, 0, b"".join(answers(box, payload, lines)), case=(script, payload)
+                )

@@ -6,7 +6,16 @@ import subprocess
 
 from tests import process
 from tests.case import feed
-from tests.format.case import FILE_ID, KEY, LONG, POSITIONS, KnownFilesCase, file_of, letters, position
+from tests.format.case import (
+    FILE_ID,
+    KEY,
+    LONG,
+    POSITIONS,
+    KnownFilesCase,
+    file_of,
+    letters,
+    position,
+)
 from tests.standard import CHUNK
 
 ZERO = " " + 43 * "A"
@@ -21,27 +30,51 @@ class ResumeTest(KnownFilesCase):
     def resume(self, saved, old=LONG[: 2 * CHUNK], room=-1):
         self.write("saved", saved)
         self.write("old", old)
-        return self.confined(room, "resume", "--position", "saved", "--old", "old", "--file-key", KEY.hex())
+        return self.confined(
+            room, "resume", "--position", "saved", "--old", "old", "--file-key", KEY.hex()
+        )
 
     def test_resumed(self):
         """A stop in the copy of the old text has no position, one after it the next."""
         file = file_of(LONG)
         self.write("in", file)
         for length in (131_072, 150_000, 200_000):
-            self.ends(f"an old text of {length} bytes", self.resume(position(2), LONG[:length]), 0, LONG)
-        self.ends("an old text that is short by a byte", self.resume(position(2), LONG[:131_071]), 25, LONG[:131_071])
+            self.ends(
+                f"an old text of {length} bytes", self.resume(position(2), LONG[:length]), 0, LONG
+            )
+        self.ends(
+            "an old text that is short by a byte",
+            self.resume(position(2), LONG[:131_071]),
+            25,
+            LONG[:131_071],
+        )
         for at in (0, 65_535, 65_536, 131_071, 131_072):
             old = LONG[:at] + bytes([LONG[at] ^ 1]) + LONG[at + 1 :]
             held = (0, LONG) if at == 131_072 else (31, old[:131_072])
-            self.ends(f"an old text with another byte at {at}", self.resume(position(2), old), *held)
+            self.ends(
+                f"an old text with another byte at {at}", self.resume(position(2), old), *held
+            )
         self.ends("from the start", self.resume(position(0), b""), 0, LONG)
         for room, index in ((256, None), (131_071, None), (131_072, 2), (196_607, 2)):
-            self.ends(f"room for {room}", self.resume(position(2), LONG, room), 27, LONG[:room], index)
-        for length, chunk in ((92, 0), (93, 0), (65_643, 0), (65_644, 1), (131_195, 1), (131_196, 2)):
+            self.ends(
+                f"room for {room}", self.resume(position(2), LONG, room), 27, LONG[:room], index
+            )
+        for length, chunk in (
+            (92, 0),
+            (93, 0),
+            (65_643, 0),
+            (65_644, 1),
+            (131_195, 1),
+            (131_196, 2),
+        ):
             self.write("in", file[:length])
             ended = self.resume(position(2))
             self.ends(f"a file of {length} bytes", ended, 20, LONG[:131_072], 2)
-            self.see(f"a file of {length} bytes: where it ends", ended.stderr.endswith(b" chunk %d\n" % chunk), ended.stderr)
+            self.see(
+                f"a file of {length} bytes: where it ends",
+                ended.stderr.endswith(b" chunk %d\n" % chunk),
+                ended.stderr,
+            )
         self.write("in", file[:91] + b"x" + file[92:])
         self.ends("another file", self.resume(position(2)), 24, b"")
 
@@ -77,9 +110,23 @@ class ResumeTest(KnownFilesCase):
         self.write("saved", saved)
         self.write("old", old)
         self.remove("out", "position")
-        words = "resume", "--position", "saved", "--old", "old", "--file-key", KEY.hex(), "--save", "position", name, "out"
+        words = (
+            "resume",
+            "--position",
+            "saved",
+            "--old",
+            "old",
+            "--file-key",
+            KEY.hex(),
+            "--save",
+            "position",
+            name,
+            "out",
+        )
         before = read_by_now()
-        ended = process.run([self.program, *words], cwd=self.room, stdin=stdin, stderr=subprocess.PIPE)
+        ended = process.run(
+            [self.program, *words], cwd=self.room, stdin=stdin, stderr=subprocess.PIPE
+        )
         return ended, read_by_now() - before
 
     def test_positions(self):
@@ -88,17 +135,45 @@ class ResumeTest(KnownFilesCase):
         chain, tag = POSITIONS[2]
         zero = 64 * "0"
         for name, forged in (
-            ("another index", position(1, chain, tag)), ("another chain", position(2, chain=POSITIONS[1][0])),
-            ("another tag", position(2, tag=tag[:-2] + "c9")), ("zeros", position(5, zero, zero)), ("zeros at 0", position(0, zero, zero)),
+            ("another index", position(1, chain, tag)),
+            ("another chain", position(2, chain=POSITIONS[1][0])),
+            ("another tag", position(2, tag=tag[:-2] + "c9")),
+            ("zeros", position(5, zero, zero)),
+            ("zeros at 0", position(0, zero, zero)),
         ):
             self.ends(f"a position with {name}", self.resume(forged, LONG), 30, b"")
         for front in ("age-position/v2 0", "age-position/v2 3", "age-position/v2 281474976710655"):
-            self.ends(f"a position of another file: {front}", self.resume(f"{front}{ZERO * 3}\n".encode()), 24, b"")
+            self.ends(
+                f"a position of another file: {front}",
+                self.resume(f"{front}{ZERO * 3}\n".encode()),
+                24,
+                b"",
+            )
         for front, end in (
-            ("age-position/v2 03", "\n"), ("age-position/v2 +3", "\n"), ("age-position/v2 ", "\n"), ("age-position/v2 281474976710656", "\n"),
-            ("age-position/v2 18446744073709551616", "\n"), ("age-position/v2 3 ", "\n"), ("age-position/v1 3", "\n"), ("age-position/v2 3", ""),
-            ("age-position/v2 3", "\n\n"), ("age-position/v2 3", "\r\n"), ("", ""),
+            ("age-position/v2 03", "\n"),
+            ("age-position/v2 +3", "\n"),
+            ("age-position/v2 ", "\n"),
+            ("age-position/v2 281474976710656", "\n"),
+            ("age-position/v2 18446744073709551616", "\n"),
+            ("age-position/v2 3 ", "\n"),
+            ("age-position/v1 3", "\n"),
+            ("age-position/v2 3", ""),
+            ("age-position/v2 3", "\n\n"),
+            ("age-position/v2 3", "\r\n"),
+            ("", ""),
         ):
-            self.ends(f"no position: {front}", self.resume(f"{front}{ZERO * 3}{end}".encode()), 23, b"")
-        self.ends("low bits that no byte takes", self.resume(f"age-position/v2 3{ZERO * 3}"[:-1].encode() + b"B\n"), 23, b"")
-        self.ends("a position of one digest", self.resume(f"age-position/v1 2 {letters(FILE_ID)}\n".encode()), 23, b"")
+            self.ends(
+                f"no position: {front}", self.resume(f"{front}{ZERO * 3}{end}".encode()), 23, b""
+            )
+        self.ends(
+            "low bits that no byte takes",
+            self.resume(f"age-position/v2 3{ZERO * 3}"[:-1].encode() + b"B\n"),
+            23,
+            b"",
+        )
+        self.ends(
+            "a position of one digest",
+            self.resume(f"age-position/v1 2 {letters(FILE_ID)}\n".encode()),
+            23,
+            b"",
+        )

@@ -13,14 +13,54 @@ RUN = TOP / "bindings" / "c" / "fuzz" / "run"
 SOURCES = TOP / "bindings" / "c"
 # Which fuzzer finds what: a flaw, its file, and what is written in the place of what.
 FLAWS = {
-    "a decoder that was begun again has the stanzas of the header before": ("decoder", "agefile.c", "    age_c_decode_begin(&it->core);\n", "    it->core.open = 0;\n"),
-    "a place is sought in the file and not in the text": ("decoder", "look.c", "age_c_decode_seek(&it->core, place,", "age_c_decode_seek(&it->core, place + 1,"),
-    "an end forgets what is held": ("decoder", "agefile.c", "(int)age_c_decode_end(&it->core, out, room, written);\n", "(int)(it->core.block_held = 0, age_c_decode_end(&it->core, out, room, written));\n"),
-    "a chunk that is opened changes the decoder": ("decoder", "look.c", "age_c_open_at(&reader,", "age_c_open_at((core_reader *)&it->core.reader,"),
-    "a text that isn't whole is left": ("decoder", "once.c", "    else if (n) explicit_bzero(out, n);\n    agefile_decoder_free", "    agefile_decoder_free"),
-    "a fault is forgotten": ("header", "agefile.c", "    return it->fault ? it->fault :", "    return"),
-    "an encoder that was begun again writes the header before": ("encoder", "agefile.c", "    free(it->front), it->front = NULL, it->front_len = 0;\n", "    it->front_len = it->front ? it->front_len : 0;\n"),
-    "random bytes may be lacking": ("encoder", "agefile.c", "    return n == (ssize_t)len;\n", "    return n || len;\n"),
+    "a decoder that was begun again has the stanzas of the header before": (
+        "decoder",
+        "agefile.c",
+        "    age_c_decode_begin(&it->core);\n",
+        "    it->core.open = 0;\n",
+    ),
+    "a place is sought in the file and not in the text": (
+        "decoder",
+        "look.c",
+        "age_c_decode_seek(&it->core, place,",
+        "age_c_decode_seek(&it->core, place + 1,",
+    ),
+    "an end forgets what is held": (
+        "decoder",
+        "agefile.c",
+        "(int)age_c_decode_end(&it->core, out, room, written);\n",
+        "(int)(it->core.block_held = 0, age_c_decode_end(&it->core, out, room, written));\n",
+    ),
+    "a chunk that is opened changes the decoder": (
+        "decoder",
+        "look.c",
+        "age_c_open_at(&reader,",
+        "age_c_open_at((core_reader *)&it->core.reader,",
+    ),
+    "a text that isn't whole is left": (
+        "decoder",
+        "once.c",
+        "    else if (n) explicit_bzero(out, n);\n    agefile_decoder_free",
+        "    agefile_decoder_free",
+    ),
+    "a fault is forgotten": (
+        "header",
+        "agefile.c",
+        "    return it->fault ? it->fault :",
+        "    return",
+    ),
+    "an encoder that was begun again writes the header before": (
+        "encoder",
+        "agefile.c",
+        "    free(it->front), it->front = NULL, it->front_len = 0;\n",
+        "    it->front_len = it->front ? it->front_len : 0;\n",
+    ),
+    "random bytes may be lacking": (
+        "encoder",
+        "agefile.c",
+        "    return n == (ssize_t)len;\n",
+        "    return n || len;\n",
+    ),
 }
 
 
@@ -35,8 +75,16 @@ class FuzzTest(Case):
     def fuzz(self, *words, **env):
         """A run of the fuzzers; the test is left out if they can't be compiled."""
         seed = os.environ.get("AGE_SEED") or "1"
-        run = process.run([RUN, *words], cwd=self.room, env={**os.environ, "AGE_C_DIR": str(LIBRARY), "SEED": seed, **env}, capture_output=True, text=True)
-        if run.returncode and ("openssl/" in run.stderr or "-lcrypto" in run.stderr or "libclang_rt" in run.stderr):
+        run = process.run(
+            [RUN, *words],
+            cwd=self.room,
+            env={**os.environ, "AGE_C_DIR": str(LIBRARY), "SEED": seed, **env},
+            capture_output=True,
+            text=True,
+        )
+        if run.returncode and (
+            "openssl/" in run.stderr or "-lcrypto" in run.stderr or "libclang_rt" in run.stderr
+        ):
             self.skipTest("needs libFuzzer and OpenSSL's headers")
         return run
 
@@ -61,7 +109,12 @@ class FuzzTest(Case):
             self.assertEqual(len(re.findall(pattern, text)), 1, flaw)
             (sources / name).write_text(re.sub(pattern, lambda _: new, text))
             run = self.fuzz("0", by, SOURCES=str(sources))
-            self.see(f"fuzzed: {flaw}", run.returncode == 1 and ("not so: " in run.stdout or "ERROR: " in run.stdout), run.stdout[-1000:], run.stderr[-2000:])
+            self.see(
+                f"fuzzed: {flaw}",
+                run.returncode == 1 and ("not so: " in run.stdout or "ERROR: " in run.stdout),
+                run.stdout[-1000:],
+                run.stderr[-2000:],
+            )
 
 
 class ModulesFuzzTest(Case):
@@ -72,7 +125,12 @@ class ModulesFuzzTest(Case):
         built.library()
 
     def fuzz(self, script, **env):
-        env = {**os.environ, "SEED": os.environ.get("AGE_SEED") or "1", "AGEFILE_LIBRARY": str(LIBRARY / "libagefile.so"), **env}
+        env = {
+            **os.environ,
+            "SEED": os.environ.get("AGE_SEED") or "1",
+            "AGEFILE_LIBRARY": str(LIBRARY / "libagefile.so"),
+            **env,
+        }
         words = [TOP / "bindings" / script, os.environ.get("AGE_FUZZED") or "10"]
         run = process.run(words, cwd=self.room, env=env, capture_output=True, text=True)
         print(run.stdout, end="")
@@ -83,7 +141,13 @@ class ModulesFuzzTest(Case):
 
     @needs("go")
     def test_go(self):
-        said = self.fuzz("go/fuzz", GOCACHE=str(LIBRARY / "gocache"), GOPROXY="off", GOFLAGS="", GOTOOLCHAIN="local")
+        said = self.fuzz(
+            "go/fuzz",
+            GOCACHE=str(LIBRARY / "gocache"),
+            GOPROXY="off",
+            GOFLAGS="",
+            GOTOOLCHAIN="local",
+        )
         counts = [int(it) for it in re.findall(r"execs: (\d+)", said)]
         self.see(f"runs: {counts}", len(counts) == 2 and min(counts) > 100, said)
 

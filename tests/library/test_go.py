@@ -20,11 +20,18 @@ READS = ["*"]
 MODULE = TOP / "bindings" / "go"
 # Where Debian's packages have their sources of Go, and what is needed of them: golang-filippo-age-dev and what that uses.
 DEBIAN = pathlib.Path("/usr/share/gocode")
-OF_AGE = ("filippo.io/age/agessh", "filippo.io/edwards25519", "golang.org/x/crypto/ssh", "golang.org/x/sys/cpu")
+OF_AGE = (
+    "filippo.io/age/agessh",
+    "filippo.io/edwards25519",
+    "golang.org/x/crypto/ssh",
+    "golang.org/x/sys/cpu",
+)
 # What the module says of faults, before the number and name.
 TEXTS = {
-    "1 NotAge": "the file doesn't begin as an age file does", "13 WrongKey": "the passphrase or key doesn't open the file",
-    "17 ChunkDamaged": "the file is damaged or was cut here, or something was appended", "21 Trailing": "something was appended to the file",
+    "1 NotAge": "the file doesn't begin as an age file does",
+    "13 WrongKey": "the passphrase or key doesn't open the file",
+    "17 ChunkDamaged": "the file is damaged or was cut here, or something was appended",
+    "21 Trailing": "something was appended to the file",
     "254 HeaderOrNonceCut": "the file ends in its header or right after it, or isn't an age file",
 }
 
@@ -38,7 +45,9 @@ def write_user(folder, module):
     """Makes a module that has the program in the README, and takes ours from a folder."""
     folder.mkdir()
     (folder / "main.go").write_text(sample())
-    (folder / "go.mod").write_text(f"module user\n\ngo 1.19\n\nrequire {go_module()} v0.0.0\n\nreplace {go_module()} => {module}\n")
+    (folder / "go.mod").write_text(
+        f"module user\n\ngo 1.19\n\nrequire {go_module()} v0.0.0\n\nreplace {go_module()} => {module}\n"
+    )
 
 
 @needs("go")
@@ -47,7 +56,12 @@ class GoTest(ModulesCase):
 
     def setUp(self):
         super().setUp()
-        self.env = {"GOCACHE": str(built.cache("gocache")), "GOPROXY": "off", "GOFLAGS": "-buildvcs=false", "GOTOOLCHAIN": "local"}
+        self.env = {
+            "GOCACHE": str(built.cache("gocache")),
+            "GOPROXY": "off",
+            "GOFLAGS": "-buildvcs=false",
+            "GOTOOLCHAIN": "local",
+        }
 
     def test_module(self):
         """Its own tests, under the race detector; and its program, from a vendored copy."""
@@ -55,8 +69,15 @@ class GoTest(ModulesCase):
         self.path("module").symlink_to(MODULE)
         user = self.path("user")
         write_user(user, "../module")
-        commands = [["go", "vet", "./..."], "go test -race -vet=off -count=1 .".split(),
-                    ["sh", "-c", f"cd {shlex.quote(str(user))} && go mod vendor && go build -mod=vendor -o decrypt ."]]
+        commands = [
+            ["go", "vet", "./..."],
+            "go test -race -vet=off -count=1 .".split(),
+            [
+                "sh",
+                "-c",
+                f"cd {shlex.quote(str(user))} && go mod vendor && go build -mod=vendor -o decrypt .",
+            ],
+        ]
         if shutil.which("gofmt"):
             commands.append(["sh", "-c", 'test -z "$(gofmt -l .)"'])
         else:
@@ -69,16 +90,27 @@ class GoTest(ModulesCase):
         """With -tags agefile_system the library is the one that pkg-config finds."""
         # (Go takes no folder whose name has a space from pkg-config, either)
         found = (LIBRARY / "pkgconfig" / "agefile.pc").read_text()
-        for name, folder in (("library", LIBRARY), ("include", TOP / "include"), ("private", TOP / "bindings" / "c")):
+        for name, folder in (
+            ("library", LIBRARY),
+            ("include", TOP / "include"),
+            ("private", TOP / "bindings" / "c"),
+        ):
             self.path(name).symlink_to(folder)
             found = found.replace(str(folder).replace(" ", "\\ "), str(self.path(name)))
         self.write("agefile.pc", found.encode())
         module = self.path("module")
         shutil.copytree(MODULE, module, ignore=shutil.ignore_patterns("*.a", "agefile.h"))
         env = {**self.env, "PKG_CONFIG_PATH": str(self.room), "LD_LIBRARY_PATH": str(LIBRARY)}
-        self.succeed("Go", module, env, "go test -tags agefile_system -run TestReader|TestWriter|TestFiles .".split())
+        self.succeed(
+            "Go",
+            module,
+            env,
+            "go test -tags agefile_system -run TestReader|TestWriter|TestFiles .".split(),
+        )
 
-    @unittest.skipUnless(all((DEBIAN / "src" / it).is_dir() for it in OF_AGE), "needs filippo.io/age")
+    @unittest.skipUnless(
+        all((DEBIAN / "src" / it).is_dir() for it in OF_AGE), "needs filippo.io/age"
+    )
     def test_keys_of_age(self):
         """The module that adapts the keys of filippo.io/age, over Debian's copy of that. (Its own way to name modules needs no network.)"""
         module = self.path("gopath/src") / go_module()
@@ -86,8 +118,15 @@ class GoTest(ModulesCase):
         shutil.copytree(TOP / "bindings" / "tests", module.parent / "tests")
         self.path("gopath/src/tests").mkdir()
         shutil.copy(TOP / "tests" / "cctv.tar.gz", self.path("gopath/src/tests"))
-        env = {**self.env, "GO111MODULE": "off", "GOPATH": f"{self.path('gopath')}:{DEBIAN}", "GOFLAGS": ""}
-        self.succeed("Go", module / "agekeys", env, ["go", "vet", "."], "go test -count=1 .".split())
+        env = {
+            **self.env,
+            "GO111MODULE": "off",
+            "GOPATH": f"{self.path('gopath')}:{DEBIAN}",
+            "GOFLAGS": "",
+        }
+        self.succeed(
+            "Go", module / "agekeys", env, ["go", "vet", "."], "go test -count=1 .".split()
+        )
 
     def test_path(self):
         """The module's path is go.mod's: nothing spells another one."""
@@ -101,15 +140,34 @@ class GoTest(ModulesCase):
         """`go get` takes the packed module from a folder, in an environment that has no repository and no kit; and its program decrypts."""
         folder, home = self.path("proxy"), self.path("home")
         built.copy_to_pack(self.path("packed"))
-        process.run([self.path("packed") / "release" / "go", folder], cwd=self.path("packed"), check=True, stdout=subprocess.DEVNULL, env={**os.environ, "SOURCE_DATE_EPOCH": "1800000000"})
+        process.run(
+            [self.path("packed") / "release" / "go", folder],
+            cwd=self.path("packed"),
+            check=True,
+            stdout=subprocess.DEVNULL,
+            env={**os.environ, "SOURCE_DATE_EPOCH": "1800000000"},
+        )
         user = self.path("new")
         user.mkdir()
         (user / "main.go").write_text(sample())
-        env = {"PATH": "/usr/local/go/bin:/usr/bin:/bin", "HOME": str(home), "GOPROXY": f"file://{urllib.parse.quote(str(folder))}/goproxy", "GONOSUMDB": go_module(),
-               "GOFLAGS": "-modcacherw", "GOTOOLCHAIN": "local", "GOCACHE": self.env["GOCACHE"]}
+        env = {
+            "PATH": "/usr/local/go/bin:/usr/bin:/bin",
+            "HOME": str(home),
+            "GOPROXY": f"file://{urllib.parse.quote(str(folder))}/goproxy",
+            "GONOSUMDB": go_module(),
+            "GOFLAGS": "-modcacherw",
+            "GOTOOLCHAIN": "local",
+            "GOCACHE": self.env["GOCACHE"],
+        }
         for words in ("go mod init new", f"go get {go_module()}", "go build -o decrypt ."):
             run = process.run(words.split(), cwd=user, env=env, capture_output=True, text=True)
             self.assertEqual(run.returncode, 0, (words, run.stderr))
         self.see_example("the fetched module", user / "decrypt", "agefile: ", TEXTS)
-        found = process.run(["go", "list", "-m", "-f", "{{.Dir}}", go_module()], cwd=user, env=env, capture_output=True, text=True).stdout.strip()
+        found = process.run(
+            ["go", "list", "-m", "-f", "{{.Dir}}", go_module()],
+            cwd=user,
+            env=env,
+            capture_output=True,
+            text=True,
+        ).stdout.strip()
         self.see("it is the one of the proxy", found.startswith(str(home)), found)

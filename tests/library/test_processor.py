@@ -46,20 +46,48 @@ class ProcessorTest(BindingsCase):
         self.data = self.sealed(self.text)
 
     def on(self, processor, words, **more):
-        return process.run([QEMU, "-cpu", processor, *words], cwd=self.room, input=self.data, capture_output=True, **more)
+        return process.run(
+            [QEMU, "-cpu", processor, *words],
+            cwd=self.room,
+            input=self.data,
+            capture_output=True,
+            **more,
+        )
 
     def see_refused(self, what, words, status, needed=NEEDED, **more):
         for processor in OLD:
             run = self.on(processor, words, **more)
-            self.see(f"{what} on {processor}", (run.returncode, run.stdout) == (status, b"") and needed in run.stderr, run.returncode, run.stderr[-500:])
+            self.see(
+                f"{what} on {processor}",
+                (run.returncode, run.stdout) == (status, b"") and needed in run.stderr,
+                run.returncode,
+                run.stderr[-500:],
+            )
         run = self.on(NEW, words, **more)
-        self.see(f"{what} on {NEW}", run.returncode == 0 and run.stdout == self.text, run.returncode, run.stderr[-500:])
+        self.see(
+            f"{what} on {NEW}",
+            run.returncode == 0 and run.stdout == self.text,
+            run.returncode,
+            run.stderr[-500:],
+        )
 
     @needs("cc")
     def test_c(self):
-        for name, library in (("static", [LIBRARY / "libagefile.a"]), ("shared", [LIBRARY / "libagefile.so", f"-Wl,-rpath,{LIBRARY}"])):
+        for name, library in (
+            ("static", [LIBRARY / "libagefile.a"]),
+            ("shared", [LIBRARY / "libagefile.so", f"-Wl,-rpath,{LIBRARY}"]),
+        ):
             made = self.path(name)
-            words = ["cc", "-std=c11", "-O1", f"-I{TOP / 'include'}", "-o", made, TOP / "bindings" / "c" / "decrypt.c", *library]
+            words = [
+                "cc",
+                "-std=c11",
+                "-O1",
+                f"-I{TOP / 'include'}",
+                "-o",
+                made,
+                TOP / "bindings" / "c" / "decrypt.c",
+                *library,
+            ]
             process.run(words, check=True)
             self.see_refused(f"C, {name}", [made, "pw"], 1, b"252 NoProcessor")
 
@@ -70,19 +98,47 @@ class ProcessorTest(BindingsCase):
     @needs("cargo")
     def test_rust(self):
         to = built.cache("target")
-        words = ["cargo", "build", "--release", "--examples", "--offline", "--quiet", "--target-dir", to]
-        process.run(words, cwd=TOP / "bindings" / "rust", env={**os.environ, "AGEFILE_DIR": str(LIBRARY)}, check=True, capture_output=True)
-        self.see_refused("Rust", [to / "release" / "examples" / "decrypt", "pw"], 1, b"isn't made for this processor (252 NoProcessor)")
+        words = [
+            "cargo",
+            "build",
+            "--release",
+            "--examples",
+            "--offline",
+            "--quiet",
+            "--target-dir",
+            to,
+        ]
+        process.run(
+            words,
+            cwd=TOP / "bindings" / "rust",
+            env={**os.environ, "AGEFILE_DIR": str(LIBRARY)},
+            check=True,
+            capture_output=True,
+        )
+        self.see_refused(
+            "Rust",
+            [to / "release" / "examples" / "decrypt", "pw"],
+            1,
+            b"isn't made for this processor (252 NoProcessor)",
+        )
 
     @needs("go")
     def test_go(self):
         module, user = self.path("go"), self.path("user")
         shutil.copytree(TOP / "bindings" / "go", module)
         shutil.copy(LIBRARY / "libagefile.a", module / "libagefile_amd64.a")
-        env = {**os.environ, "GOCACHE": str(built.cache("gocache")), "GOPROXY": "off", "GOFLAGS": "-buildvcs=false"}
+        env = {
+            **os.environ,
+            "GOCACHE": str(built.cache("gocache")),
+            "GOPROXY": "off",
+            "GOFLAGS": "-buildvcs=false",
+        }
         (module / "processor_test.go").write_text(GO_TEST)
         test_go.write_user(user, "../go")
-        for words, folder in ((["build", "-o", self.path("decrypt-go"), "."], user), (["test", "-c", "-o", self.path("tests-go"), "."], module)):
+        for words, folder in (
+            (["build", "-o", self.path("decrypt-go"), "."], user),
+            (["test", "-c", "-o", self.path("tests-go"), "."], module),
+        ):
             process.run(["go", *words], cwd=folder, env=env, check=True, capture_output=True)
         self.see_refused("Go", [self.path("decrypt-go"), "pw"], 1, b"(252 NoProcessor)")
         run = self.on(OLD[0], [self.path("tests-go"), "-test.run", "TestOldProcessor"])

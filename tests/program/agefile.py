@@ -58,11 +58,18 @@ def at_terminal(words, answers, **more):
     answers, shown, asked = [*answers], b"", b""
     with tempfile.TemporaryFile() as out, tempfile.TemporaryFile() as error:
         more = {"stdin": subprocess.DEVNULL, "stdout": out, "stderr": error} | more
-        run = process.Popen(words, start_new_session=True, preexec_fn=lambda: fcntl.ioctl(terminal, termios.TIOCSCTTY, 0), pass_fds=[terminal],
-                               **more)
+        run = process.Popen(
+            words,
+            start_new_session=True,
+            preexec_fn=lambda: fcntl.ioctl(terminal, termios.TIOCSCTTY, 0),
+            pass_fds=[terminal],
+            **more,
+        )
         os.close(terminal)
         until = time.monotonic() + SECONDS
-        while (run.poll() is None or select.select([main], [], [], 0)[0]) and time.monotonic() < until:
+        while (
+            run.poll() is None or select.select([main], [], [], 0)[0]
+        ) and time.monotonic() < until:
             if not select.select([main], [], [], 0.05)[0]:
                 continue
             try:
@@ -84,6 +91,7 @@ def at_terminal(words, answers, **more):
 
 class AgefileCase(Case):
     """A folder with a passphrase `pass`, a text `plain`, and its age file `age`."""
+
     is_lighter = False
 
     @classmethod
@@ -93,7 +101,11 @@ class AgefileCase(Case):
         os.chmod(made.name, 0o755)
         cls.agefile = release(f"{made.name}/release", cls.is_lighter)
         # (a recorded run writes no cache)
-        cls.env = {**os.environ, "PYTHONDONTWRITEBYTECODE": "1", "AGEFILE_LIBRARY": str(built.library() / "libagefile.so")}
+        cls.env = {
+            **os.environ,
+            "PYTHONDONTWRITEBYTECODE": "1",
+            "AGEFILE_LIBRARY": str(built.library() / "libagefile.so"),
+        }
 
     def setUp(self):
         super().setUp()
@@ -105,18 +117,31 @@ class AgefileCase(Case):
 
     def run_agefile(self, *words, **more):
         """Runs agefile."""
-        more = {"stdin": subprocess.DEVNULL, "capture_output": True, "timeout": SECONDS, "env": self.env} | more
+        more = {
+            "stdin": subprocess.DEVNULL,
+            "capture_output": True,
+            "timeout": SECONDS,
+            "env": self.env,
+        } | more
         if "input" in more:
             del more["stdin"]
         return process.run([self.agefile, *words], cwd=self.room, **more)
 
     def at_terminal(self, *words, answers=(), **more):
-        return at_terminal([self.agefile, *words], answers, cwd=self.room, **{"env": self.env} | more)
+        return at_terminal(
+            [self.agefile, *words], answers, cwd=self.room, **{"env": self.env} | more
+        )
 
     def ends(self, name, run, status, said=b"", out=b""):
         """Counts whether a run ended like this; `said` is a text, or a form of it."""
         fits = said == run.stderr if isinstance(said, bytes) else said.fullmatch(run.stderr)
-        self.see(name, (run.returncode, run.stdout) == (status, out) and fits, run.returncode, run.stderr, (run.stdout or b"")[-200:])
+        self.see(
+            name,
+            (run.returncode, run.stdout) == (status, out) and fits,
+            run.returncode,
+            run.stderr,
+            (run.stdout or b"")[-200:],
+        )
 
 
 def form(text):

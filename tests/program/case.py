@@ -52,7 +52,10 @@ def unsynced(name, error):
 
 def unwaited(name):
     """What is said of an OUT whose file system can't sync."""
-    return b"age_tool: %b: the file system can't sync it: it may not be on the disk yet\n" % name.encode()
+    return (
+        b"age_tool: %b: the file system can't sync it: it may not be on the disk yet\n"
+        % name.encode()
+    )
 
 
 def refused(name, more=""):
@@ -127,7 +130,10 @@ class FilesCase(Case):
     def expect(self, status, faults, words, name=None, failing=None, **more):
         """Runs the program, and counts whether it ends like this. `failing` are variables of tools/shim.c."""
         words = words.split() if isinstance(words, str) else words
-        more = {"stdout": subprocess.DEVNULL, "env": shim.loaded(**failing) if failing else None} | more
+        more = {
+            "stdout": subprocess.DEVNULL,
+            "env": shim.loaded(**failing) if failing else None,
+        } | more
         with self.subTest(name or " ".join(map(str, words))):
             ended = self.tool(*words, **more)
             said = faults if ended.stderr is None else ended.stderr
@@ -135,7 +141,11 @@ class FilesCase(Case):
 
     def started(self, words, **more):
         """Starts the program, and goes on meanwhile."""
-        more = {"stdin": subprocess.DEVNULL, "stdout": subprocess.DEVNULL, "stderr": subprocess.PIPE} | more
+        more = {
+            "stdin": subprocess.DEVNULL,
+            "stdout": subprocess.DEVNULL,
+            "stderr": subprocess.PIPE,
+        } | more
         return process.Popen([self.program, *words.split()], cwd=self.room, **more)
 
     def deriving(self, words, held="held", **more):
@@ -169,14 +179,21 @@ class FilesCase(Case):
     def fused(self, name, **variables):
         """A folder that is a file system of our own, whose calls fail or take time (tools/fused.c), until the test ends."""
         made = self.path("fused-program")
-        flags = process.run(["pkg-config", "--cflags", "--libs", "fuse3"], capture_output=True, text=True)
+        flags = process.run(
+            ["pkg-config", "--cflags", "--libs", "fuse3"], capture_output=True, text=True
+        )
         if flags.returncode:
             self.skipTest("no libfuse can be had")
-        process.run(["cc", "-O2", "-Wall", "-Wextra", "-Werror", "-o", made, FUSED, *flags.stdout.split()], check=True)
+        process.run(
+            ["cc", "-O2", "-Wall", "-Wextra", "-Werror", "-o", made, FUSED, *flags.stdout.split()],
+            check=True,
+        )
         self.path(f"{name}-held").mkdir()
         self.path(name).mkdir()
         env = {**os.environ, **{it: str(value) for it, value in variables.items()}}
-        if process.run([made, self.path(f"{name}-held"), self.path(name)], env=env, capture_output=True).returncode:
+        if process.run(
+            [made, self.path(f"{name}-held"), self.path(name)], env=env, capture_output=True
+        ).returncode:
             self.skipTest("nothing can be mounted by FUSE")
         self.addCleanup(process.run, ["fusermount3", "-u", self.path(name)], check=True)
 
@@ -214,7 +231,10 @@ class ProgramCase(Case):
     def ends(self, name, ended, status, output=b"", faults=b""):
         """Counts whether a run ended like this."""
         with self.subTest(name):
-            self.assertEqual((ended.returncode, ended.stdout or b"", ended.stderr or b""), (status, output, faults))
+            self.assertEqual(
+                (ended.returncode, ended.stdout or b"", ended.stderr or b""),
+                (status, output, faults),
+            )
 
     def decrypt(self, *words, **more):
         return self.tool("decrypt", "--pass", "pass", *words, **more)
@@ -234,7 +254,12 @@ class ProgramCase(Case):
         ours, theirs = os.openpty()
         if stream == "stdin":
             os.write(ours, b"\x04")  # the end
-        ends = {"stdin": subprocess.DEVNULL, "stdout": subprocess.PIPE, "stderr": subprocess.PIPE, stream: theirs} | more
+        ends = {
+            "stdin": subprocess.DEVNULL,
+            "stdout": subprocess.PIPE,
+            "stderr": subprocess.PIPE,
+            stream: theirs,
+        } | more
         run = process.Popen([self.program, *words], cwd=self.room, **ends)
         os.close(theirs)
         said = terminal.output(ours).replace(b"\r\n", b"\n") if stream == "stderr" else b""
@@ -244,20 +269,31 @@ class ProgramCase(Case):
 
     def at_terminal(self, words):
         """Runs the program with a terminal as its standard streams, and gives what came there as its output."""
-        child, tty = terminal.start(["env", "-C", str(self.room), str(self.program), *words.split()])
+        child, tty = terminal.start(
+            ["env", "-C", str(self.room), str(self.program), *words.split()]
+        )
         came = terminal.output(tty).replace(b"\r\n", b"\n")
         os.close(tty)
-        return subprocess.CompletedProcess(words, os.waitstatus_to_exitcode(os.waitpid(child, 0)[1]), came)
+        return subprocess.CompletedProcess(
+            words, os.waitstatus_to_exitcode(os.waitpid(child, 0)[1]), came
+        )
 
     def unsaved(self):
         """A decryption that stops, and whose position can't be saved, since its file was made meanwhile."""
         self.remove("part", "taken")
         words = "decrypt --no-sync --pass pass --save taken /dev/stdin part"
-        run = process.Popen([self.program, *words.split()], cwd=self.room, stdin=subprocess.PIPE, stderr=subprocess.PIPE)
+        run = process.Popen(
+            [self.program, *words.split()],
+            cwd=self.room,
+            stdin=subprocess.PIPE,
+            stderr=subprocess.PIPE,
+        )
         run.stdin.write(self.age[:150_000])
         run.stdin.flush()
         waits_for(lambda: self.is_there("part") and self.path("part").stat().st_size >= 131_072)
         self.write("taken", b"")
         ended = subprocess.CompletedProcess(words, 1, b"", run.communicate(timeout=SECONDS)[1])
-        ended.returncode, (ended.stderr, ended.advice) = run.returncode, without_advice(ended.stderr)
+        ended.returncode, (ended.stderr, ended.advice) = run.returncode, without_advice(
+            ended.stderr
+        )
         return ended

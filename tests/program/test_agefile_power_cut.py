@@ -35,10 +35,24 @@ class PowerCutTest(AgefileCase):
             (folder / "out").write_bytes(before)
         disk = Disk(folder)
         self.write("record", b"")
-        run = process.run([sys.executable, "-c", program + RUNS, str(self.agefile), *words.split()], cwd=folder,
-                             env={**self.env, **shim.loaded(RECORD=self.path("record"))}, capture_output=True, timeout=SECONDS)
-        self.see(f"{words}", run.returncode == 0 and os.listdir(folder) == ["out"], run, os.listdir(folder))
-        return disk, [it for it in calls(self.path("record")) if it[0] != "close"], (folder / "out").read_bytes()
+        run = process.run(
+            [sys.executable, "-c", program + RUNS, str(self.agefile), *words.split()],
+            cwd=folder,
+            env={**self.env, **shim.loaded(RECORD=self.path("record"))},
+            capture_output=True,
+            timeout=SECONDS,
+        )
+        self.see(
+            f"{words}",
+            run.returncode == 0 and os.listdir(folder) == ["out"],
+            run,
+            os.listdir(folder),
+        )
+        return (
+            disk,
+            [it for it in calls(self.path("record")) if it[0] != "close"],
+            (folder / "out").read_bytes(),
+        )
 
     def wrong(self, disk, made, before, after):
         """After how many calls a state has another OUT."""
@@ -54,15 +68,30 @@ class PowerCutTest(AgefileCase):
     def test_power_cuts(self):
         for program, kind in (("", "a file without a name"), (NAMED, "a file with a name")):
             for before in (None, b"as it was"):
-                for command in ("encrypt --identity ../key ../plain", "salvage --pass ../pass ../age"):
+                for command in (
+                    "encrypt --identity ../key ../plain",
+                    "salvage --pass ../pass ../age",
+                ):
                     words = f"{command} {'--overwrite ' if before else ''}out"
                     name = f"{words}, by {kind}"
                     disk, made, after = self.recorded(words, before, program)
-                    self.see(f"{name}: its calls", len(made) > 5 and {"write", "sync", "sync-names"} <= {it[0] for it in made}, [it[0] for it in made])
-                    self.see(name, self.wrong(disk, made, before, after) is None, [it[:2] for it in made])
+                    self.see(
+                        f"{name}: its calls",
+                        len(made) > 5 and {"write", "sync", "sync-names"} <= {it[0] for it in made},
+                        [it[0] for it in made],
+                    )
+                    self.see(
+                        name, self.wrong(disk, made, before, after) is None, [it[:2] for it in made]
+                    )
                     disk, made, after = self.recorded(words, before, program)
                     unsynced = [it for it in made if it[0] != "sync"]
-                    self.see(f"{name}, without waiting for its bytes", self.wrong(disk, unsynced, before, after) is not None)
+                    self.see(
+                        f"{name}, without waiting for its bytes",
+                        self.wrong(disk, unsynced, before, after) is not None,
+                    )
                     disk, made, after = self.recorded(words, before, program)
                     unsynced = [it for it in made if it[0] != "sync-names"]
-                    self.see(f"{name}, without waiting for its name", self.wrong(disk, unsynced, before, after) is not None)
+                    self.see(
+                        f"{name}, without waiting for its name",
+                        self.wrong(disk, unsynced, before, after) is not None,
+                    )

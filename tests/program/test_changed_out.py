@@ -3,7 +3,16 @@ import errno
 import os
 
 from tests.case import SECONDS, needs
-from tests.program.case import PLAIN, Feeding, FilesCase, as_nobody, unsynced, unwaited, unwritten, waits_for
+from tests.program.case import (
+    PLAIN,
+    Feeding,
+    FilesCase,
+    as_nobody,
+    unsynced,
+    unwaited,
+    unwritten,
+    waits_for,
+)
 
 LENGTH = "another program changed its length"
 REMOVED = "it was removed meanwhile"
@@ -28,7 +37,11 @@ class ChangedOutTest(FilesCase):
             feeding.input.close()
             said = feeding.run.communicate(timeout=SECONDS)[1]
             line = b"age_tool: OUT was moved: out is another file now, or gone\n"
-            self.see(f"OUT has {name}", (feeding.run.returncode, said) == (0, line) and self.read("moved") == PLAIN, said)
+            self.see(
+                f"OUT has {name}",
+                (feeding.run.returncode, said) == (0, line) and self.read("moved") == PLAIN,
+                said,
+            )
         self.write("old", b"")
         os.symlink("old", self.path("link"))
         ended = self.tool(*"decrypt --pass pass age link".split())
@@ -69,14 +82,25 @@ class ChangedOutTest(FilesCase):
         self.write("name", b"renamed")
         self.expect(0, b"", "encrypt --pass pass --log 4 name short")
         self.expect(0, unwaited("/proc/self/comm"), "decrypt --pass pass short /proc/self/comm")
-        self.expect(1, unwritten("/proc/self/limits", errno.EACCES), "decrypt --pass pass short /proc/self/limits", **as_nobody())
+        self.expect(
+            1,
+            unwritten("/proc/self/limits", errno.EACCES),
+            "decrypt --pass pass short /proc/self/limits",
+            **as_nobody(),
+        )
 
     @needs("cc")
     def test_gone_as_it_is_opened(self):
         """An OUT that goes as it is opened isn't left empty, nor a link to it."""
         self.write("wrong", b"another passphrase\n")
         self.write("out", b"old text")
-        self.expect(1, b"age_tool: 13 WrongKey\n", "decrypt --pass wrong age out", "an OUT that goes", {"GONE": 1})
+        self.expect(
+            1,
+            b"age_tool: 13 WrongKey\n",
+            "decrypt --pass wrong age out",
+            "an OUT that goes",
+            {"GONE": 1},
+        )
         self.see("an OUT that goes: nothing is left", not self.is_there("out"))
         self.write("out", b"old text")
         self.path("link").symlink_to("out")

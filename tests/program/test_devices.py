@@ -14,7 +14,9 @@ class DevicesTest(FilesCase):
     def device(self, name, held):
         """A block device over a file until the test ends. The test is left out if there is none."""
         self.write(name, held + bytes(-len(held) % 4096))
-        made = process.run(["losetup", "--show", "-f", self.path(name)], capture_output=True, text=True).stdout.strip()
+        made = process.run(
+            ["losetup", "--show", "-f", self.path(name)], capture_output=True, text=True
+        ).stdout.strip()
         if not made:
             self.skipTest("no loop device can be had")
         self.addCleanup(process.run, ["losetup", "-d", made], check=True)
@@ -23,7 +25,9 @@ class DevicesTest(FilesCase):
     @needs("losetup", root=True)
     def test_devices(self):
         """A block device is known by its number."""
-        age, other = self.device("age.img", self.age), self.device("other.img", bytes(len(PLAIN) + 8192))
+        age, other = self.device("age.img", self.age), self.device(
+            "other.img", bytes(len(PLAIN) + 8192)
+        )
         image = self.read("age.img")
         os.symlink(age, self.path("to-device"))
         number = os.stat(age).st_rdev
@@ -32,11 +36,22 @@ class DevicesTest(FilesCase):
             self.expect(2, twice(to, age), ["decrypt", "--pass", "pass", age, to])
             self.expect(2, twice(to, age), ["encrypt", "--pass", "pass", "--log", "4", age, to])
             self.expect(2, twice(to, age), ["decrypt", "--pass", "pass", "--save", to, age, "new"])
-        self.see("the device that is read is kept", pathlib.Path(age).read_bytes() == image and not self.is_there("new"))
+        self.see(
+            "the device that is read is kept",
+            pathlib.Path(age).read_bytes() == image and not self.is_there("new"),
+        )
         said = unsaved(other, NO_FILE)
-        self.expect(1, said, ["decrypt", "--no-clobber", "--pass", "pass", "--save", other, "cut", "new"], "a device isn't replaced")
+        self.expect(
+            1,
+            said,
+            ["decrypt", "--no-clobber", "--pass", "pass", "--save", other, "cut", "new"],
+            "a device isn't replaced",
+        )
         with open(other, "rb") as device:
-            self.see("a device isn't replaced: it", not any(device.read(4096)) and not self.is_there("new"))
+            self.see(
+                "a device isn't replaced: it",
+                not any(device.read(4096)) and not self.is_there("new"),
+            )
         self.expect(0, b"", ["decrypt", "--pass", "pass", "age", other], "OUT is a block device")
         with open(other, "rb") as device:
             self.see("OUT is a block device: its bytes", device.read(len(PLAIN)) == PLAIN)
@@ -55,7 +70,12 @@ class DevicesTest(FilesCase):
         self.tool(*"decrypt --pass pass --save saved cut part".split())
         self.see("a position", self.is_position("saved", 5))
         age = self.device("image", self.read("age"))
-        self.expect(0, b"", ["resume", "--position", "saved", "--old", "part", "--pass", "pass", age, "whole"], "IN is a block device")
+        self.expect(
+            0,
+            b"",
+            ["resume", "--position", "saved", "--old", "part", "--pass", "pass", age, "whole"],
+            "IN is a block device",
+        )
         self.see("IN is a block device: the text", self.read("whole") == text)
 
     @needs("losetup", "cc", root=True)
@@ -63,8 +83,27 @@ class DevicesTest(FilesCase):
         """A block device is synced."""
         other = self.device("other.img", bytes(len(PLAIN) + 8192))
         failing = {"FSYNC": errno.EIO, "ONLY": "b"}
-        self.expect(1, unsynced(other, errno.EIO), ["decrypt", "--pass", "pass", "age", other], "a device that can't be synced", failing)
+        self.expect(
+            1,
+            unsynced(other, errno.EIO),
+            ["decrypt", "--pass", "pass", "age", other],
+            "a device that can't be synced",
+            failing,
+        )
         with open(other, "wb") as device:
             said = unsynced("/dev/stdout", errno.EIO)
-            self.expect(1, said, "decrypt --pass pass age /dev/stdout", "standard output is such a device", failing, stdout=device)
-        self.expect(0, b"", ["decrypt", "--no-sync", "--pass", "pass", "age", other], "without waiting", failing)
+            self.expect(
+                1,
+                said,
+                "decrypt --pass pass age /dev/stdout",
+                "standard output is such a device",
+                failing,
+                stdout=device,
+            )
+        self.expect(
+            0,
+            b"",
+            ["decrypt", "--no-sync", "--pass", "pass", "age", other],
+            "without waiting",
+            failing,
+        )

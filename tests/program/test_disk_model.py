@@ -25,7 +25,13 @@ AFTER_CALL = definitions.read(CRATES / "age_host_model/specs/Disk.antt")["after_
 ANYTHING = "anything"
 NOTHING = ("None",)
 # What a disk has of the paths and files that weren't named.
-OTHERS = {"file": NOTHING, "before": (), "bytes": b"", "is_durable": True, "is_indeterminate": False}
+OTHERS = {
+    "file": NOTHING,
+    "before": (),
+    "bytes": b"",
+    "is_durable": True,
+    "is_indeterminate": False,
+}
 # The calls that change what a file holds, or wait for it, may fail from one of their first turns on.
 TURNS = range(1, 6)
 # Of the calls that are recorded: those that take a file for a run alone, and those that may change what a file holds.
@@ -49,13 +55,19 @@ class Disk:
         self.disk = {
             "file": table({path: ("Some", numbers[path]) for path in files}, OTHERS["file"]),
             "bytes": table(held, OTHERS["bytes"]),
-        } | {field: table({}, OTHERS[field]) for field in ("before", "is_durable", "is_indeterminate")}
+        } | {
+            field: table({}, OTHERS[field])
+            for field in ("before", "is_durable", "is_indeterminate")
+        }
 
     def do(self, call):
         self.paths |= {it for it in call[1:3] if isinstance(it, bytes)}
         self.files |= {call[2] if call[0] == "Made" else call[1]} - self.paths
         disk = AFTER_CALL(call)(self.disk)
-        for keys, fields in ((self.paths, ("file", "before")), (self.files, ("bytes", "is_durable", "is_indeterminate"))):
+        for keys, fields in (
+            (self.paths, ("file", "before")),
+            (self.files, ("bytes", "is_durable", "is_indeterminate")),
+        ):
             for field in fields:
                 disk[field] = table({key: disk[field](key) for key in keys}, OTHERS[field])
         self.disk = disk
@@ -77,11 +89,17 @@ class Disk:
     def leaves(self, path):
         """What a power cut may leave at a path (`MayLeave`): bytes, None if there may be no file, ANYTHING."""
         kept = self.disk["is_durable"]
-        return {None if it == NOTHING else self.held(it[1]) if kept(it[1]) else ANYTHING for it in self.may_lead(path)}
+        return {
+            None if it == NOTHING else self.held(it[1]) if kept(it[1]) else ANYTHING
+            for it in self.may_lead(path)
+        }
 
     def is_answer(self, call, paths):
         """Whether it is what the definitions expect of a disk, for these paths (`IsAnswered`)."""
-        return call[0] != "Made" or (self.disk["file"](call[1]) == NOTHING and all(("Some", call[2]) not in self.may_lead(it) for it in paths))
+        return call[0] != "Made" or (
+            self.disk["file"](call[1]) == NOTHING
+            and all(("Some", call[2]) not in self.may_lead(it) for it in paths)
+        )
 
 
 def calls_of(record, disk):
@@ -108,7 +126,11 @@ def calls_of(record, disk):
             yield "Removed", words[0].encode()
         else:
             folder = pathlib.Path(words[0]).resolve()
-            yield from (("SyncedNames", path) for path in sorted(disk.paths) if pathlib.Path(path.decode()).parent == folder)
+            yield from (
+                ("SyncedNames", path)
+                for path in sorted(disk.paths)
+                if pathlib.Path(path.decode()).parent == folder
+            )
 
 
 def failures():
@@ -137,7 +159,9 @@ class Run:
         self.before, self.disk = files_in(folder), Disk(folder)
         self.numbers = {path: self.disk.disk["file"](path)[1] for path in self.before}
         room.path("record").write_bytes(b"")
-        self.ended = room.run(folder, case.words, shim.loaded(RECORD=room.path("record"), **failing))
+        self.ended = room.run(
+            folder, case.words, shim.loaded(RECORD=room.path("record"), **failing)
+        )
         self.after = files_in(folder)
         self.record = list(cuts.calls(room.path("record")))
 
@@ -151,8 +175,14 @@ class Run:
             paths = {it.encode() for it in words if it.startswith("/")}
             numbers = {int(words[0])} if words[0].isdigit() else set()
             if name == "link":
-                (out if paths == {self.out} else own if paths <= self.saved else set()).update(numbers)
-            if name in ("sync-names", "make") or paths == {self.out} or (numbers <= out and not paths):
+                (out if paths == {self.out} else own if paths <= self.saved else set()).update(
+                    numbers
+                )
+            if (
+                name in ("sync-names", "make")
+                or paths == {self.out}
+                or (numbers <= out and not paths)
+            ):
                 ours.append(call)
             elif not (paths <= self.saved and numbers <= own):
                 strays.append(name)
@@ -216,7 +246,10 @@ class CallsTest(unittest.TestCase):
 
     @classmethod
     def tearDownClass(cls):
-        claim("docs/PROVED.md", f"records {cls.runs:,} runs that wait for the disk, {cls.runs - cls.plain:,} of them with a kind of call")
+        claim(
+            "docs/PROVED.md",
+            f"records {cls.runs:,} runs that wait for the disk, {cls.runs - cls.plain:,} of them with a kind of call",
+        )
         print(f"calls: {cls.calls}")
 
     def see(self, case):
@@ -235,4 +268,8 @@ for it in cuts.cases():
     test = "test_" + re.sub(r"\W+", "_", it.name)
     setattr(CallsTest, test, lambda self, case=it: self.see(case))
     if it.status == 0:
-        setattr(CallsTest, f"{test}_no_sync", lambda self, case=it.without_waiting(): self.see_unwaited(case))
+        setattr(
+            CallsTest,
+            f"{test}_no_sync",
+            lambda self, case=it.without_waiting(): self.see_unwaited(case),
+        )

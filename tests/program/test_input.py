@@ -22,7 +22,12 @@ class InputTest(FilesCase):
             pipe.read(1000)
             os.truncate(self.path("plain"), 10)
             pipe.read()
-        self.ends("an input that was cut off", run, 0, b"age_tool: plain: it shrank while it was being read\n")
+        self.ends(
+            "an input that was cut off",
+            run,
+            0,
+            b"age_tool: plain: it shrank while it was being read\n",
+        )
 
     def test_inspected(self):
         """Of a regular file the system says how long it is, and no more is read than its header. A pipe is read to its end."""
@@ -43,7 +48,12 @@ class InputTest(FilesCase):
         self.see("3 TiB: in a second of a processor", took < 1, took)
         with process.Popen(["cat", self.path("age")], stdout=subprocess.PIPE) as pipe:
             told = self.tool("inspect", "/dev/stdin", stdin=pipe.stdout)
-        self.see("a pipe", told.stdout == self.tool("inspect", "age").stdout and b"\nrest %d\n" % (len(self.age) - header) in told.stdout, told)
+        self.see(
+            "a pipe",
+            told.stdout == self.tool("inspect", "age").stdout
+            and b"\nrest %d\n" % (len(self.age) - header) in told.stdout,
+            told,
+        )
 
     def test_shared(self):
         """No more than 65 bytes of a shared secret are read: a pipe that stays open isn't waited for."""
@@ -70,15 +80,33 @@ class OrderTest(ProgramCase):
     @needs("strace")
     def test_order_of_opening(self):
         """What opens IN comes first, and OUT last, which exists here. No file is opened before it is its turn, or twice."""
-        for name, held in (("random", bytes(48)), ("script", b"end\n"), ("cut.age", self.age[:150_000]), ("out", b"")):
+        for name, held in (
+            ("random", bytes(48)),
+            ("script", b"end\n"),
+            ("cut.age", self.age[:150_000]),
+            ("out", b""),
+        ):
             self.write(name, held)
         self.decrypt("--save", "position", "cut.age", "old")
         for words, names in (
             ("encrypt --pass pass --log 1 --random random plain out", "pass random plain out"),
             ("decrypt --pass pass --save saved plain.age out", "pass plain.age saved.new out"),
-            ("resume --position position --old old --pass pass --save saved plain.age out", "pass position old plain.age saved.new out"),
-            ("drill --pass pass script plain.age", "pass script plain.age"), ("inspect plain.age", "plain.age"),
+            (
+                "resume --position position --old old --pass pass --save saved plain.age out",
+                "pass position old plain.age saved.new out",
+            ),
+            ("drill --pass pass script plain.age", "pass script plain.age"),
+            ("inspect plain.age", "plain.age"),
         ):
-            process.run(["strace", "-o", "log", "-e", "trace=open,openat", self.program, *words.split()], cwd=self.room, capture_output=True, timeout=SECONDS)
-            opened = [it.decode() for it in re.findall(rb'(?m)^open(?:at\(AT_FDCWD, |\()"([^/"]+)"', self.read("log")) if it != b"."]
+            process.run(
+                ["strace", "-o", "log", "-e", "trace=open,openat", self.program, *words.split()],
+                cwd=self.room,
+                capture_output=True,
+                timeout=SECONDS,
+            )
+            opened = [
+                it.decode()
+                for it in re.findall(rb'(?m)^open(?:at\(AT_FDCWD, |\()"([^/"]+)"', self.read("log"))
+                if it != b"."
+            ]
             self.see(words, opened == names.split(), opened)

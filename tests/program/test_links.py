@@ -4,7 +4,20 @@ import os
 import pathlib
 
 from tests.case import needs
-from tests.program.case import BLANKS, LOCKED, MADE, NOBODY, OWN, PLAIN, Feeding, FilesCase, beside, chunk_fault, unsaved, unwritten
+from tests.program.case import (
+    BLANKS,
+    LOCKED,
+    MADE,
+    NOBODY,
+    OWN,
+    PLAIN,
+    Feeding,
+    FilesCase,
+    beside,
+    chunk_fault,
+    unsaved,
+    unwritten,
+)
 
 MOVED = "its folder has changed"
 
@@ -30,8 +43,15 @@ class LinksTest(FilesCase):
         (folder / "out").touch()
         os.chown(folder / "out", NOBODY, NOBODY)
         (folder / "out").chmod(0o666)
-        self.expect(1, unwritten("sticky/out", errno.EACCES), "decrypt --pass pass age sticky/out", "somebody else's file in a sticky folder")
-        self.see("somebody else's file in a sticky folder: empty", (folder / "out").read_bytes() == b"")
+        self.expect(
+            1,
+            unwritten("sticky/out", errno.EACCES),
+            "decrypt --pass pass age sticky/out",
+            "somebody else's file in a sticky folder",
+        )
+        self.see(
+            "somebody else's file in a sticky folder: empty", (folder / "out").read_bytes() == b""
+        )
 
     @needs(root=True)
     def test_sticky(self):
@@ -41,9 +61,22 @@ class LinksTest(FilesCase):
         os.symlink(self.path("target"), folder / "saved")
         os.lchown(folder / "saved", NOBODY, NOBODY)
         said = unsaved("sticky/saved", os.strerror(errno.EACCES) + OWN)
-        self.expect(1, said, "decrypt --pass pass --save sticky/saved cut new", "somebody else's link in a sticky folder")
-        self.expect(1, unwritten("sticky/saved", errno.EACCES), "decrypt --pass pass cut sticky/saved", "somebody else's link as OUT")
-        self.see("somebody else's link: kept", self.read("target") == b"an old position" and not self.is_there("new"))
+        self.expect(
+            1,
+            said,
+            "decrypt --pass pass --save sticky/saved cut new",
+            "somebody else's link in a sticky folder",
+        )
+        self.expect(
+            1,
+            unwritten("sticky/saved", errno.EACCES),
+            "decrypt --pass pass cut sticky/saved",
+            "somebody else's link as OUT",
+        )
+        self.see(
+            "somebody else's link: kept",
+            self.read("target") == b"an old position" and not self.is_there("new"),
+        )
 
     def test_links(self):
         """As many links are followed as the system follows."""
@@ -52,7 +85,9 @@ class LinksTest(FilesCase):
             os.symlink(f"link-{n - 1}", self.path(f"link-{n}"))
         self.expect(0, b"", "decrypt --pass pass age link-40", "40 links")
         self.see("40 links: OUT", self.read("link-0") == PLAIN)
-        self.expect(1, unwritten("link-41", errno.ELOOP), "decrypt --pass pass age link-41", "41 links")
+        self.expect(
+            1, unwritten("link-41", errno.ELOOP), "decrypt --pass pass age link-41", "41 links"
+        )
 
 
 class PositionLinksTest(FilesCase):
@@ -73,18 +108,38 @@ class PositionLinksTest(FilesCase):
                     make(self.path(leads_to), self.path("saved"))
                     now = self.path("saved").lstat()
                     feeding.stops(name, chunk_fault(2) + unsaved("saved", MADE))
-                    self.see(f"{name}: it stays", self.path("saved").lstat().st_ino == now.st_ino and not self.is_there("nothing"))
-                    self.see(f"{name}: kept", self.read("pass") == held and self.read("out") == PLAIN[:131072] and self.read("plain") == PLAIN)
+                    self.see(
+                        f"{name}: it stays",
+                        self.path("saved").lstat().st_ino == now.st_ino
+                        and not self.is_there("nothing"),
+                    )
+                    self.see(
+                        f"{name}: kept",
+                        self.read("pass") == held
+                        and self.read("out") == PLAIN[:131072]
+                        and self.read("plain") == PLAIN,
+                    )
         self.remove("saved")
         os.symlink("target", self.path("saved"))
         feeding = Feeding(self)
-        self.see("saved is a link: the temporary file", self.read("target.new") == BLANKS and not self.is_there("saved.new"))
+        self.see(
+            "saved is a link: the temporary file",
+            self.read("target.new") == BLANKS and not self.is_there("saved.new"),
+        )
         os.symlink("pass", self.path("target"))
         feeding.stops("the target became a link", chunk_fault(2) + unsaved("saved", MADE))
-        self.see("the target became a link: kept", self.path("target").is_symlink() and self.read("pass") == held)
+        self.see(
+            "the target became a link: kept",
+            self.path("target").is_symlink() and self.read("pass") == held,
+        )
         self.remove("target")
-        self.expect(1, chunk_fault(2), "decrypt --pass pass --save saved cut out", "saved is a link")
-        self.see("saved is a link: a position", self.path("saved").is_symlink() and self.is_position("target", 2))
+        self.expect(
+            1, chunk_fault(2), "decrypt --pass pass --save saved cut out", "saved is a link"
+        )
+        self.see(
+            "saved is a link: a position",
+            self.path("saved").is_symlink() and self.is_position("target", 2),
+        )
         self.remove("saved", "target")
         feeding = Feeding(self)
         os.mkdir(self.path("saved"))
@@ -95,8 +150,12 @@ class PositionLinksTest(FilesCase):
                 self.write("saved", old)
             feeding = Feeding(self)
             self.remove("saved")
-            os.mkfifo(self.path("saved")) if first != b"another file" else self.write("saved", first)
-            feeding.stops(f"saved became a pipe or a file, {first}", chunk_fault(2) + unsaved("saved", MADE))
+            os.mkfifo(self.path("saved")) if first != b"another file" else self.write(
+                "saved", first
+            )
+            feeding.stops(
+                f"saved became a pipe or a file, {first}", chunk_fault(2) + unsaved("saved", MADE)
+            )
             self.remove("saved")
         self.write("saved", old)
         feeding = Feeding(self)
@@ -117,8 +176,17 @@ class PositionLinksTest(FilesCase):
         """The same, between two calls of the program."""
         self.write("saved", b"an old position")
         said = unsaved("saved", LOCKED)
-        self.expect(1, said, "decrypt --pass pass --save saved cut new", "saved becomes a pipe as it is opened", {"PIPED": 1})
-        self.see("saved becomes a pipe as it is opened: nothing was begun", not self.is_there("new") and not self.is_there("saved.new"))
+        self.expect(
+            1,
+            said,
+            "decrypt --pass pass --save saved cut new",
+            "saved becomes a pipe as it is opened",
+            {"PIPED": 1},
+        )
+        self.see(
+            "saved becomes a pipe as it is opened: nothing was begun",
+            not self.is_there("new") and not self.is_there("saved.new"),
+        )
         self.remove("saved")
         self.path("folder").mkdir()
         self.path("other").mkdir()
@@ -128,8 +196,18 @@ class PositionLinksTest(FilesCase):
             if held:
                 self.write("folder/place", held)
             name = f"the folder becomes a link at the last moment, {held}, write {turn}"
-            self.expect(1, chunk_fault(2) + unsaved("folder/place", MOVED), "decrypt --pass pass --save folder/place cut out", name, {"SWAP": turn})
-            self.see(f"{name}: kept", self.read("other/place") == b"somebody's file" and os.listdir(self.path("other")) == ["place"])
+            self.expect(
+                1,
+                chunk_fault(2) + unsaved("folder/place", MOVED),
+                "decrypt --pass pass --save folder/place cut out",
+                name,
+                {"SWAP": turn},
+            )
+            self.see(
+                f"{name}: kept",
+                self.read("other/place") == b"somebody's file"
+                and os.listdir(self.path("other")) == ["place"],
+            )
             self.path("folder").unlink()
             os.rename(self.path("moved"), self.path("folder"))
             self.remove("folder/place.new")
@@ -141,5 +219,16 @@ class PositionLinksTest(FilesCase):
         for leads_to in ("pass", "cut"):
             name = f"saved comes to lead to {leads_to}"
             self.write("saved", b"an old position")
-            self.expect(2, beside("saved"), "decrypt --pass pass --save saved cut new", name, {"TURNED": leads_to})
-            self.see(f"{name}: kept", self.read("pass") == held and self.read("cut") == self.age[:150000] and not self.is_there("new"))
+            self.expect(
+                2,
+                beside("saved"),
+                "decrypt --pass pass --save saved cut new",
+                name,
+                {"TURNED": leads_to},
+            )
+            self.see(
+                f"{name}: kept",
+                self.read("pass") == held
+                and self.read("cut") == self.age[:150000]
+                and not self.is_there("new"),
+            )

@@ -29,7 +29,9 @@ class Left(typing.NamedTuple):
             return "the right answer"
         if self == Left(1, self.output, MEMORY, b"", b"") and wanted.output.startswith(self.output):
             return "28 and no output"
-        if wanted.saved != b"" and self == wanted._replace(faults=wanted.faults + MEMORY, saved=b""):
+        if wanted.saved != b"" and self == wanted._replace(
+            faults=wanted.faults + MEMORY, saved=b""
+        ):
             return "28 in place of a position"
         return None
 
@@ -50,12 +52,19 @@ class MemoryTest(Case):
         self.write("age", file)
         self.write("cut", file[:150_000])
         self.tool(*"decrypt --pass pass --save position cut old".split())
-        self.write("script", b"piece 0 65552\npiece 65552 70000\nrestart 1\npiece 65552 134512\nend\n")
+        self.write(
+            "script", b"piece 0 65552\npiece 65552 70000\nrestart 1\npiece 65552 134512\nend\n"
+        )
 
     def left(self, words, **more):
         self.remove("out", "saved")
         run = self.tool(*words, **more)
-        return Left(run.returncode, run.stdout, run.stderr, *(self.read(it) if self.is_there(it) else b"" for it in ("out", "saved")))
+        return Left(
+            run.returncode,
+            run.stdout,
+            run.stderr,
+            *(self.read(it) if self.is_there(it) else b"" for it in ("out", "saved")),
+        )
 
     def refuse(self, words):
         """Refuses each allocation of a run in turn, with `ON` all later ones too."""

@@ -4,11 +4,24 @@ import os
 import signal
 
 from tests.case import needs
-from tests.program.case import PLAIN, WRITE, FilesCase, as_nobody, chunk_fault, reason, refused, unwritten, within_memory
+from tests.program.case import (
+    PLAIN,
+    WRITE,
+    FilesCase,
+    as_nobody,
+    chunk_fault,
+    reason,
+    refused,
+    unwritten,
+    within_memory,
+)
 
 ENCRYPT = "encrypt --pass pass --log 14 plain new"
 DECRYPT = "decrypt --pass pass costly new"
-HEADER = b"age-encryption.org/v1\n-> scrypt AAAAAAAAAAAAAAAAAAAAAA 22\n%s\n--- %s\n" % (b"A" * 43, b"A" * 43)
+HEADER = b"age-encryption.org/v1\n-> scrypt AAAAAAAAAAAAAAAAAAAAAA 22\n%s\n--- %s\n" % (
+    b"A" * 43,
+    b"A" * 43,
+)
 
 
 def hears_sigint():
@@ -53,7 +66,10 @@ class NewOutTest(FilesCase):
                 self.write("new", held)
             pause.close()
             self.ends("a wrong passphrase", run, 1, b"age_tool: 13 WrongKey\n")
-            self.see(f"after it just what came: {held}", (self.read("new") if self.left() else None) == held)
+            self.see(
+                f"after it just what came: {held}",
+                (self.read("new") if self.left() else None) == held,
+            )
             self.remove("new")
         self.write("damaged", self.age[:400] + bytes([self.age[400] ^ 1]) + self.age[401:])
         self.names.append("damaged")
@@ -65,14 +81,23 @@ class NewOutTest(FilesCase):
         """A wrong passphrase makes no call by which a file is made or removed, nor one that locks any, with and without --no-clobber."""
         for words in (DECRYPT, f"{DECRYPT} --no-clobber"):
             self.write("record", b"")
-            self.expect(1, b"age_tool: 13 WrongKey\n", words.replace("pass pass", "pass wrong"), failing={"RECORD": self.path("record")})
+            self.expect(
+                1,
+                b"age_tool: 13 WrongKey\n",
+                words.replace("pass pass", "pass wrong"),
+                failing={"RECORD": self.path("record")},
+            )
             self.see(f"{words}: no call", self.read("record") == b"", self.read("record"))
 
     def test_empty(self):
         """An empty plaintext gives an empty OUT."""
         self.write("empty", b"")
         self.expect(0, b"", "encrypt --pass pass --log 4 empty empty.age")
-        for words in ("decrypt --pass pass", "decrypt --no-clobber --pass pass", "decrypt --no-sync --pass pass"):
+        for words in (
+            "decrypt --pass pass",
+            "decrypt --no-clobber --pass pass",
+            "decrypt --no-sync --pass pass",
+        ):
             self.expect(0, b"", f"{words} empty.age new")
             self.see(f"{words}: an empty OUT", self.is_there("new") and self.read("new") == b"")
             self.remove("new")
@@ -81,19 +106,39 @@ class NewOutTest(FilesCase):
         self.see("an OUT that was there is emptied", self.read("old") == b"")
         os.symlink("new", self.path("link"))
         self.expect(0, b"", "decrypt --pass pass empty.age link")
-        self.see("behind a link to nothing", self.path("link").is_symlink() and self.read("new") == b"")
+        self.see(
+            "behind a link to nothing", self.path("link").is_symlink() and self.read("new") == b""
+        )
 
     def test_no_place(self):
         """Where no file can be made, as far as that can be seen, is said before the key is derived, which would take too much memory."""
         self.write("header", HEADER)
-        self.expect(1, b"age_tool: 28 Memory\n", "decrypt --pass pass header new", "a place for a file", preexec_fn=within_memory)
-        for name, error in (("none/new", errno.ENOENT), ("new/", errno.EISDIR), ("plain/new", errno.ENOTDIR)):
-            for words in (f"decrypt --pass pass header {name}", f"decrypt --no-clobber --pass pass header {name}"):
+        self.expect(
+            1,
+            b"age_tool: 28 Memory\n",
+            "decrypt --pass pass header new",
+            "a place for a file",
+            preexec_fn=within_memory,
+        )
+        for name, error in (
+            ("none/new", errno.ENOENT),
+            ("new/", errno.EISDIR),
+            ("plain/new", errno.ENOTDIR),
+        ):
+            for words in (
+                f"decrypt --pass pass header {name}",
+                f"decrypt --no-clobber --pass pass header {name}",
+            ):
                 said = self.tool(*words.split(), preexec_fn=within_memory)
                 wanted = [WRITE + reason(f"{what} {name}", error) for what in ("create", "write")]
                 self.see(words, said.returncode == 1 and said.stderr in wanted, said.stderr)
         self.write("old", b"old text")
-        self.expect(1, refused("old"), "decrypt --no-clobber --pass pass header old", preexec_fn=within_memory)
+        self.expect(
+            1,
+            refused("old"),
+            "decrypt --no-clobber --pass pass header old",
+            preexec_fn=within_memory,
+        )
         self.see("old text", self.read("old") == b"old text")
 
     def test_no_permission(self):
@@ -101,7 +146,10 @@ class NewOutTest(FilesCase):
         self.path("folder").mkdir()
         self.path("folder").chmod(0o555)
         said = WRITE + reason("create folder/new", errno.EACCES)
-        for words in ("encrypt --pass pass --log 4 plain folder/new", "decrypt --pass pass age folder/new"):
+        for words in (
+            "encrypt --pass pass --log 4 plain folder/new",
+            "decrypt --pass pass age folder/new",
+        ):
             self.expect(1, said, words, **as_nobody())
         self.path("folder").chmod(0o755)
 
@@ -109,9 +157,16 @@ class NewOutTest(FilesCase):
     def test_taken_meanwhile(self):
         """What comes to OUT's name while the key is derived is kept, and the run fails. (`encrypt` opens OUT after that.)"""
         for words in (f"{ENCRYPT} --no-clobber", DECRYPT, f"{DECRYPT} --no-clobber"):
-            for held, more in ((b"another's", ""), (b"", "; it is empty: a run that was killed may have left it")):
+            for held, more in (
+                (b"another's", ""),
+                (b"", "; it is empty: a run that was killed may have left it"),
+            ):
                 # (without --no-clobber another run has made it, and may still be at it)
-                said = refused("new", more) if "clobber" in words else unwritten("new", os.strerror(errno.EEXIST))
+                said = (
+                    refused("new", more)
+                    if "clobber" in words
+                    else unwritten("new", os.strerror(errno.EEXIST))
+                )
                 run, pause = self.deriving(words)
                 self.write("new", held)
                 pause.close()
@@ -121,7 +176,12 @@ class NewOutTest(FilesCase):
             run, pause = self.deriving(words)
             os.symlink("elsewhere", self.path("new"))
             pause.close()
-            self.ends(f"{words}: a link came", run, 1, refused("new") if "clobber" in words else unwritten("new", errno.EEXIST))
+            self.ends(
+                f"{words}: a link came",
+                run,
+                1,
+                refused("new") if "clobber" in words else unwritten("new", errno.EEXIST),
+            )
             self.see(f"{words}: a link isn't followed", not self.is_there("elsewhere"))
             self.remove("new")
 
@@ -151,7 +211,11 @@ class NewOutTest(FilesCase):
         for save, out in (("new", "./new"), ("link", "new"), ("new", "link")):
             os.symlink("new", self.path("link"))
             ended = self.tool("decrypt", "--pass", "pass", "--save", save, "cut", out)
-            self.see(f"--save {save}, {out}", ended.returncode == 2 and b"same file named twice" in ended.stderr, ended.stderr)
+            self.see(
+                f"--save {save}, {out}",
+                ended.returncode == 2 and b"same file named twice" in ended.stderr,
+                ended.stderr,
+            )
             self.remove("link")
             self.see(f"--save {save}, {out}: nothing is left", not self.left(), self.left())
 
@@ -172,4 +236,7 @@ class StoppedEncryptionTest(FilesCase):
         self.expect(1, b"age_tool: 28 Memory\n", f"{costly} new", preexec_fn=within_memory)
         self.expect(1, b"age_tool: 28 Memory\n", f"{costly} old", preexec_fn=within_memory)
         self.expect(1, refused("old"), f"{costly} old --no-clobber", preexec_fn=within_memory)
-        self.see("none is made, and none is changed", not self.is_there("new") and self.read("old") == b"old text")
+        self.see(
+            "none is made, and none is changed",
+            not self.is_there("new") and self.read("old") == b"old text",
+        )

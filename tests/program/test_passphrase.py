@@ -11,8 +11,12 @@ NO_TEXT = "bytes that are no UTF-8"
 def heap(process):
     """What a process may write in its memory, but for its stack."""
     held = []
-    with open(f"/proc/{process}/maps", encoding="utf-8") as maps, open(f"/proc/{process}/mem", "rb", buffering=0) as memory:
-        for first, end, may, name in re.findall(r"(?m)^(\w+)-(\w+) (\S+) \S+ \S+ \S+ *(.*)$", maps.read()):
+    with open(f"/proc/{process}/maps", encoding="utf-8") as maps, open(
+        f"/proc/{process}/mem", "rb", buffering=0
+    ) as memory:
+        for first, end, may, name in re.findall(
+            r"(?m)^(\w+)-(\w+) (\S+) \S+ \S+ \S+ *(.*)$", maps.read()
+        ):
             if may.startswith("rw") and not name.startswith("[stack"):
                 memory.seek(int(first, 16))
                 held.append(memory.read(int(end, 16) - int(first, 16)))
@@ -22,28 +26,66 @@ def heap(process):
 class PassphraseTest(ProgramCase):
     def test_passphrases_that_can_not_be_typed(self):
         for held, what in (
-            (b"correct horse\r\n", "a carriage return"), (b"\xef\xbb\xbfcorrect horse\n", "a byte order mark"), (b"correct horse\n\n", "a second newline"),
-            (b"correct\nhorse\n", "a second line"), (b"correct\0horse", "a zero byte"), (b"correct\thorse\n", "a control character"), (b"correct\x7fhorse\n", "a control character"),
-            (b"correct horse\n", None), (b"correct horse", None), ("gr\u00f6\u00dfer\n".encode(), None), (b"\xef\xbb\xbe", None),
-            (b"a\xe9b\n", NO_TEXT), (b"\xef\xbb", NO_TEXT), (b"\xef\xbba\n", NO_TEXT), (b"horse\xf0\x9f\x90", NO_TEXT), ("horse \U0001f40e".encode(), None),
-            (4_095 * b"x", None), (4_095 * b"x" + b"\n", None), (4_096 * b"x", "more than 4,095 bytes"), (2_048 * "\u00e4".encode(), "more than 4,095 bytes"),
+            (b"correct horse\r\n", "a carriage return"),
+            (b"\xef\xbb\xbfcorrect horse\n", "a byte order mark"),
+            (b"correct horse\n\n", "a second newline"),
+            (b"correct\nhorse\n", "a second line"),
+            (b"correct\0horse", "a zero byte"),
+            (b"correct\thorse\n", "a control character"),
+            (b"correct\x7fhorse\n", "a control character"),
+            (b"correct horse\n", None),
+            (b"correct horse", None),
+            ("gr\u00f6\u00dfer\n".encode(), None),
+            (b"\xef\xbb\xbe", None),
+            (b"a\xe9b\n", NO_TEXT),
+            (b"\xef\xbb", NO_TEXT),
+            (b"\xef\xbba\n", NO_TEXT),
+            (b"horse\xf0\x9f\x90", NO_TEXT),
+            ("horse \U0001f40e".encode(), None),
+            (4_095 * b"x", None),
+            (4_095 * b"x" + b"\n", None),
+            (4_096 * b"x", "more than 4,095 bytes"),
+            (2_048 * "\u00e4".encode(), "more than 4,095 bytes"),
         ):
             self.write("words", held)
-            said = f"age_tool: the passphrase in words has {what}, which can't be typed when age asks for it\n".encode() if what else b""
+            said = (
+                f"age_tool: the passphrase in words has {what}, which can't be typed when age asks for it\n".encode()
+                if what
+                else b""
+            )
             for option in (("--pass", "words"), ("--pass=words",)):
                 ended = self.tool("encrypt", *option, "--log", "1", "plain", "words.age")
-                self.see(held, (ended.returncode, ended.stderr, ended.advice) == (0, b"", said), ended.stderr, ended.advice)
+                self.see(
+                    held,
+                    (ended.returncode, ended.stderr, ended.advice) == (0, b"", said),
+                    ended.stderr,
+                    ended.advice,
+                )
             ended = self.tool(*"encrypt --pass words --log 1 words words.age".split())
-            self.see(f"{held} encrypts itself", (ended.returncode, ended.advice) == (0, said), ended.advice)
+            self.see(
+                f"{held} encrypts itself",
+                (ended.returncode, ended.advice) == (0, said),
+                ended.advice,
+            )
             ended = self.tool(*"decrypt --pass words words.age back".split())
             self.see(f"{held} decrypts", (ended.returncode, ended.advice) == (0, b""), ended.advice)
 
     def test_passphrases_that_are_no_text(self):
         """What Python decodes as UTF-8 is text, and nothing else: each byte beyond ASCII, and bytes at the limits of what may follow."""
-        pieces = [bytes([it]) for it in (0x80, 0xbf, 0xc3, 0xff)]
-        pieces += [bytes([first, second]) for first in (0xc1, 0xc2, 0xdf) for second in (0x7e, 0x80, 0xbf, 0xc0)]
-        pieces += [bytes([first, second, 0x80]) for first in (0xe0, 0xed, 0xef) for second in (0x9f, 0xa0)]
-        pieces += [bytes([first, second, 0xbf, 0x80]) for first in (0xf0, 0xf1, 0xf4, 0xf5) for second in (0x8f, 0x90)]
+        pieces = [bytes([it]) for it in (0x80, 0xBF, 0xC3, 0xFF)]
+        pieces += [
+            bytes([first, second])
+            for first in (0xC1, 0xC2, 0xDF)
+            for second in (0x7E, 0x80, 0xBF, 0xC0)
+        ]
+        pieces += [
+            bytes([first, second, 0x80]) for first in (0xE0, 0xED, 0xEF) for second in (0x9F, 0xA0)
+        ]
+        pieces += [
+            bytes([first, second, 0xBF, 0x80])
+            for first in (0xF0, 0xF1, 0xF4, 0xF5)
+            for second in (0x8F, 0x90)
+        ]
         for piece in pieces:
             try:
                 (b"a" + piece + b"b").decode()
@@ -63,7 +105,13 @@ class PassphraseTest(ProgramCase):
         said = b"age_tool: 26 Read\nage_tool: can't open none: No such file or directory\n"
         self.ends("no hint if another file is missing", self.decrypt("none", "back"), 1, b"", said)
         said = b"age_tool: bad file key\nage_tool: --file-key takes 32 hexadecimal digits\n"
-        self.ends("a bad file key", self.tool(*"decrypt --file-key 00 plain.age back".split()), 2, b"", said)
+        self.ends(
+            "a bad file key",
+            self.tool(*"decrypt --file-key 00 plain.age back".split()),
+            2,
+            b"",
+            said,
+        )
 
     def test_passphrase_at_a_terminal(self):
         """That it is waited for is said, and nothing else."""
@@ -71,20 +119,50 @@ class PassphraseTest(ProgramCase):
         self.encrypt("2 short short.age")
         said = b"age_tool: reading the passphrase from the terminal, which shows it; Ctrl-D ends it\r\n"
         for name in ("/dev/tty", "/dev/stdin"):
-            child, tty = terminal.start(["env", "-C", str(self.room), str(self.program), "decrypt", "--pass", name, "short.age", "back"])
+            child, tty = terminal.start(
+                [
+                    "env",
+                    "-C",
+                    str(self.room),
+                    str(self.program),
+                    "decrypt",
+                    "--pass",
+                    name,
+                    "short.age",
+                    "back",
+                ]
+            )
             came = terminal.output(tty, said, 20)
             os.write(tty, b"correct horse\n\x04")
             terminal.output(tty)
             os.close(tty)
             status = os.waitstatus_to_exitcode(os.waitpid(child, 0)[1])
-            self.see(f"a passphrase from {name}", (status, came) == (0, said) and self.read("back") == b"a short text\n", status, came)
+            self.see(
+                f"a passphrase from {name}",
+                (status, came) == (0, said) and self.read("back") == b"a short text\n",
+                status,
+                came,
+            )
             self.remove("back")
-        child, tty = terminal.start(["env", "-C", str(self.room), str(self.program), *"encrypt --pass pass --log 1 /dev/tty typed.age".split()])
+        child, tty = terminal.start(
+            [
+                "env",
+                "-C",
+                str(self.room),
+                str(self.program),
+                *"encrypt --pass pass --log 1 /dev/tty typed.age".split(),
+            ]
+        )
         os.write(tty, b"a text\n\x04")
         came = terminal.output(tty)
         os.close(tty)
         status = os.waitstatus_to_exitcode(os.waitpid(child, 0)[1])
-        self.see("another file from a terminal", (status, b"passphrase" in came) == (0, False), status, came)
+        self.see(
+            "another file from a terminal",
+            (status, b"passphrase" in came) == (0, False),
+            status,
+            came,
+        )
         with open(self.path("pass"), "rb") as held:
             ended = self.tool(*"decrypt --pass /dev/stdin short.age back".split(), stdin=held)
         self.ends("a passphrase from a file", ended, 0)
@@ -105,7 +183,11 @@ class SecretTest(FilesCase):
             self.write("cut", self.age[:150000])
             self.tool(*"decrypt --pass pass --save position cut old".split())
             resume = "resume --position position --old old --pass pass in out"
-            for words in ("encrypt --pass pass --log 4 in out", "decrypt --pass pass in out", resume):
+            for words in (
+                "encrypt --pass pass --log 4 in out",
+                "decrypt --pass pass in out",
+                resume,
+            ):
                 feeding = Feeding(self, words)
                 held = heap(feeding.run.pid)
                 found = [at for at, piece in enumerate(pieces) if piece in held]

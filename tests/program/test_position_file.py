@@ -6,18 +6,39 @@ import signal
 import stat
 
 from tests.case import needs
-from tests.program.case import BLANKS, IN_THE_WAY, LOCKED, NOBODY, NO_FILE, OWN, Feeding, FilesCase, as_nobody, beside, chunk_fault, unsaved, unwritten
+from tests.program.case import (
+    BLANKS,
+    IN_THE_WAY,
+    LOCKED,
+    NOBODY,
+    NO_FILE,
+    OWN,
+    Feeding,
+    FilesCase,
+    as_nobody,
+    beside,
+    chunk_fault,
+    unsaved,
+    unwritten,
+)
 
 
 class PositionFileTest(FilesCase):
     def test_temporary_file(self):
         """There is one while a run goes on, which is its owner's, and none after it, however it ends."""
         feeding = Feeding(self)
-        self.see("while a run goes on", self.read("saved.new") == BLANKS and self.mode("saved.new") == 0o600)
+        self.see(
+            "while a run goes on",
+            self.read("saved.new") == BLANKS and self.mode("saved.new") == 0o600,
+        )
         feeding.input.write(self.age[140000:])
         feeding.input.close()
         self.ends("a run that ends well", feeding.run, 0, b"")
-        self.see("a run that ends well: what is left", self.names() == {"pass", "plain", "age", "cut", "in", "out"}, self.names())
+        self.see(
+            "a run that ends well: what is left",
+            self.names() == {"pass", "plain", "age", "cut", "in", "out"},
+            self.names(),
+        )
         feeding = Feeding(self)
         self.remove("saved.new")
         feeding.stops("it was removed meanwhile", chunk_fault(2))
@@ -27,7 +48,10 @@ class PositionFileTest(FilesCase):
         self.remove("saved.new")
         self.write("saved.new", b"somebody's file")
         feeding.stops("another took its place", chunk_fault(2) + unsaved("saved", IN_THE_WAY))
-        self.see("another took its place: it stays", self.read("saved.new") == b"somebody's file" and not self.is_there("saved"))
+        self.see(
+            "another took its place: it stays",
+            self.read("saved.new") == b"somebody's file" and not self.is_there("saved"),
+        )
 
     def names(self):
         return set(os.listdir(self.room))
@@ -37,27 +61,59 @@ class PositionFileTest(FilesCase):
         self.write("wrong", b"another passphrase\n")
         self.write("first", self.age[:400] + bytes([self.age[400] ^ 1]) + self.age[401:])
         self.expect(1, chunk_fault(2), "decrypt --pass pass --save position cut old", "a stop")
-        self.expect(1, chunk_fault(0), "decrypt --pass pass --save start first nothing", "a stop at once")
+        self.expect(
+            1, chunk_fault(0), "decrypt --pass pass --save start first nothing", "a stop at once"
+        )
         self.path("folder").mkdir()
         before = self.names()
         resume = "resume --pass pass --position position --old old --save saved"
         for status, faults, words, more in (
             (0, b"", "decrypt --pass pass --save saved age out", {"out"}),
             (0, b"", f"{resume} age out", {"out"}),
-            (0, b"", "resume --pass pass --position position --old old --save position age out", {"out"}),
+            (
+                0,
+                b"",
+                "resume --pass pass --position position --old old --save position age out",
+                {"out"},
+            ),
             (1, chunk_fault(2), "decrypt --pass pass --save saved cut out", {"out", "saved"}),
             (1, chunk_fault(2), f"{resume} cut out", {"out", "saved"}),
-            (1, chunk_fault(2), "resume --pass pass --position position --old old --save position cut out", {"out"}),
+            (
+                1,
+                chunk_fault(2),
+                "resume --pass pass --position position --old old --save position cut out",
+                {"out"},
+            ),
             (1, chunk_fault(0), "decrypt --pass pass --save saved first out", {"saved"}),
             (1, chunk_fault(0), "decrypt --pass pass --save position first out", set()),
             (1, b"age_tool: 13 WrongKey\n", "decrypt --pass wrong --save saved age out", set()),
             (1, b"age_tool: 13 WrongKey\n", "decrypt --pass wrong --save position age out", set()),
-            (1, unwritten("folder", errno.EISDIR), "decrypt --pass pass --save saved age folder", set()),
+            (
+                1,
+                unwritten("folder", errno.EISDIR),
+                "decrypt --pass pass --save saved age folder",
+                set(),
+            ),
             (1, unsaved("folder", NO_FILE), "decrypt --pass pass --save folder age out", set()),
             (2, beside("saved"), "decrypt --pass pass --save saved age saved.new", set()),
-            (2, beside("saved"), "decrypt --no-clobber --pass pass --save saved age saved.new", set()),
-            (2, beside("saved"), "decrypt --pass pass --save saved age ./folder/../saved.new", set()),
-            (2, beside("saved"), "resume --pass pass --position start --old saved.new --save saved age out", set()),
+            (
+                2,
+                beside("saved"),
+                "decrypt --no-clobber --pass pass --save saved age saved.new",
+                set(),
+            ),
+            (
+                2,
+                beside("saved"),
+                "decrypt --pass pass --save saved age ./folder/../saved.new",
+                set(),
+            ),
+            (
+                2,
+                beside("saved"),
+                "resume --pass pass --position start --old saved.new --save saved age out",
+                set(),
+            ),
         ):
             self.expect(status, faults, words)
             self.see(f"{words}: what is left", self.names() == before | more, self.names() ^ before)
@@ -71,47 +127,97 @@ class PositionFileTest(FilesCase):
             ("the passphrase", "pass", "decrypt --pass saved.new --save saved age out"),
             ("IN", "age", "decrypt --pass pass --save saved saved.new out"),
             ("OUT", "plain", "decrypt --pass pass --save saved age saved.new"),
-            ("the position", "position", "resume --pass pass --position saved.new --old old --save saved cut out"),
-            ("the old output", "old", "resume --pass pass --position position --old saved.new --save saved cut out"),
-            ("the passphrase of a resumed run", "pass", "resume --pass saved.new --position position --old old --save saved cut out"),
+            (
+                "the position",
+                "position",
+                "resume --pass pass --position saved.new --old old --save saved cut out",
+            ),
+            (
+                "the old output",
+                "old",
+                "resume --pass pass --position position --old saved.new --save saved cut out",
+            ),
+            (
+                "the passphrase of a resumed run",
+                "pass",
+                "resume --pass saved.new --position position --old old --save saved cut out",
+            ),
             ("IN of a resumed run", "cut", f"{resume} --save saved saved.new out"),
             ("OUT of a resumed run", "plain", f"{resume} --save saved cut saved.new"),
         ):
-            for how, make in (("it", lambda of, to: self.write("saved.new", self.read(of))), ("a second name", os.link), ("a link", os.symlink)):
+            for how, make in (
+                ("it", lambda of, to: self.write("saved.new", self.read(of))),
+                ("a second name", os.link),
+                ("a link", os.symlink),
+            ):
                 self.remove("saved.new")
                 make(self.path(of), self.path("saved.new"))
                 held, now = self.read(of), self.path("saved.new").lstat()
                 self.expect(2, beside("saved"), words, f"{name}, {how}")
-                self.see(f"{name}, {how}: it stays", self.read("saved.new") == held and self.is_unchanged(now), held)
-                self.see(f"{name}, {how}: nothing was begun", not self.is_there("saved") and not self.is_there("out"))
+                self.see(
+                    f"{name}, {how}: it stays",
+                    self.read("saved.new") == held and self.is_unchanged(now),
+                    held,
+                )
+                self.see(
+                    f"{name}, {how}: nothing was begun",
+                    not self.is_there("saved") and not self.is_there("out"),
+                )
             # What a killed run would leave is still that of the command.
             self.remove("saved.new")
             self.write("saved.new", BLANKS)
             now = self.path("saved.new").lstat()
             ended = self.tool(*words.split())
             # (of what is read it may be said first that it is no position, or no age file)
-            self.see(f"{name}, blanks: refused", ended.returncode == 2 or (name[:3] != "OUT" and ended.returncode == 1), ended)
-            self.see(f"{name}, blanks: it stays", self.read("saved.new") == BLANKS and self.is_unchanged(now))
+            self.see(
+                f"{name}, blanks: refused",
+                ended.returncode == 2 or (name[:3] != "OUT" and ended.returncode == 1),
+                ended,
+            )
+            self.see(
+                f"{name}, blanks: it stays",
+                self.read("saved.new") == BLANKS and self.is_unchanged(now),
+            )
         with open(self.path("saved.new"), "wb") as errors:
-            self.expect(2, b"", "decrypt --pass pass --save saved age out", "standard error", stderr=errors)
+            self.expect(
+                2, b"", "decrypt --pass pass --save saved age out", "standard error", stderr=errors
+            )
         self.see("standard error: the message", self.read("saved.new") == beside("saved"))
 
     def is_unchanged(self, was):
         now = self.path("saved.new").lstat()
-        return all(getattr(was, it) == getattr(now, it) for it in ("st_ino", "st_mode", "st_nlink", "st_size", "st_mtime_ns", "st_ctime_ns"))
+        return all(
+            getattr(was, it) == getattr(now, it)
+            for it in ("st_ino", "st_mode", "st_nlink", "st_size", "st_mtime_ns", "st_ctime_ns")
+        )
 
     def stays(self, name, said=IN_THE_WAY, **more):
         """Counts whether a run is refused before it begins, and what is where its temporary file would be stays as it is."""
         path = self.path("saved.new")
         was, held = path.lstat(), path.read_bytes() if path.is_file() else None
-        self.expect(1, unsaved("saved", said), "decrypt --pass pass --save saved cut new", name, **more)
-        self.see(f"{name}: it stays", self.is_unchanged(was) and (held is None or path.read_bytes() == held))
-        self.see(f"{name}: nothing was begun", not self.is_there("saved") and not self.is_there("new"))
+        self.expect(
+            1, unsaved("saved", said), "decrypt --pass pass --save saved cut new", name, **more
+        )
+        self.see(
+            f"{name}: it stays",
+            self.is_unchanged(was) and (held is None or path.read_bytes() == held),
+        )
+        self.see(
+            f"{name}: nothing was begun", not self.is_there("saved") and not self.is_there("new")
+        )
 
     def test_in_the_way(self):
         """What isn't known to be a file that a killed run left stays."""
         path = self.path("saved.new")
-        for held in (b"", BLANKS[1:], BLANKS + b" ", BLANKS[1:] + b"\n", b"\0" * 256, b"age-position/v2 1 0 " + b"1" * 236, b"a note\n"):
+        for held in (
+            b"",
+            BLANKS[1:],
+            BLANKS + b" ",
+            BLANKS[1:] + b"\n",
+            b"\0" * 256,
+            b"age-position/v2 1 0 " + b"1" * 236,
+            b"a note\n",
+        ):
             self.write("saved.new", held)
             self.stays(f"a file of {held[-3:]}")
         self.write("other", BLANKS)
@@ -130,8 +236,16 @@ class PositionFileTest(FilesCase):
         with open(path, "rb") as locked:
             fcntl.flock(locked, fcntl.LOCK_EX)
             self.stays("one that somebody has locked", LOCKED)
-        self.expect(1, chunk_fault(2), "decrypt --pass pass --save saved cut out", "one that nobody has locked")
-        self.see("one that nobody has locked: it is a position", self.is_position("saved", 2) and not self.is_there("saved.new"))
+        self.expect(
+            1,
+            chunk_fault(2),
+            "decrypt --pass pass --save saved cut out",
+            "one that nobody has locked",
+        )
+        self.see(
+            "one that nobody has locked: it is a position",
+            self.is_position("saved", 2) and not self.is_there("saved.new"),
+        )
 
     @needs("cc")
     def test_in_the_way_without_locks(self):
@@ -156,19 +270,41 @@ class PositionFileTest(FilesCase):
         for turn in range(3):
             feeding = Feeding(self)
             found = self.path("saved.new").stat().st_ino
-            self.see(f"{turn} runs were killed: the temporary file", self.read("saved.new") == BLANKS and inode in (None, found))
+            self.see(
+                f"{turn} runs were killed: the temporary file",
+                self.read("saved.new") == BLANKS and inode in (None, found),
+            )
             inode = found
-            self.expect(1, unsaved("saved", LOCKED), "decrypt --pass pass --save saved cut new", "a run meanwhile")
-            self.see("a run meanwhile: nothing was begun", not self.is_there("new") and self.path("saved.new").stat().st_ino == inode)
+            self.expect(
+                1,
+                unsaved("saved", LOCKED),
+                "decrypt --pass pass --save saved cut new",
+                "a run meanwhile",
+            )
+            self.see(
+                "a run meanwhile: nothing was begun",
+                not self.is_there("new") and self.path("saved.new").stat().st_ino == inode,
+            )
             feeding.run.kill()
             feeding.input.close()
             self.ends("a run that is killed", feeding.run, -signal.SIGKILL, b"")
         self.write("wrong", b"another passphrase\n")
-        self.expect(1, b"age_tool: 13 WrongKey\n", "decrypt --pass wrong --save saved age new", "a run that ends before OUT")
-        self.see("a run that ends before OUT: nothing is left", not self.is_there("saved.new") and not self.is_there("saved"))
+        self.expect(
+            1,
+            b"age_tool: 13 WrongKey\n",
+            "decrypt --pass wrong --save saved age new",
+            "a run that ends before OUT",
+        )
+        self.see(
+            "a run that ends before OUT: nothing is left",
+            not self.is_there("saved.new") and not self.is_there("saved"),
+        )
         feeding = Feeding(self)
         feeding.stops("a run that stops", chunk_fault(2))
-        self.see("a run that stops: its position", self.is_position("saved", 2) and not self.is_there("saved.new"))
+        self.see(
+            "a run that stops: its position",
+            self.is_position("saved", 2) and not self.is_there("saved.new"),
+        )
 
     @needs(root=True)
     def test_read_only(self):
@@ -176,7 +312,9 @@ class PositionFileTest(FilesCase):
         self.path("still").mkdir()
         self.mount("-t", "tmpfs", "-o", "ro", "none", self.path("still"))
         said = unsaved("still/saved", os.strerror(errno.EROFS) + OWN)
-        self.expect(1, said, "decrypt --pass pass --save still/saved cut new", "a read-only file system")
+        self.expect(
+            1, said, "decrypt --pass pass --save still/saved cut new", "a read-only file system"
+        )
         self.see("a read-only file system: nothing was begun", not self.is_there("new"))
 
     def test_closed_folders(self):
@@ -190,17 +328,28 @@ class PositionFileTest(FilesCase):
         self.expect(1, said, words, "a folder without permission", **as_nobody())
         folder.chmod(0o755)
         (folder / "saved").write_bytes(b"an old position")
-        for name, mode, of_folder in (("an old position in a folder without permission", 0o666, 0o555), ("one that isn't writable", 0o444, 0o777)):
+        for name, mode, of_folder in (
+            ("an old position in a folder without permission", 0o666, 0o555),
+            ("one that isn't writable", 0o444, 0o777),
+        ):
             (folder / "saved").chmod(mode)
             folder.chmod(of_folder)
             self.expect(1, said, words, name, **as_nobody())
-            self.see(f"{name}: it stays", (folder / "saved").read_bytes() == b"an old position" and os.listdir(folder) == ["saved"])
+            self.see(
+                f"{name}: it stays",
+                (folder / "saved").read_bytes() == b"an old position"
+                and os.listdir(folder) == ["saved"],
+            )
         for length in (252, 255, 256):
             long = "s" * length
             said = unsaved(long, os.strerror(errno.ENAMETOOLONG) + OWN)
-            self.expect(1, said, f"decrypt --pass pass --save {long} cut new", f"a name of {length} bytes")
+            self.expect(
+                1, said, f"decrypt --pass pass --save {long} cut new", f"a name of {length} bytes"
+            )
         self.see("nothing was begun", not self.is_there("new"))
-        self.expect(1, chunk_fault(2), f"decrypt --pass pass --save {'s' * 251} cut new", "the longest name")
+        self.expect(
+            1, chunk_fault(2), f"decrypt --pass pass --save {'s' * 251} cut new", "the longest name"
+        )
         self.see("the longest name: a position", self.is_position("s" * 251, 2))
 
     def test_no_regular_files(self):
@@ -208,9 +357,24 @@ class PositionFileTest(FilesCase):
         os.mkfifo(self.path("pipe"))
         self.path("folder").mkdir()
         os.symlink("/dev/null", self.path("nowhere"))
-        for name in ("pipe", "folder", ".", "/dev/null", "/dev/full", "nowhere", "/dev/stdout", "/dev/stderr", "/dev/stdin", "/dev/fd/1"):
-            self.expect(1, unsaved(name, NO_FILE), f"decrypt --pass pass --save {name} cut new", name)
-        self.see("nothing was begun", not self.is_there("new") and not list(self.room.glob("*.new")))
+        for name in (
+            "pipe",
+            "folder",
+            ".",
+            "/dev/null",
+            "/dev/full",
+            "nowhere",
+            "/dev/stdout",
+            "/dev/stderr",
+            "/dev/stdin",
+            "/dev/fd/1",
+        ):
+            self.expect(
+                1, unsaved(name, NO_FILE), f"decrypt --pass pass --save {name} cut new", name
+            )
+        self.see(
+            "nothing was begun", not self.is_there("new") and not list(self.room.glob("*.new"))
+        )
 
     @needs(root=True)
     def test_mounted(self):
@@ -221,13 +385,29 @@ class PositionFileTest(FilesCase):
         self.write("other/over", b"an old position")
         self.mount("--bind", self.path("other/over"), self.path("saved"))
         said = unsaved("saved", f"it is a mount point{OWN}")
-        self.expect(1, said, "decrypt --pass pass --save saved cut new", "a mount point of another file system")
-        self.see("a mount point of another file system: nothing was begun", not self.is_there("new") and not self.is_there("saved.new"))
+        self.expect(
+            1,
+            said,
+            "decrypt --pass pass --save saved cut new",
+            "a mount point of another file system",
+        )
+        self.see(
+            "a mount point of another file system: nothing was begun",
+            not self.is_there("new") and not self.is_there("saved.new"),
+        )
         self.write("over", b"an old position")
         self.write("there", b"under it")
         self.mount("--bind", self.path("over"), self.path("there"))
-        self.expect(1, chunk_fault(2) + unsaved("there", errno.EBUSY), "decrypt --pass pass --save there cut out", "a mount point")
-        self.see("a mount point: it stays", self.read("over") == b"an old position" and not self.is_there("there.new"))
+        self.expect(
+            1,
+            chunk_fault(2) + unsaved("there", errno.EBUSY),
+            "decrypt --pass pass --save there cut out",
+            "a mount point",
+        )
+        self.see(
+            "a mount point: it stays",
+            self.read("over") == b"an old position" and not self.is_there("there.new"),
+        )
 
     @needs(root=True)
     def test_sticky_folder(self):
@@ -239,8 +419,20 @@ class PositionFileTest(FilesCase):
         (folder / "saved").write_bytes(b"an old position")
         (folder / "saved").chmod(0o666)
         words = "decrypt --pass pass --save sticky/saved cut new"
-        self.expect(1, unsaved("sticky/saved", f"only its owner may replace it{OWN}"), words, "another user's", **as_nobody())
-        self.see("another user's: nothing was begun", not self.is_there("new") and os.listdir(folder) == ["saved"])
+        self.expect(
+            1,
+            unsaved("sticky/saved", f"only its owner may replace it{OWN}"),
+            words,
+            "another user's",
+            **as_nobody(),
+        )
+        self.see(
+            "another user's: nothing was begun",
+            not self.is_there("new") and os.listdir(folder) == ["saved"],
+        )
         os.chown(folder / "saved", NOBODY, NOBODY)
         self.expect(1, chunk_fault(2), words, "one's own", **as_nobody())
-        self.see("one's own: a position", self.is_position("sticky/saved", 2) and os.listdir(folder) == ["saved"])
+        self.see(
+            "one's own: a position",
+            self.is_position("sticky/saved", 2) and os.listdir(folder) == ["saved"],
+        )

@@ -75,7 +75,12 @@ class Write(typing.NamedTuple):
     def blocks(self):
         """Its part in each block of the file."""
         ends = range(self.at - self.at % BLOCK + BLOCK, self.at + len(self.held) + BLOCK, BLOCK)
-        return [Write(max(end - BLOCK, self.at), self.held[max(end - BLOCK - self.at, 0) : end - self.at]) for end in ends]
+        return [
+            Write(
+                max(end - BLOCK, self.at), self.held[max(end - BLOCK - self.at, 0) : end - self.at]
+            )
+            for end in ends
+        ]
 
 
 class Cut(typing.NamedTuple):
@@ -152,7 +157,11 @@ class File:
         """What may be on the disk, each with the length that this gives and with the length that the file now has."""
         if self.parts is None:
             length = Cut(len(self.now()))
-            held = [changed(self.held, choice + more) for choice in self.choices() for more in ([], [length])]
+            held = [
+                changed(self.held, choice + more)
+                for choice in self.choices()
+                for more in ([], [length])
+            ]
             parts = map(Part.of, held)
             self.parts = list({part.digest: part for part in parts}.values())
         return self.parts
@@ -192,7 +201,9 @@ class Disk:
         self.folders = {top: Folder()} | {it: Folder() for it in top.rglob("*") if it.is_dir()}
         for path in top.rglob("*"):
             if path.is_file():
-                self.files[path.stat().st_ino] = self.folders[path.parent].names[path.name] = File(path.read_bytes())
+                self.files[path.stat().st_ino] = self.folders[path.parent].names[path.name] = File(
+                    path.read_bytes()
+                )
 
     def place(self, path):
         path = pathlib.Path(path)
@@ -201,7 +212,9 @@ class Disk:
     def do(self, name, words, held):
         if name == "write":
             return self.files[int(words[0])].do(Write(int(words[1]), held))
-        getattr(self, name.replace("-", "_"))(*(int(word) if word.isdigit() else word for word in words))
+        getattr(self, name.replace("-", "_"))(
+            *(int(word) if word.isdigit() else word for word in words)
+        )
 
     def make(self, inode):
         self.files[inode] = File()
@@ -240,10 +253,17 @@ class Disk:
     def named(self, stages):
         """The files that have these names, by their paths in the folder of the run."""
         pairs = zip(self.folders, stages)
-        return {str((path / name).relative_to(self.top)): file for path, names in pairs for name, file in names.items()}
+        return {
+            str((path / name).relative_to(self.top)): file
+            for path, names in pairs
+            for name, file in names.items()
+        }
 
     def now(self):
-        return {name: file.now() for name, file in self.named([it.now() for it in self.folders.values()]).items()}
+        return {
+            name: file.now()
+            for name, file in self.named([it.now() for it in self.folders.values()]).items()
+        }
 
     def states(self):
         """Each state in which the disk may be now: parts of files by their paths."""
@@ -264,7 +284,9 @@ def calls(record):
 
 
 def held_in(top):
-    return {str(path.relative_to(top)): path.read_bytes() for path in top.rglob("*") if path.is_file()}
+    return {
+        str(path.relative_to(top)): path.read_bytes() for path in top.rglob("*") if path.is_file()
+    }
 
 
 # ---- what is run
@@ -307,7 +329,9 @@ class Case(typing.NamedTuple):
 
     def can_be_repeated(self):
         """It doesn't replace what it reads."""
-        return self.waits() and (self.saved() is None or self.saved() != self.word_after("--position"))
+        return self.waits() and (
+            self.saved() is None or self.saved() != self.word_after("--position")
+        )
 
     def without_waiting(self):
         return self._replace(name=f"{self.name}, --no-sync", words=f"{self.words} --no-sync")
@@ -339,33 +363,70 @@ def cases():
     for over, out in (("", {}), (", over OUT", {"out": "other"})):
         yield Case(f"decrypt{over}", "decrypt --pass ../pass ../age out", out)
         yield Case(f"decrypt{over}, wrong passphrase", "decrypt --pass ../wrong ../age out", out, 1)
-        yield Case(f"resume{over}", "resume --position position --old old --pass ../pass ../age out", out | stopped)
+        yield Case(
+            f"resume{over}",
+            "resume --position position --old old --pass ../pass ../age out",
+            out | stopped,
+        )
         words = "resume --position position --old old --pass ../wrong ../age out"
         yield Case(f"resume{over}, wrong passphrase", words, out | stopped, 1)
         for save in ("saved", "there/saved"):
             yield from saving_cases(f"--save {save}{over}", save, out, stopped)
-            yield from saving_cases(f"--save {save} over one{over}", save, out | {save: "position", "old": "old"}, stopped)
+            yield from saving_cases(
+                f"--save {save} over one{over}",
+                save,
+                out | {save: "position", "old": "old"},
+                stopped,
+            )
             words = f"resume --position {save} --old old --save {save} --pass ../pass ../cut-2 out"
-            yield Case(f"resume --save {save} over its own{over}, stopped", words, out | {save: "position", "old": "old"}, 1)
+            yield Case(
+                f"resume --save {save} over its own{over}, stopped",
+                words,
+                out | {save: "position", "old": "old"},
+                1,
+            )
     for save in ("saved", "there/saved"):
         words = f"decrypt --save {save} --pass ../pass ../cut-2 out"
-        yield Case(f"decrypt --save {save} over one, over its OUT, stopped", words, {"out": "old", save: "position"}, 1)
+        yield Case(
+            f"decrypt --save {save} over one, over its OUT, stopped",
+            words,
+            {"out": "old", save: "position"},
+            1,
+        )
     words = "decrypt --save saved --pass ../pass ../cut-2 out"
-    yield Case("decrypt --save saved after a killed run, stopped", words, {"saved.new": "blanks"}, 1)
-    yield Case("decrypt --save saved over one after a killed run, stopped", words, {"saved": "position", "old": "old", "saved.new": "blanks"}, 1)
+    yield Case(
+        "decrypt --save saved after a killed run, stopped", words, {"saved.new": "blanks"}, 1
+    )
+    yield Case(
+        "decrypt --save saved over one after a killed run, stopped",
+        words,
+        {"saved": "position", "old": "old", "saved.new": "blanks"},
+        1,
+    )
 
 
 def saving_cases(name, save, before, stopped):
     """The runs with --save, if these files are there before."""
     decrypt = f"decrypt --save {save}"
     yield Case(f"decrypt {name}", f"{decrypt} --pass ../pass ../age out", before)
-    yield Case(f"decrypt {name}, wrong passphrase", f"{decrypt} --pass ../wrong ../age out", before, 1)
-    yield Case(f"decrypt {name}, stopped at once", f"{decrypt} --pass ../pass ../cut-0 out", before, 1)
+    yield Case(
+        f"decrypt {name}, wrong passphrase", f"{decrypt} --pass ../wrong ../age out", before, 1
+    )
+    yield Case(
+        f"decrypt {name}, stopped at once", f"{decrypt} --pass ../pass ../cut-0 out", before, 1
+    )
     yield Case(f"decrypt {name}, stopped", f"{decrypt} --pass ../pass ../cut-2 out", before, 1)
     resume = f"resume --position position --old old --save {save}"
     yield Case(f"resume {name}", f"{resume} --pass ../pass ../age out", before | stopped)
-    yield Case(f"resume {name}, wrong passphrase", f"{resume} --pass ../wrong ../age out", before | stopped, 1)
-    yield Case(f"resume {name}, stopped", f"{resume} --pass ../pass ../cut-2 out", before | stopped, 1)
+    yield Case(
+        f"resume {name}, wrong passphrase",
+        f"{resume} --pass ../wrong ../age out",
+        before | stopped,
+        1,
+    )
+    yield Case(
+        f"resume {name}, stopped", f"{resume} --pass ../pass ../cut-2 out", before | stopped, 1
+    )
 
 
 class Room:
@@ -374,7 +435,13 @@ class Room:
     def __init__(self, folder):
         self.folder = folder
         self.texts = {}
-        for name, held in {"pass": b"correct horse", "wrong": b"battery staple", "plain": PLAIN, "other": OTHER, "blanks": BLANKS}.items():
+        for name, held in {
+            "pass": b"correct horse",
+            "wrong": b"battery staple",
+            "plain": PLAIN,
+            "other": OTHER,
+            "blanks": BLANKS,
+        }.items():
             self.path(name).write_bytes(held)
         self.run(folder, "encrypt --pass pass --log 1 plain age")
         self.run(folder, "encrypt --pass pass --log 1 other other.age")
@@ -401,7 +468,14 @@ class Room:
 
     def run(self, folder, words, env=None):
         words = [built.program(), *words.split()]
-        return process.run(words, cwd=folder, env=env, stdin=subprocess.DEVNULL, capture_output=True, timeout=SECONDS)
+        return process.run(
+            words,
+            cwd=folder,
+            env=env,
+            stdin=subprocess.DEVNULL,
+            capture_output=True,
+            timeout=SECONDS,
+        )
 
     def recorded(self, folder, words):
         """How a run ends, and its calls."""
@@ -417,14 +491,18 @@ class Room:
         if key not in self.texts:
             folder = self.laid_out({name: part.held for name, part in files.items()})
             ended = self.run(folder, f"{words} text --no-sync")
-            self.texts[key] = self.read("run/text") if ended.returncode == 0 else None if is_fault(ended) else b""
+            self.texts[key] = (
+                self.read("run/text") if ended.returncode == 0 else None if is_fault(ended) else b""
+            )
         return self.texts[key]
 
     def decrypted(self, out):
         return self.text("decrypt --pass ../pass out", out=out)
 
     def resumed(self, position, old):
-        return self.text("resume --position position --old old --pass ../pass ../age", position=position, old=old)
+        return self.text(
+            "resume --position position --old old --pass ../pass ../age", position=position, old=old
+        )
 
 
 def is_fault(ended):
@@ -460,9 +538,17 @@ class Trial:
 
     def flaws(self):
         """What is wrong with the run itself."""
-        if self.ended.returncode != self.case.status or (self.case.status == 1 and not is_fault(self.ended)):
+        if self.ended.returncode != self.case.status or (
+            self.case.status == 1 and not is_fault(self.ended)
+        ):
             return [f"it ends in {self.ended.returncode}: {self.ended.stderr!r}"]
-        return [] if self.is_recorded else ["what it leaves isn't what its calls give: some aren't recorded, or are about other files"]
+        return (
+            []
+            if self.is_recorded
+            else [
+                "what it leaves isn't what its calls give: some aren't recorded, or are about other files"
+            ]
+        )
 
     def wrong(self):
         """What is wrong with the run, or with its states."""
@@ -510,13 +596,21 @@ class Trial:
             yield LOST_OUT
         if is_over and case.saved() and held.get(case.saved()) != self.after[case.saved()]:
             yield LOST_POSITION
-        if case.is_for("encrypt") and held.get("out") != self.before.get("out") and self.room.decrypted(state["out"]) not in (PLAIN, None):
+        if (
+            case.is_for("encrypt")
+            and held.get("out") != self.before.get("out")
+            and self.room.decrypted(state["out"]) not in (PLAIN, None)
+        ):
             yield WRONG_FILE
         for name in held:
             if name.endswith(("saved", "position")):
                 yield from self.position_faults(state, name)
         made = held.get(case.temporary())
-        if made is not None and made == self.after.get(case.saved()) and self.room.resumed(state[case.temporary()], state.get("out")) != PLAIN:
+        if (
+            made is not None
+            and made == self.after.get(case.saved())
+            and self.room.resumed(state[case.temporary()], state.get("out")) != PLAIN
+        ):
             yield REFUSED
         if case.can_be_repeated() and not self.is_repeated(held):
             yield UNREPEATED
@@ -544,7 +638,11 @@ class Trial:
         folder = self.room.laid_out(held)
         if held.get(self.case.temporary(), BLANKS) != BLANKS:
             ended = self.room.run(folder, f"{self.case.words} --no-sync")
-            if ended.returncode != 1 or b"remove or rename it" not in ended.stderr or held_in(folder) != held:
+            if (
+                ended.returncode != 1
+                or b"remove or rename it" not in ended.stderr
+                or held_in(folder) != held
+            ):
                 return False
             (folder / self.case.temporary()).unlink()
         ended = self.room.run(folder, f"{self.case.words} --no-sync")
@@ -573,7 +671,10 @@ class PowerCutTest(unittest.TestCase):
 
     @classmethod
     def tearDownClass(cls):
-        claim("docs/PROVED.md", f"calls by which {cls.runs} runs of `encrypt`, `decrypt` and `resume` change files")
+        claim(
+            "docs/PROVED.md",
+            f"calls by which {cls.runs} runs of `encrypt`, `decrypt` and `resume` change files",
+        )
         claim("docs/PROVED.md", f"It tries {cls.states:,} of the states")
         print(f"power cuts: {cls.states_without_waiting} states of runs with --no-sync")
 

@@ -50,7 +50,9 @@ import unittest
 
 from tests.case import Case, feed
 
-TERM = re.compile(r'(?:(\d+) \* )?(?:"((?:[^"\\]|\\.)*)"|0x([0-9a-f]+)|([\w./-]+)(?:\[(\d*):(\d*)\])?)')
+TERM = re.compile(
+    r'(?:(\d+) \* )?(?:"((?:[^"\\]|\\.)*)"|0x([0-9a-f]+)|([\w./-]+)(?:\[(\d*):(\d*)\])?)'
+)
 # These take a word and BYTES, the others words alone.
 WITH_BYTES = ("write", "pieces", "holds", "begins")
 
@@ -105,7 +107,9 @@ class Transcripts:
 
         for inner, line in block:
             # (a value stays one word of a `do`)
-            yield f"{where}, {inner}", shlex.join(map(put, shlex.split(line))) if line.startswith("do ") else put(line)
+            yield f"{where}, {inner}", shlex.join(map(put, shlex.split(line))) if line.startswith(
+                "do "
+            ) else put(line)
 
 
 def lines_of(text):
@@ -180,7 +184,11 @@ class RunsTest(Case):
         given, self.given = self.given, {}
         limit = int(given.get("limit", ["-1"])[0])
         opened, thread = {}, None
-        for stream, how in (("stdin", os.O_RDONLY), ("stdout", os.O_WRONLY | os.O_CREAT), ("stderr", os.O_WRONLY | os.O_CREAT)):
+        for stream, how in (
+            ("stdin", os.O_RDONLY),
+            ("stdout", os.O_WRONLY | os.O_CREAT),
+            ("stderr", os.O_WRONLY | os.O_CREAT),
+        ):
             if stream in given:
                 opened[stream] = os.open(self.path(given[stream][0]), how, 0o600)
         if "pieces" in given:
@@ -270,8 +278,14 @@ class LinesTest(unittest.TestCase):
 
     def test_transcripts(self):
         """A case may not stand twice, and each line belongs to a run or compares something by itself."""
-        self.assertEqual(len(self.transcript("case one\n    $ inspect\n    ? 1\ncase two\n    absent it\n")), 2)
-        for text in ("case one\n    $ inspect\ncase one\n    $ inspect\n", "case one\n    ? 1\n", "case one\n    absent it\n    | text\n"):
+        self.assertEqual(
+            len(self.transcript("case one\n    $ inspect\n    ? 1\ncase two\n    absent it\n")), 2
+        )
+        for text in (
+            "case one\n    $ inspect\ncase one\n    $ inspect\n",
+            "case one\n    ? 1\n",
+            "case one\n    absent it\n    | text\n",
+        ):
             with self.subTest(text), self.assertRaises(ValueError):
                 self.transcript(text)
 
@@ -290,4 +304,8 @@ if tuple(it.stem for it in PATHS) != FILES:
     raise ValueError(f"other files than {FILES}: {PATHS}")
 TRANSCRIPTS = Transcripts(PATHS)
 for (path, name), block in TRANSCRIPTS.cases.items():
-    setattr(RunsTest, f"test_{path.stem}_{name}", lambda case, block=block: case.go_through(joined(TRANSCRIPTS.steps(block))))
+    setattr(
+        RunsTest,
+        f"test_{path.stem}_{name}",
+        lambda case, block=block: case.go_through(joined(TRANSCRIPTS.steps(block))),
+    )

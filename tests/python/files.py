@@ -33,14 +33,20 @@ class Pieces(io.RawIOBase):
         return True
 
     def readinto(self, room):
-        return self.held.readinto(memoryview(room)[:self.size])
+        return self.held.readinto(memoryview(room)[: self.size])
 
 
 class Halting(io.RawIOBase):
     """A file that can be sought in. After `left` more reads it stops as often as `stops` says: a read finds nothing yet, or fails."""
 
     def __init__(self, data, size=30_000, stops=0):
-        self.held, self.size, self.left, self.stops, self.stop = io.BytesIO(data), size, 0, stops, None
+        self.held, self.size, self.left, self.stops, self.stop = (
+            io.BytesIO(data),
+            size,
+            0,
+            stops,
+            None,
+        )
 
     def readable(self):
         return True
@@ -61,7 +67,7 @@ class Halting(io.RawIOBase):
             if self.stop is not None:
                 raise self.stop
             return None
-        return self.held.readinto(memoryview(room)[:self.size])
+        return self.held.readinto(memoryview(room)[: self.size])
 
 
 def loop(read):
@@ -92,13 +98,20 @@ def by_csv(file):
 
 # The ways to read a file to its end: each gives what it read.
 WAYS = {
-    "read": lambda file: file.read(), "read in pieces": lambda file: b"".join(loop(lambda: file.read(20_000))),
-    "a large read": lambda file: file.read(1 << 30), "read1": lambda file: b"".join(loop(lambda: file.read1(9_000))),
-    "readline": lambda file: b"".join(loop(file.readline)), "lines": lambda file: b"".join(file), "readlines": lambda file: b"".join(file.readlines()),
-    "readinto": lambda file: readinto_loop(file.readinto, bytearray(9_000)), "readinto1": lambda file: readinto_loop(file.readinto1, bytearray(9_000)),
-    "peek": lambda file: b"".join(loop(lambda: file.read(len(file.peek(5_000))))), "copyfileobj": copied,
+    "read": lambda file: file.read(),
+    "read in pieces": lambda file: b"".join(loop(lambda: file.read(20_000))),
+    "a large read": lambda file: file.read(1 << 30),
+    "read1": lambda file: b"".join(loop(lambda: file.read1(9_000))),
+    "readline": lambda file: b"".join(loop(file.readline)),
+    "lines": lambda file: b"".join(file),
+    "readlines": lambda file: b"".join(file.readlines()),
+    "readinto": lambda file: readinto_loop(file.readinto, bytearray(9_000)),
+    "readinto1": lambda file: readinto_loop(file.readinto1, bytearray(9_000)),
+    "peek": lambda file: b"".join(loop(lambda: file.read(len(file.peek(5_000))))),
+    "copyfileobj": copied,
     "text": lambda file: io.TextIOWrapper(file, newline="").read().encode(),
-    "lines of text": lambda file: "".join(io.TextIOWrapper(file, newline="")).encode(), "csv": by_csv,
+    "lines of text": lambda file: "".join(io.TextIOWrapper(file, newline="")).encode(),
+    "csv": by_csv,
 }
 
 
@@ -120,7 +133,9 @@ def interrupted_at(turn, folder, call, handler=interrupt):
         nonlocal left, depth
         here = frame.f_code.co_filename.startswith(folder)
         depth += here * {"call": 1, "return": -1}.get(event, 0)
-        if here and (event in ("call", "c_return", "c_exception") or event == "return" and depth > 0):
+        if here and (
+            event in ("call", "c_return", "c_exception") or event == "return" and depth > 0
+        ):
             left -= 1
             if left == -1:
                 sys.setprofile(None)
@@ -166,10 +181,17 @@ class ModuleCase(BindingsCase):
 
     def command(self, *words, given=None, env=os.environ, **more):
         more = {"env": {**env, "PYTHONPATH": str(PYTHON)}, **(more or {"input": given})}
-        return process.run([sys.executable, "-B", "-m", "agefile", *words], cwd=self.room, capture_output=True, **more)
+        return process.run(
+            [sys.executable, "-B", "-m", "agefile", *words],
+            cwd=self.room,
+            capture_output=True,
+            **more,
+        )
 
     def saved(self, data, **keys):
         """What is salvaged of a file, and what it says of it."""
         out = io.BytesIO()
-        found = agefile.salvage(data if hasattr(data, "read") else io.BytesIO(data), out, **(keys or {"file_key": KEY}))
+        found = agefile.salvage(
+            data if hasattr(data, "read") else io.BytesIO(data), out, **(keys or {"file_key": KEY})
+        )
         return out.getvalue(), found.lost, found.ends, found.followed

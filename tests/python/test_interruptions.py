@@ -2,7 +2,16 @@
 import io
 import sys
 
-from tests.bindings import KEY, PYTHON, BindingsCase, agefile, by_python, plain_of, raised, setUpModule
+from tests.bindings import (
+    KEY,
+    PYTHON,
+    BindingsCase,
+    agefile,
+    by_python,
+    plain_of,
+    raised,
+    setUpModule,
+)
 from tests.python.files import WAYS, Interruption, interrupt, interrupted_at
 
 
@@ -17,8 +26,16 @@ class InterruptionsTest(BindingsCase):
     def test_interrupted_writers(self):
         """An exception at each place where Python lets a signal's handler run, in each call of a writer, and then another call: the file is
         whole or refused by every reader, as that call says, and what it was opened on is closed."""
-        text, path, package = plain_of(100_000), self.path("interrupted.age"), str(PYTHON / "agefile")
-        calls = {"write": lambda file: file.write(text[70_000:]), "close": lambda file: file.close(), "abandon": lambda file: file.abandon()}
+        text, path, package = (
+            plain_of(100_000),
+            self.path("interrupted.age"),
+            str(PYTHON / "agefile"),
+        )
+        calls = {
+            "write": lambda file: file.write(text[70_000:]),
+            "close": lambda file: file.close(),
+            "abandon": lambda file: file.abandon(),
+        }
         for what, call in calls.items():
             for after in ("abandon", "close"):
                 turn, wrong = 0, []
@@ -29,17 +46,36 @@ class InterruptionsTest(BindingsCase):
                         file.abandon()
                         break
                     under, was_open = file._file, not file.closed
-                    says_whole = not raised((OSError, ValueError), getattr(file, after)) and after == "close" and was_open
-                    is_whole = by_python(path.read_bytes(), passphrase="pw") in [((0, None), it) for it in (text[:70_000], text)]
-                    if says_whole and not is_whole or what != "close" and is_whole != says_whole or not under.closed:
+                    says_whole = (
+                        not raised((OSError, ValueError), getattr(file, after))
+                        and after == "close"
+                        and was_open
+                    )
+                    is_whole = by_python(path.read_bytes(), passphrase="pw") in [
+                        ((0, None), it) for it in (text[:70_000], text)
+                    ]
+                    if (
+                        says_whole
+                        and not is_whole
+                        or what != "close"
+                        and is_whole != says_whole
+                        or not under.closed
+                    ):
                         wrong.append((turn, says_whole, is_whole, under.closed))
                     turn += 1
-                self.see(f"{after} after {what}: {turn} interruptions", wrong == [] and turn > 3, wrong[:5])
+                self.see(
+                    f"{after} after {what}: {turn} interruptions",
+                    wrong == [] and turn > 3,
+                    wrong[:5],
+                )
 
     def test_interrupted_text(self):
         """In text mode an exception in a call doesn't lose what earlier ones wrote, or the file can't be finished."""
         kept, package = "a" * 5_000, str(PYTHON / "agefile")
-        for what, call in {"write": lambda file: file.write("b" * 5_000), "flush": lambda file: file.flush()}.items():
+        for what, call in {
+            "write": lambda file: file.write("b" * 5_000),
+            "flush": lambda file: file.flush(),
+        }.items():
             turn, wrong = 0, []
             while turn < 400:
                 out = io.BytesIO()
@@ -47,50 +83,87 @@ class InterruptionsTest(BindingsCase):
                 file.write(kept)
                 if not interrupted_at(turn, package, lambda: call(file)):
                     break
-                says_whole = not raised((OSError, ValueError), lambda: (file.write("c"), file.close()))
+                says_whole = not raised(
+                    (OSError, ValueError), lambda: (file.write("c"), file.close())
+                )
                 file.buffer.abandon()
                 fault, got = by_python(out.getvalue(), passphrase="pw")
-                if (fault == (0, None)) != says_whole or says_whole and not got.startswith(kept.encode()):
+                if (
+                    (fault == (0, None)) != says_whole
+                    or says_whole
+                    and not got.startswith(kept.encode())
+                ):
                     wrong.append((turn, says_whole, fault, got[:3]))
                 turn += 1
             file.close()
             self.see(f"{what}: {turn} interruptions", wrong == [] and turn > 3, wrong[:5])
         file = agefile.open(out := io.BytesIO(), "wt", passphrase="pw", work=1, encoding="ascii")
         file.write(kept)
-        self.see("what can't be written", raised(UnicodeError, file.write, "\u2013") and raised(TypeError, file.write, b"c"))
+        self.see(
+            "what can't be written",
+            raised(UnicodeError, file.write, "\u2013") and raised(TypeError, file.write, b"c"),
+        )
         file.close()
-        self.see("a file after that", by_python(out.getvalue(), passphrase="pw") == ((0, None), kept.encode()))
+        self.see(
+            "a file after that",
+            by_python(out.getvalue(), passphrase="pw") == ((0, None), kept.encode()),
+        )
 
     def test_interrupted_anywhere(self):
         """An exception at each place where Python lets a signal's handler run, in each call that moves a file: a read without a seek is right or
-        refused, and after a seek to a known place it is right. (Only one that comes before the first line of readinto() can't be known.)"""
+        refused, and after a seek to a known place it is right. (Only one that comes before the first line of readinto() can't be known.)
+        """
         text = plain_of(200_000)
         data = self.sealed(text)
         package = str(PYTHON / "agefile")
         calls = {
-            "read": lambda file: file.read(100_000), "a short read": lambda file: file.read(10), "read to the end": lambda file: file.read(),
-            "read1": lambda file: (file.seek(131_072), file.read1()), "readinto": lambda file: file.readinto(bytearray(70_000)),
-            "readline": lambda file: file.readline(), "peek": lambda file: (file.seek(131_072), file.peek()), "seek on": lambda file: file.seek(150_000),
-            "seek back": lambda file: file.seek(10), "seek to the end": lambda file: file.seek(0, 2), "size": lambda file: file.size,
+            "read": lambda file: file.read(100_000),
+            "a short read": lambda file: file.read(10),
+            "read to the end": lambda file: file.read(),
+            "read1": lambda file: (file.seek(131_072), file.read1()),
+            "readinto": lambda file: file.readinto(bytearray(70_000)),
+            "readline": lambda file: file.readline(),
+            "peek": lambda file: (file.seek(131_072), file.peek()),
+            "seek on": lambda file: file.seek(150_000),
+            "seek back": lambda file: file.seek(10),
+            "seek to the end": lambda file: file.seek(0, 2),
+            "size": lambda file: file.size,
         }
         for what, call in calls.items():
             turn, wrong = 0, []
             while turn < 400:
                 file = agefile.open(io.BytesIO(data), file_key=KEY)
                 file.read(70_005)
-                if not interrupted_at(turn, package, lambda: call(file), lambda: interrupt_within("readinto", "readall")):
+                if not interrupted_at(
+                    turn,
+                    package,
+                    lambda: call(file),
+                    lambda: interrupt_within("readinto", "readall"),
+                ):
                     break
                 at = file.tell()
                 try:
                     got = file.read(3)
-                    wrong += [(turn, "text", got)] if got not in (text[70_005:70_008], text[at:at + 3]) else []
+                    wrong += (
+                        [(turn, "text", got)]
+                        if got not in (text[70_005:70_008], text[at : at + 3])
+                        else []
+                    )
                 except OSError:
                     pass
                 for place in (66_000, 100, 131_000):
-                    if file.seek(place) != place or file.read(70_000) != text[place:place + 70_000] or file.tell() != min(place + 70_000, 200_000):
+                    if (
+                        file.seek(place) != place
+                        or file.read(70_000) != text[place : place + 70_000]
+                        or file.tell() != min(place + 70_000, 200_000)
+                    ):
                         wrong.append((turn, "after a seek", place))
                 turn += 1
-            self.see(f"{what}: {turn} interruptions", wrong == [] and (turn > 1 or what in ("a short read", "readline")), wrong[:5])
+            self.see(
+                f"{what}: {turn} interruptions",
+                wrong == [] and (turn > 1 or what in ("a short read", "readline")),
+                wrong[:5],
+            )
 
     def test_interrupted_reads(self):
         """After an exception of a signal's handler in a read, of a pipe too, each read is refused."""
@@ -111,7 +184,20 @@ class InterruptionsTest(BindingsCase):
                 file = agefile.open(under, file_key=KEY)
                 under.handler = interrupt
                 is_raised, under.handler = raised(Interruption, read, file), None
-                refused = [raised(OSError, call) for call in (lambda: file.read(1), file.readline, file.read1, file.peek, file.read) if not file.closed]
+                refused = [
+                    raised(OSError, call)
+                    for call in (
+                        lambda: file.read(1),
+                        file.readline,
+                        file.read1,
+                        file.peek,
+                        file.read,
+                    )
+                    if not file.closed
+                ]
                 self.see(f"{what}, can seek {can_seek}", is_raised and all(refused), refused)
                 if can_seek and not file.closed:
-                    self.see(f"{what} after a seek", file.seek(70_000) == 70_000 and file.read() == plain_of(200_000)[70_000:])
+                    self.see(
+                        f"{what} after a seek",
+                        file.seek(70_000) == 70_000 and file.read() == plain_of(200_000)[70_000:],
+                    )

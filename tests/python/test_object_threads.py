@@ -18,18 +18,25 @@ def two_writers(turn):
             file.write(bytes([number]) * 50_000)
             file.flush()
 
-    faults = together([lambda number=number: writes(number) for number in range(count)]) + together([file.close] * count)
+    faults = together([lambda number=number: writes(number) for number in range(count)]) + together(
+        [file.close] * count
+    )
     fault, text = by_python(out.getvalue(), passphrase="pw")
-    pieces = [text[at:at + 50_000] for at in range(0, len(text), 50_000)]
+    pieces = [text[at : at + 50_000] for at in range(0, len(text), 50_000)]
     mixed = sum(len(set(it)) != 1 for it in pieces)
     wrong = [it for it in range(count) if text.count(it) != 1_000_000]
-    return "" if (faults, fault, mixed, wrong) == ([], (0, None), 0, []) else f"{faults} {fault}, {mixed} mixed pieces, {wrong}"
+    return (
+        ""
+        if (faults, fault, mixed, wrong) == ([], (0, None), 0, [])
+        else f"{faults} {fault}, {mixed} mixed pieces, {wrong}"
+    )
 
 
 def readers(data, source):
     """The numbers, of 24 bytes each, that four threads read from one file. (Some lie in two chunks.)"""
     found = []
     with agefile.open(source(data), file_key=KEY) as file:
+
         def reads():
             while piece := file.read(24):
                 found.append(int.from_bytes(piece, "big"))
@@ -58,6 +65,7 @@ class ObjectThreadsTest(BindingsCase):
 
     def test_reentered(self):
         """A write from inside another one on the same file, as a signal's handler may make it, is refused, and the other one goes on."""
+
         class Under(io.BytesIO):
             inside = None
 
@@ -74,10 +82,15 @@ class ObjectThreadsTest(BindingsCase):
         under.inside = None
         file.close()
         self.see("a call from inside a write", found == [True] * 4, found)
-        self.see("what was written around such calls", by_python(under.getvalue(), passphrase="pw") == ((0, None), b"y" * 4 * 65_537))
+        self.see(
+            "what was written around such calls",
+            by_python(under.getvalue(), passphrase="pw") == ((0, None), b"y" * 4 * 65_537),
+        )
         under, refused, text = io.BytesIO(), [], 0
         file = agefile.open(under, "wb", passphrase="pw", work=1)
-        kept = signal.signal(signal.SIGALRM, lambda *_: refused.append(raised(OSError, file.write, b"x")))
+        kept = signal.signal(
+            signal.SIGALRM, lambda *_: refused.append(raised(OSError, file.write, b"x"))
+        )
         signal.setitimer(signal.ITIMER_REAL, 0.001, 0.001)
         while len(refused) < 30:
             text += file.write(b"z" * 10_000)
@@ -86,4 +99,9 @@ class ObjectThreadsTest(BindingsCase):
         file.close()
         fault, got = by_python(under.getvalue(), passphrase="pw")
         want = (text, refused.count(False))
-        self.see("a handler of signals that writes", (fault, (got.count(b"z"), got.count(b"x"))) == ((0, None), want), fault, len(got))
+        self.see(
+            "a handler of signals that writes",
+            (fault, (got.count(b"z"), got.count(b"x"))) == ((0, None), want),
+            fault,
+            len(got),
+        )

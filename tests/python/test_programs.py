@@ -101,28 +101,40 @@ class ProgramsTest(ModuleCase):
 
     @needs_cryptography
     def test_keys(self):
-        encrypt_for(re.search(r"age1\w+", (AGE / "key.txt").read_text())[0], io.BytesIO(self.text), self.name)
+        encrypt_for(
+            re.search(r"age1\w+", (AGE / "key.txt").read_text())[0],
+            io.BytesIO(self.text),
+            self.name,
+        )
         decrypt_by(AGE / "key.txt", self.name, out := io.BytesIO())
         self.see("for a recipient, by its key", out.getvalue() == self.text)
         self.see("what it is for", kinds_of_keys(self.name) == {"X25519"})
 
     def test_parts(self):
         self.encrypted(self.text)
-        self.see("a file that is whole, for a passphrase", is_whole(self.name) and kinds_of_keys(self.name) == {"scrypt"})
+        self.see(
+            "a file that is whole, for a passphrase",
+            is_whole(self.name) and kinds_of_keys(self.name) == {"scrypt"},
+        )
         self.write("out", self.text[:70_000])
         resume(self.name, self.path("out"))
         self.see("an output that goes on where it stopped", self.read("out") == self.text)
         self.name.write_bytes(flipped(self.name.read_bytes(), -100_000))
         self.see("a damaged one", not is_whole(self.name))
-        self.see("what is saved of it", salvage(self.name, self.path("saved")) == [(65_536, 131_072)])
-        self.see("at its place", self.read("saved") == self.text[:65_536] + bytes(65_536) + self.text[131_072:])
+        self.see(
+            "what is saved of it", salvage(self.name, self.path("saved")) == [(65_536, 131_072)]
+        )
+        self.see(
+            "at its place",
+            self.read("saved") == self.text[:65_536] + bytes(65_536) + self.text[131_072:],
+        )
 
     def test_an_upload(self):
         self.encrypted(self.text)
 
         async def pieces():
             for at in range(0, len(data), 30_000):
-                yield data[at:at + 30_000]
+                yield data[at : at + 30_000]
 
         for data, is_cut in ((self.name.read_bytes(), False), (self.name.read_bytes()[:-1], True)):
             out, fault = io.BytesIO(), None
@@ -130,4 +142,9 @@ class ProgramsTest(ModuleCase):
                 asyncio.run(decrypt_upload(pieces(), out))
             except agefile.NotWhole as it:
                 fault = it
-            self.see(f"an upload that is cut: {is_cut}", (fault is not None) == is_cut and out.getvalue() == self.text[:196_608 if is_cut else None], fault)
+            self.see(
+                f"an upload that is cut: {is_cut}",
+                (fault is not None) == is_cut
+                and out.getvalue() == self.text[: 196_608 if is_cut else None],
+                fault,
+            )

@@ -21,9 +21,19 @@ class ReaderTest(BindingsCase):
         with agefile.open(path, "wb", passphrase="pw", work=1) as file:
             file.write(text)
         with agefile.open(path, passphrase="pw") as file:
-            self.see("seek ahead", file.read(10) == text[:10] and file.seek(150_000) == 150_000 and file.read(10) == text[150_000:150_010])
-            self.see("seek back", file.seek(5) == 5 and file.read(70_000) == text[5:70_005] and file.tell() == 70_005)
-            self.see("seek to the end", file.seek(0, io.SEEK_END) == 200_000 and file.read(1) == b"")
+            self.see(
+                "seek ahead",
+                file.read(10) == text[:10]
+                and file.seek(150_000) == 150_000
+                and file.read(10) == text[150_000:150_010],
+            )
+            self.see(
+                "seek back",
+                file.seek(5) == 5 and file.read(70_000) == text[5:70_005] and file.tell() == 70_005,
+            )
+            self.see(
+                "seek to the end", file.seek(0, io.SEEK_END) == 200_000 and file.read(1) == b""
+            )
         cut = path.read_bytes()[:-1]
         with agefile.open(io.BytesIO(cut), passphrase="pw") as file:
             got = file.read(3 * 65_536)
@@ -31,28 +41,43 @@ class ReaderTest(BindingsCase):
                 file.read(1)
                 self.see("the end of a cut file is reported as its end", False)
             except agefile.AgeError as fault:
-                self.see("a cut file", (fault.number, fault.chunk, got) == (17, 3, text[:3 * 65_536]))
+                self.see(
+                    "a cut file", (fault.number, fault.chunk, got) == (17, 3, text[: 3 * 65_536])
+                )
         try:
             with agefile.open(path, "wb", passphrase="pw", work=1) as file:
                 file.write(text)
                 raise KeyError
         except KeyError:
             pass
-        self.see("a writer that an exception left is whole", self.judged(path.read_bytes())[0] == (20, 3))
+        self.see(
+            "a writer that an exception left is whole", self.judged(path.read_bytes())[0] == (20, 3)
+        )
         kept = path.read_bytes()
-        self.see("an empty passphrase encrypts", raised(ValueError, agefile.open, path, "wb", passphrase="", work=1))
+        self.see(
+            "an empty passphrase encrypts",
+            raised(ValueError, agefile.open, path, "wb", passphrase="", work=1),
+        )
         self.see("a bad passphrase changes the file", path.read_bytes() == kept)
         with agefile.open(path, "wt", passphrase="pw", work=1, encoding="utf-8") as file:
             file.write("zwei\nZeilen ü\n")
         with agefile.open(path, "rt", passphrase="pw", encoding="utf-8") as file:
             self.see("text", list(file) == ["zwei\n", "Zeilen ü\n"])
         for mode in ("|", ":"):
-            with agefile.open(path, "wb", passphrase="pw", work=1) as file, tarfile.open(fileobj=file, mode="w|") as tar:
+            with agefile.open(path, "wb", passphrase="pw", work=1) as file, tarfile.open(
+                fileobj=file, mode="w|"
+            ) as tar:
                 for name in ("checks", "docs"):
                     tar.add(TOP / name, name)
-            with agefile.open(path, "rb", passphrase="pw") as file, tarfile.open(fileobj=file, mode="r" + mode) as tar:
-                names = [(it.name, zlib.crc32(tar.extractfile(it).read())) for it in tar if it.isfile()]
-            files = [it for top in ("checks", "docs") for it in (TOP / top).rglob("*") if it.is_file()]
+            with agefile.open(path, "rb", passphrase="pw") as file, tarfile.open(
+                fileobj=file, mode="r" + mode
+            ) as tar:
+                names = [
+                    (it.name, zlib.crc32(tar.extractfile(it).read())) for it in tar if it.isfile()
+                ]
+            files = [
+                it for top in ("checks", "docs") for it in (TOP / top).rglob("*") if it.is_file()
+            ]
             want = [(str(it.relative_to(TOP)), zlib.crc32(it.read_bytes())) for it in files]
             self.see(f"a tar archive, r{mode}", sorted(names) == sorted(want) and len(want) > 5)
 
@@ -62,7 +87,6 @@ class ReaderTest(BindingsCase):
         data = self.sealed(text)
 
         class Unsteady(io.RawIOBase):
-
             def __init__(self, data=b""):
                 self.held, self.calls = io.BytesIO(data), 0
 
@@ -84,16 +108,37 @@ class ReaderTest(BindingsCase):
 
         with agefile.open(Unsteady(data), file_key=KEY) as file:
             self.see("a failed read isn't reported", raised(OSError, file.read))
-            self.see("seek in what can't seek", raised(io.UnsupportedOperation, file.seek, 0) and not file.seekable())
+            self.see(
+                "seek in what can't seek",
+                raised(io.UnsupportedOperation, file.seek, 0) and not file.seekable(),
+            )
         under = Unsteady()
         file = agefile.open(under, "wb", passphrase="pw", work=1)
-        self.see("a failed write isn't reported", raised(OSError, lambda: [file.write(text) for _ in range(3)]))
-        self.see("a file with a block that is missing is written on", raised(OSError, file.write, text))
-        self.see("a file with a block that is missing is closed as if it were whole", raised(OSError, file.close) and file.closed)
+        self.see(
+            "a failed write isn't reported",
+            raised(OSError, lambda: [file.write(text) for _ in range(3)]),
+        )
+        self.see(
+            "a file with a block that is missing is written on", raised(OSError, file.write, text)
+        )
+        self.see(
+            "a file with a block that is missing is closed as if it were whole",
+            raised(OSError, file.close) and file.closed,
+        )
         fault = pickle.loads(pickle.dumps(agefile.AgeError(17, 3)))
         parts = fault.number, fault.name, fault.chunk, str(fault).partition(" (")[2]
-        self.see("a fault that is pickled", parts == (17, "ChunkDamaged", 3, "17 ChunkDamaged chunk 3)"), parts)
-        self.see("bytes with an encoding", raised(ValueError, lambda: agefile.open(io.BytesIO(data), "rb", file_key=KEY, encoding="utf-8")))
+        self.see(
+            "a fault that is pickled",
+            parts == (17, "ChunkDamaged", 3, "17 ChunkDamaged chunk 3)"),
+            parts,
+        )
+        self.see(
+            "bytes with an encoding",
+            raised(
+                ValueError,
+                lambda: agefile.open(io.BytesIO(data), "rb", file_key=KEY, encoding="utf-8"),
+            ),
+        )
 
     def test_copies(self):
         """Open files are neither copied nor pickled, and a forked child can't touch its parent's file."""
@@ -102,16 +147,23 @@ class ReaderTest(BindingsCase):
         out = agefile.open(path, "wb", passphrase="pw", work=1)
         for file in (out, agefile.open(io.BytesIO(data), file_key=KEY)):
             for call in (copy.copy, copy.deepcopy, pickle.dumps):
-                self.see(f"{call.__name__} of an {type(file).__name__}", raised(TypeError, call, file))
+                self.see(
+                    f"{call.__name__} of an {type(file).__name__}", raised(TypeError, call, file)
+                )
         out.write(text[:70_000])
         with warnings.catch_warnings():
             warnings.simplefilter("ignore")  # a process with threads that is forked
             child = os.fork()
         if child == 0:
-            refused = [raised(ValueError, call) for call in (lambda: out.write(b"child"), out.flush, out.close)]
+            refused = [
+                raised(ValueError, call)
+                for call in (lambda: out.write(b"child"), out.flush, out.close)
+            ]
             out.__del__()
             os._exit(0 if refused == [True] * 3 else 1)
-        self.see("a forked child is refused", os.waitstatus_to_exitcode(os.waitpid(child, 0)[1]) == 0)
+        self.see(
+            "a forked child is refused", os.waitstatus_to_exitcode(os.waitpid(child, 0)[1]) == 0
+        )
         child = os.fork()
         if child == 0:
             try:
@@ -122,7 +174,10 @@ class ReaderTest(BindingsCase):
         os.waitpid(child, 0)
         out.write(text[70_000:])
         out.close()
-        self.see("what the parent writes", by_python(path.read_bytes(), passphrase="pw") == ((0, None), text))
+        self.see(
+            "what the parent writes",
+            by_python(path.read_bytes(), passphrase="pw") == ((0, None), text),
+        )
 
     def test_closed(self):
         """What io's classes refuse once they are closed."""
@@ -134,8 +189,17 @@ class ReaderTest(BindingsCase):
             file.close()
             file.close()
             for it in files:
-                for name in ("tell", "flush", "readable", "seekable", *(["read"] if mode[0] == "r" else ["writable"])):
-                    self.see(f"{name} of a closed {type(it).__name__}, {mode}", raised(ValueError, getattr(it, name)))
+                for name in (
+                    "tell",
+                    "flush",
+                    "readable",
+                    "seekable",
+                    *(["read"] if mode[0] == "r" else ["writable"]),
+                ):
+                    self.see(
+                        f"{name} of a closed {type(it).__name__}, {mode}",
+                        raised(ValueError, getattr(it, name)),
+                    )
         under = io.BytesIO(data)
         with agefile.open(under, file_key=KEY) as file:
             file.read()
@@ -154,7 +218,12 @@ class ReaderTest(BindingsCase):
                         got += piece
                     self.see("a damaged chunk is read", False)
                 except agefile.NotWhole as fault:
-                    self.see(f"before a damaged chunk, by {size}", (fault.chunk, got) == (3, text[:3 * 65_536]), fault, len(got))
+                    self.see(
+                        f"before a damaged chunk, by {size}",
+                        (fault.chunk, got) == (3, text[: 3 * 65_536]),
+                        fault,
+                        len(got),
+                    )
 
 
 class OddFilesTest(BindingsCase):
@@ -168,7 +237,10 @@ class OddFilesTest(BindingsCase):
 
         class Passing:
             def __init__(self, data):
-                self.pieces, self.held = iter([data[at:at + 10_000] for at in range(0, len(data), 10_000)]), b""
+                self.pieces, self.held = (
+                    iter([data[at : at + 10_000] for at in range(0, len(data), 10_000)]),
+                    b"",
+                )
 
             def read(self, size):
                 self.held = self.held or next(self.pieces)
@@ -185,19 +257,28 @@ class OddFilesTest(BindingsCase):
 
         for what, read in WAYS.items():
             for end in (len(data), 100_000):
-                self.see(f"{what} of an iterator", raised(OSError, read, agefile.open(Passing(data[:end]), file_key=KEY)))
+                self.see(
+                    f"{what} of an iterator",
+                    raised(OSError, read, agefile.open(Passing(data[:end]), file_key=KEY)),
+                )
             for kind in (StopIteration, EOFError):
                 under = Lost(data)
                 file = agefile.open(under, file_key=KEY)
                 under.kind = kind
-                self.see(f"{what}, and a seek that raises {kind.__name__}", raised(OSError, read, file))
-            for call in (lambda it: agefile.open(it, file_key=KEY).size, lambda it: agefile.salvage(it, io.BytesIO(), file_key=KEY)):
+                self.see(
+                    f"{what}, and a seek that raises {kind.__name__}", raised(OSError, read, file)
+                )
+            for call in (
+                lambda it: agefile.open(it, file_key=KEY).size,
+                lambda it: agefile.salvage(it, io.BytesIO(), file_key=KEY),
+            ):
                 under = Lost(data)
                 under.kind = kind
                 self.see("the size, or salvage, and such a seek", raised(OSError, call, under))
 
     def test_forgotten_results(self):
         """What overrides a call of a file that blocks and forgets its result: an exception, and no endless loop."""
+
         class Told(io.FileIO):
             calls = 0
 
@@ -219,7 +300,11 @@ class OddFilesTest(BindingsCase):
                 self.told()
 
         with Told(self.path("out"), "wb") as out:
-            self.see("a write", raised(OSError, agefile.open, out, "wb", passphrase="pw", work=1), out.calls)
+            self.see(
+                "a write",
+                raised(OSError, agefile.open, out, "wb", passphrase="pw", work=1),
+                out.calls,
+            )
         self.write("in", self.sealed(b"text"))
         with Told(self.path("in")) as under:
             self.see("a read", raised(OSError, agefile.open, under, file_key=KEY), under.calls)
@@ -233,12 +318,16 @@ class OddFilesTest(BindingsCase):
                 file.write("text")
         except LookupError:  # Python 3.9 hasn't it
             want = b"as it was"
-        self.see("what the file has", by_python(path.read_bytes(), passphrase="pw") == ((0, None), want))
+        self.see(
+            "what the file has", by_python(path.read_bytes(), passphrase="pw") == ((0, None), want)
+        )
 
     def test_a_shorter_file(self):
         """A file whose size was asked, and in whose place one with the same key is put that is shorter: to no read is its end the end."""
         text = b"".join(b"%d,line\n" % it for it in range(60_000))
-        data, ends = self.sealed(text), [self.sealed(text[:5 * 65_536 + more]) for more in (100, 0)]
+        data, ends = self.sealed(text), [
+            self.sealed(text[: 5 * 65_536 + more]) for more in (100, 0)
+        ]
         for (what, read), shorter in itertools.product(WAYS.items(), ends):
             under = io.BytesIO(data)
             file = agefile.open(under, file_key=KEY)

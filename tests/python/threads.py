@@ -52,7 +52,7 @@ def reads(rnd):
         for _ in range(6):
             place, size = rnd.randrange(len(TEXT)), rnd.randrange(150_000)
             file.seek(place)
-            if file.read(size) != TEXT[place:place + size]:
+            if file.read(size) != TEXT[place : place + size]:
                 return "a read after a seek"
         with file.reopen(io.BytesIO(WHOLE)) as other:
             return "" if other.read() == TEXT else "a reader that was opened once more"
@@ -74,7 +74,7 @@ def writes(rnd):
     with agefile.open(out, "wb", passphrase="pw", work=1) as file:
         while at < len(TEXT):
             size = rnd.choice((10, 5_000, 70_000))
-            file.write(TEXT[at:at + size])
+            file.write(TEXT[at : at + size])
             at += size
     return "" if agefile.decrypt(out.getvalue(), passphrase="pw") == TEXT else "a writer"
 
@@ -83,7 +83,7 @@ def lines(_):
     out = io.BytesIO()
     with agefile.open(out, "wt", passphrase="pw", work=1) as file:
         for at in range(0, len(LINES), 997):
-            file.write(LINES[at:at + 997] + "\n")
+            file.write(LINES[at : at + 997] + "\n")
     out.seek(0)
     with agefile.open(out, "rt", passphrase="pw") as file:
         return "" if "".join(it.strip() for it in file) == LINES else "lines of text"
@@ -100,7 +100,11 @@ def keys(_):
     """A file for a recipient, which needs `cryptography`."""
     if not HAS_CRYPTOGRAPHY:
         return ""
-    return "" if agefile.decrypt(agefile.encrypt(TEXT, recipient=RECIPIENT), identity=KEYS) == TEXT else "a file for a recipient"
+    return (
+        ""
+        if agefile.decrypt(agefile.encrypt(TEXT, recipient=RECIPIENT), identity=KEYS) == TEXT
+        else "a file for a recipient"
+    )
 
 
 def forgets(rnd):
@@ -164,7 +168,7 @@ def interrupted(rnd, armed):
                 return ""
             file.seek(got)
             continue
-        if piece != TEXT[got:got + len(piece)] or not piece and got < len(TEXT):
+        if piece != TEXT[got : got + len(piece)] or not piece and got < len(TEXT):
             return "an interrupted read"
         if not piece:
             return ""
@@ -185,7 +189,11 @@ def forks():
 
 def judge(data):
     """A file that was written, once all threads have ended."""
-    return "" if agefile.decrypt(data, passphrase="pw") == TEXT else "a file that was written holds another text"
+    return (
+        ""
+        if agefile.decrypt(data, passphrase="pw") == TEXT
+        else "a file that was written holds another text"
+    )
 
 
 def main():
@@ -198,7 +206,9 @@ def main():
             raise Interruption
 
     signal.signal(signal.SIGALRM, interrupts)
-    threads = [threading.Thread(target=run.work, args=(it,)) for it in range(1, 6)] + [threading.Thread(target=run.collect)]
+    threads = [threading.Thread(target=run.work, args=(it,)) for it in range(1, 6)] + [
+        threading.Thread(target=run.collect)
+    ]
     for it in threads:
         it.start()
     signal.setitimer(signal.ITIMER_REAL, 0.003, 0.003)

@@ -16,12 +16,14 @@ def stubs():
 for it in "$1" "$2" "$2.o"; do cp {shlex.quote(str(PROGRAM))} "$it"; done
 cp {made} "$3" && chmod u+w "$3"
 """,
-        "tools/axioms.py": "print('{\"age_tool\": [\"libc::close\"], \"age_c\": []}')\n",
+        "tools/axioms.py": 'print(\'{"age_tool": ["libc::close"], "age_c": []}\')\n',
     }
 
 
 def run(*words, **more):
-    return process.run(words, stdout=subprocess.PIPE, stderr=subprocess.STDOUT, text=True, errors="replace", **more)
+    return process.run(
+        words, stdout=subprocess.PIPE, stderr=subprocess.STDOUT, text=True, errors="replace", **more
+    )
 
 
 class Packing(Case):
@@ -35,7 +37,18 @@ class Packing(Case):
             (self.top / name).write_text(script)
         self.git("init", "-q")
         self.git("add", "-A")
-        self.git("-c", "user.name=a", "-c", "user.email=a@b", "commit", "-q", "-m", "all", "--date", "@1700000000 +0000")
+        self.git(
+            "-c",
+            "user.name=a",
+            "-c",
+            "user.email=a@b",
+            "commit",
+            "-q",
+            "-m",
+            "all",
+            "--date",
+            "@1700000000 +0000",
+        )
 
     def git(self, *words):
         env = {**os.environ, "GIT_COMMITTER_DATE": "@1700000000 +0000"}

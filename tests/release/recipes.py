@@ -26,8 +26,10 @@ class PageCase(Case):
         release(self.room)
         self.path("work").mkdir()
         self.env = {
-            **os.environ, "PATH": f"{self.path('bin')}:{os.environ['PATH']}",
-            "PYTHONPATH": str(TOP / "bindings" / "python"), "PYTHONDONTWRITEBYTECODE": "1",
+            **os.environ,
+            "PATH": f"{self.path('bin')}:{os.environ['PATH']}",
+            "PYTHONPATH": str(TOP / "bindings" / "python"),
+            "PYTHONDONTWRITEBYTECODE": "1",
         }
         if (LIBRARY / "libagefile.so").exists():
             self.env["AGEFILE_LIBRARY"] = str(LIBRARY / "libagefile.so")
@@ -35,8 +37,15 @@ class PageCase(Case):
     def begin(self, script):
         """Begins to run commands in the folder `work`, in a group of processes of their own."""
         words = ["bash", "-euo", "pipefail", "-c", script]
-        more = {"stdout": subprocess.PIPE, "stderr": subprocess.STDOUT, "text": True, "errors": "replace"}
-        return process.Popen(words, cwd=self.path("work"), env=self.env, start_new_session=True, **more)
+        more = {
+            "stdout": subprocess.PIPE,
+            "stderr": subprocess.STDOUT,
+            "text": True,
+            "errors": "replace",
+        }
+        return process.Popen(
+            words, cwd=self.path("work"), env=self.env, start_new_session=True, **more
+        )
 
     def run_script(self, script):
         """Runs commands in the folder `work`."""

@@ -43,7 +43,8 @@ exec /bin/date ${AT:+-d "$AT"} "$@"
 
 class BackupsTest(PageCase):
     """What happens to backups by the commands of the page: two runs at once, runs that are stopped, a clock that is wrong, files that change
-while they are encrypted or are replaced. No age file that is there afterwards, but for those whose name ends in `.part`, is cut."""
+    while they are encrypted or are replaced. No age file that is there afterwards, but for those whose name ends in `.part`, is cut.
+    """
 
     def setUp(self):
         super().setUp()
@@ -77,12 +78,21 @@ while they are encrypted or are replaced. No age file that is there afterwards, 
     def see_whole(self, name, pattern, count=None):
         """Checks that each of these age files opens, and how many there are."""
         found = sorted(it.relative_to(self.path("work")) for it in self.path("work").glob(pattern))
-        cut = [it for it in found if self.run_script(f"age_tool decrypt --pass passphrase.txt '{it}' /dev/null").returncode]
+        cut = [
+            it
+            for it in found
+            if self.run_script(
+                f"age_tool decrypt --pass passphrase.txt '{it}' /dev/null"
+            ).returncode
+        ]
         self.see(f"{name}: no cut file", not cut, *map(str, cut))
         self.see(f"{name}: so many files", count in (None, len(found)), *map(str, found))
 
     def write_backup_script(self):
-        self.assertEqual(self.run_script(self.blocks["A backup tonight"].split("bash backup.sh")[0]).returncode, 0)
+        self.assertEqual(
+            self.run_script(self.blocks["A backup tonight"].split("bash backup.sh")[0]).returncode,
+            0,
+        )
 
     def test_two_backups(self):
         """The second begins while the first reads its file back."""
@@ -90,13 +100,19 @@ while they are encrypted or are replaced. No age file that is there afterwards, 
         first = self.held_at("bash backup.sh", self.path("work/reading").exists, HOLD_READING="1")
         [made] = self.path("work").glob("*.part")
         inode = made.stat().st_ino
-        second = self.held_at("bash backup.sh", lambda: made.exists() and made.stat().st_ino != inode and self.has_begun("*.part")(), HOLD_TAR="1")
+        second = self.held_at(
+            "bash backup.sh",
+            lambda: made.exists() and made.stat().st_ino != inode and self.has_begun("*.part")(),
+            HOLD_TAR="1",
+        )
         self.write("work/on", b"")
         said = first.communicate()[0]
         self.see("two backups: the first", first.returncode == 0, said)
         ended = second.poll()
         said = self.stop(second) if ended is None else second.communicate()[0]
-        self.see("two backups: the second ends and says so", ended and "no new backup" in said, said)
+        self.see(
+            "two backups: the second ends and says so", ended and "no new backup" in said, said
+        )
         self.see_whole("two backups", "photos-*.tar.age", 1)
 
     def test_stopped_backup(self):
@@ -111,15 +127,29 @@ while they are encrypted or are replaced. No age file that is there afterwards, 
     def test_no_photos(self):
         """A folder that is empty, or a link to one: neither is a backup, and nothing is deleted."""
         self.write_backup_script()
-        sealed = self.blocks["A backup that its server can't read"].split("> recipients)\n")[1].split("bash sealed.sh")[0]
+        sealed = (
+            self.blocks["A backup that its server can't read"]
+            .split("> recipients)\n")[1]
+            .split("bash sealed.sh")[0]
+        )
         self.assertEqual(self.run_script(sealed).returncode, 0)
-        self.write("work/recipients", re.search(r"age1\w+", (AGE / "key.txt").read_text())[0].encode())
+        self.write(
+            "work/recipients", re.search(r"age1\w+", (AGE / "key.txt").read_text())[0].encode()
+        )
         shutil.move(self.path("work/photos"), self.path("elsewhere"))
-        for kind, make in (("no folder", lambda it: None), ("an empty folder", os.mkdir), ("a link", lambda it: (it.rmdir(), it.symlink_to("../elsewhere")))):
+        for kind, make in (
+            ("no folder", lambda it: None),
+            ("an empty folder", os.mkdir),
+            ("a link", lambda it: (it.rmdir(), it.symlink_to("../elsewhere"))),
+        ):
             make(self.path("work/photos"))
             for script in ("backup.sh", "sealed.sh"):
                 run = self.run_script(f"bash {script}")
-                self.see(f"{kind}, {script}: no backup", run.returncode != 0 and f"{script}: no new backup" in run.stdout, run.stdout)
+                self.see(
+                    f"{kind}, {script}: no backup",
+                    run.returncode != 0 and f"{script}: no new backup" in run.stdout,
+                    run.stdout,
+                )
             self.see_whole(kind, "*.tar.age", 0)
 
     def test_checked_again(self):
@@ -133,7 +163,9 @@ while they are encrypted or are replaced. No age file that is there afterwards, 
         with open(self.path("work/photos-2027-01-02.tar.age"), "r+b") as newest:
             newest.truncate(70_000)
         said = self.run_script(check).stdout
-        self.see("the newest was truncated", said.count("age_tool: 17 ChunkDamaged chunk 1\n") == 2, said)
+        self.see(
+            "the newest was truncated", said.count("age_tool: 17 ChunkDamaged chunk 1\n") == 2, said
+        )
 
     def test_clock(self):
         """One that is behind for two nights, and ahead for six: of the backups before the one that is made, by name, the last six are kept,
@@ -147,17 +179,32 @@ while they are encrypted or are replaced. No age file that is there afterwards, 
         right = [f"2027-01-{day:02}" for day in range(8, 12)]
         for today in ("1970-01-01", "1970-01-01", *ahead, *right):
             made = named(today)
-            there = {it for it in there if it > made} | {made} | {*sorted(it for it in there if it < made)[-6:]}
+            there = (
+                {it for it in there if it > made}
+                | {made}
+                | {*sorted(it for it in there if it < made)[-6:]}
+            )
             self.env["AT"] = today
             run = self.run_script("bash backup.sh")
             found = {it.name for it in self.path("work").glob("photos-*")}
-            self.see(f"{today}: the backups that are kept", run.returncode == 0 and found == there, run.stdout, sorted(found))
-        self.see("after all of these nights", found > {named(it) for it in (*ahead, *right)}, sorted(found))
+            self.see(
+                f"{today}: the backups that are kept",
+                run.returncode == 0 and found == there,
+                run.stdout,
+                sorted(found),
+            )
+        self.see(
+            "after all of these nights",
+            found > {named(it) for it in (*ahead, *right)},
+            sorted(found),
+        )
 
     def see_encrypted(self, name):
         """Checks that each photo's age file holds it."""
         for photo in self.path("work/photos").iterdir():
-            run = self.run_script(f"age_tool decrypt --pass passphrase.txt encrypted/{photo.name}.age /dev/stdout | cmp - photos/{photo.name}")
+            run = self.run_script(
+                f"age_tool decrypt --pass passphrase.txt encrypted/{photo.name}.age /dev/stdout | cmp - photos/{photo.name}"
+            )
             self.see(f"{name}: {photo.name}", run.returncode == 0, run.stdout)
 
     def test_stopped_in_parallel(self):
@@ -197,7 +244,11 @@ while they are encrypted or are replaced. No age file that is there afterwards, 
     def test_changed_while_encrypted(self):
         """A file that changes after it was read, and before its age file is finished."""
         photo = self.path("work/photos/large")
-        run = self.held_at(self.blocks["Many files in parallel"], self.path("work/reading").exists, HOLD_LARGE="read")
+        run = self.held_at(
+            self.blocks["Many files in parallel"],
+            self.path("work/reading").exists,
+            HOLD_LARGE="read",
+        )
         with open(photo, "r+b") as file:
             file.write(b"A NEW LINE")
         self.write("work/on", b"")
@@ -208,5 +259,10 @@ while they are encrypted or are replaced. No age file that is there afterwards, 
     def test_replaced_by_older(self):
         """A file that comes with a time of its own, which is older than that of the age file of the one in whose place it is."""
         self.assertEqual(self.run_script(self.blocks["Many files in parallel"]).returncode, 0)
-        self.assertEqual(self.run_script("echo older > new && touch -d yesterday new && mv new photos/1.jpg").returncode, 0)
+        self.assertEqual(
+            self.run_script(
+                "echo older > new && touch -d yesterday new && mv new photos/1.jpg"
+            ).returncode,
+            0,
+        )
         self.see_again("replaced by an older one")

@@ -25,7 +25,11 @@ class CheckoutTest(Case):
 
         def left_out(at, names):
             is_of_crates = os.path.basename(at) == "crates" and os.path.dirname(at) == str(folder)
-            return [it for it in names if it == ".git" or is_of_crates and it != CRATE or it == "out" and "/crates/" in at]
+            return [
+                it
+                for it in names
+                if it == ".git" or is_of_crates and it != CRATE or it == "out" and "/crates/" in at
+            ]
 
         shutil.copytree(folder, top, symlinks=True, ignore=left_out)
         (top / ".git").mkdir()
@@ -36,7 +40,11 @@ class CheckoutTest(Case):
     def copy_of_sources(self, name):
         """A copy of this checkout, without what was built."""
         to = self.path(name)
-        shutil.copytree(TOP, to, ignore=shutil.ignore_patterns("out", ".git", "target", "__pycache__", "libagefile*.a"))
+        shutil.copytree(
+            TOP,
+            to,
+            ignore=shutil.ignore_patterns("out", ".git", "target", "__pycache__", "libagefile*.a"),
+        )
         (to / ".git").mkdir()
         return to
 
@@ -52,10 +60,25 @@ class CheckoutTest(Case):
         top = self.copy_of_sources("fresh")
         (top / "build").write_text("#!/bin/sh\necho building; exit 1\n")
         told = (TOP / "docs/help.txt").read_text()
-        version = process.run([workspace.program(), "--version"], capture_output=True, text=True).stdout
-        for word, wanted in (("--help", told), ("-h", told), ("help", told), ("--version", version), ("-V", version), ("inspect", "building\n")):
-            run = process.run([top / "age_tool", word], capture_output=True, text=True, stdin=subprocess.DEVNULL)
-            self.see(f"{word} in a checkout that isn't built", run.stdout == wanted and (wanted == "building\n") != ("isn't built" in run.stderr), run)
+        version = process.run(
+            [workspace.program(), "--version"], capture_output=True, text=True
+        ).stdout
+        for word, wanted in (
+            ("--help", told),
+            ("-h", told),
+            ("help", told),
+            ("--version", version),
+            ("-V", version),
+            ("inspect", "building\n"),
+        ):
+            run = process.run(
+                [top / "age_tool", word], capture_output=True, text=True, stdin=subprocess.DEVNULL
+            )
+            self.see(
+                f"{word} in a checkout that isn't built",
+                run.stdout == wanted and (wanted == "building\n") != ("isn't built" in run.stderr),
+                run,
+            )
 
     @needs("cc")
     def test_space(self):
@@ -72,7 +95,13 @@ class CheckoutTest(Case):
         if not shutil.which("pkg-config"):
             return self.leave_out("pkg-config", "needs pkg-config")
         words = "eval cc -o user \\'bindings/c/decrypt.c\\' $(pkg-config --cflags --libs agefile)"
-        run = process.run(["sh", "-c", words], cwd=top, env={**os.environ, "PKG_CONFIG_PATH": str(top / "bindings/out/pkgconfig")}, capture_output=True, text=True)
+        run = process.run(
+            ["sh", "-c", words],
+            cwd=top,
+            env={**os.environ, "PKG_CONFIG_PATH": str(top / "bindings/out/pkgconfig")},
+            capture_output=True,
+            text=True,
+        )
         self.see("a program by pkg-config", run.returncode == 0, run.stderr)
 
     def test_another_clone(self):
@@ -84,7 +113,13 @@ class CheckoutTest(Case):
         def takes(**more):
             words = "from tools.libraries import Made; found = Made('age_c').found(); print('takes', found and found.name)"
             env = {**os.environ, "PYTHONPATH": str(top), "TARGET": "", **more}
-            return process.run([sys.executable, "-B", "-c", words], cwd=top, env=env, capture_output=True, text=True).stdout
+            return process.run(
+                [sys.executable, "-B", "-c", words],
+                cwd=top,
+                env=env,
+                capture_output=True,
+                text=True,
+            ).stdout
 
         if KEPT.exists():
             shutil.copytree(KEPT, top / "bindings/out/kept")
@@ -92,7 +127,11 @@ class CheckoutTest(Case):
         if "takes None" in first:
             self.skipTest("run bindings/build: this user has kept no library")
         self.see("another checkout takes it", first.startswith("takes age_c-"), first)
-        for name, byte in (("crates/age_c/src/lib.rt", "\n"), ("crates/age_kdf/proofs/Lib.antt", "\n"), ("crates/age_io/specs/Lib.antt", " ")):
+        for name, byte in (
+            ("crates/age_c/src/lib.rt", "\n"),
+            ("crates/age_kdf/proofs/Lib.antt", "\n"),
+            ("crates/age_io/specs/Lib.antt", " "),
+        ):
             held = (top / name).read_bytes()
             (top / name).write_bytes(held + byte.encode())
             said = takes()
@@ -120,27 +159,55 @@ class CheckoutTest(Case):
             it = made(number)
             self.see(f"{number} isn't kept yet", it.found() is None)
             kept = it.keep(self.path("it"))
-            self.see(f"{number} is kept", it.found() == kept and kept.read_bytes() == b"%d" % number, kept)
+            self.see(
+                f"{number} is kept",
+                it.found() == kept and kept.read_bytes() == b"%d" % number,
+                kept,
+            )
             os.utime(kept, (number, number))
         held = {it.read_bytes() for it in self.path("kept/made").iterdir()}
-        self.see("those used last stay", held == {b"%d" % it for it in range(2, libraries.MOST + 2)}, held)
+        self.see(
+            "those used last stay",
+            held == {b"%d" % it for it in range(2, libraries.MOST + 2)},
+            held,
+        )
         kept.write_bytes(b"other")
         self.see("a damaged one isn't taken", it.found() is None)
-        self.see("and is replaced", it.keep(self.path("it")) == kept and it.found() == kept and kept.read_bytes() == self.read("it"))
+        self.see(
+            "and is replaced",
+            it.keep(self.path("it")) == kept
+            and it.found() == kept
+            and kept.read_bytes() == self.read("it"),
+        )
         it = made(1, self.path("it"))
-        self.see("a place that is none: in the checkout", it.keep(self.path("it")).parent == self.path("here/made") and it.found())
+        self.see(
+            "a place that is none: in the checkout",
+            it.keep(self.path("it")).parent == self.path("here/made") and it.found(),
+        )
 
     def test_variables(self):
         """`check` tests what it proved, and not what a variable names."""
         words = "import runpy, sys; runpy.run_path('check'); it = sys.modules['tools.workspace']; import os; print(it.PROGRAM, it.LIBRARY, os.getenv('TARGET'), sep='\\n')"
-        env = {**os.environ, "AGE_TOOL": "/usr/bin/false", "AGE_C_DIR": "/nowhere", "TARGET": "another"}
-        run = process.run([sys.executable, "-B", "-c", words], cwd=TOP, env=env, capture_output=True, text=True)
-        self.see("check tests what it proved", run.stdout.splitlines() == [str(CRATES / "age_tool/out/age_tool"), str(TOP / "bindings/out"), "None"], run)
+        env = {
+            **os.environ,
+            "AGE_TOOL": "/usr/bin/false",
+            "AGE_C_DIR": "/nowhere",
+            "TARGET": "another",
+        }
+        run = process.run(
+            [sys.executable, "-B", "-c", words], cwd=TOP, env=env, capture_output=True, text=True
+        )
+        self.see(
+            "check tests what it proved",
+            run.stdout.splitlines()
+            == [str(CRATES / "age_tool/out/age_tool"), str(TOP / "bindings/out"), "None"],
+            run,
+        )
 
     def test_stale_program(self):
         """`age_tool` builds again what was changed, also by a file that is older than the program, what is gone, and by another kit."""
         top = self.copy_of_sources("c d")
-        (top / "build").write_text('#!/bin/sh\necho built\n')
+        (top / "build").write_text("#!/bin/sh\necho built\n")
         program = top / "crates/age_tool/out/age_tool"
         program.parent.mkdir()
         source, kit = top / "crates/age_kdf/src/lib.rt", self.path("rt")

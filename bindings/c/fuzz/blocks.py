@@ -6,7 +6,12 @@ import re
 import subprocess
 import sys
 
-said = subprocess.run(["objdump", "-d", "-j", ".text", "--no-show-raw-insn", sys.argv[1]], capture_output=True, text=True, check=True).stdout
+said = subprocess.run(
+    ["objdump", "-d", "-j", ".text", "--no-show-raw-insn", sys.argv[1]],
+    capture_output=True,
+    text=True,
+    check=True,
+).stdout
 lines = [(int(it[1], 16), it[2]) for it in re.finditer(r"^ +([0-9a-f]+):\t(.*)$", said, re.M)]
 known, starts, after = {at for at, _ in lines}, set(), True
 for at, words in lines:

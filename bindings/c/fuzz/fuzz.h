@@ -1,5 +1,5 @@
-/* fuzz.h: what the fuzzers share. What a call is given stands before a page that nobody may touch, so that a byte too many is seen also in the
- * proved code, which the sanitizers don't know. */
+/* fuzz.h: what the fuzzers share. What a call is given stands before a page that nobody may touch,
+ * so that a byte too many is seen also in the proved code, which the sanitizers don't know. */
 #include "cover.h"
 
 #include "../core.h"
@@ -9,9 +9,10 @@
 #include <string.h>
 #include <sys/mman.h>
 
-#define CHECK(it) \
-    do { \
-        if (!(it)) fprintf(stderr, "%s:%d: not so: %s\n", __FILE__, __LINE__, #it), abort(); \
+#define CHECK(it)                                                                                  \
+    do {                                                                                           \
+        if (!(it))                                                                                 \
+            fprintf(stderr, "%s:%d: not so: %s\n", __FILE__, __LINE__, #it), abort();              \
     } while (0)
 enum { MOST = 1 << 21 };
 
@@ -21,7 +22,8 @@ typedef struct {
 static guarded bytes_room, out_room, more_room;
 
 static guarded guarded_room(void) {
-    uint8_t *at = mmap(NULL, MOST + 4096, PROT_READ | PROT_WRITE, MAP_PRIVATE | MAP_ANONYMOUS, -1, 0);
+    uint8_t *at =
+        mmap(NULL, MOST + 4096, PROT_READ | PROT_WRITE, MAP_PRIVATE | MAP_ANONYMOUS, -1, 0);
     CHECK(at != MAP_FAILED && mprotect(at + MOST, 4096, PROT_NONE) == 0);
     return (guarded){at + MOST};
 }
@@ -32,26 +34,27 @@ static uint8_t *in_room(guarded room, size_t len) {
 }
 static uint8_t *copied(guarded room, const uint8_t *from, size_t len) {
     uint8_t *to = in_room(room, len);
-    if (len) memcpy(to, from, len);
+    if (len)
+        memcpy(to, from, len);
     return to;
 }
 static uint8_t *filled(guarded room, size_t len) {
     uint8_t *to = in_room(room, len);
-    if (len) memset(to, 0xaa, len);
+    if (len)
+        memset(to, 0xaa, len);
     return to;
 }
 /* Whether nothing was written from a place on. */
 static int is_untouched(const uint8_t *room, size_t from, size_t len) {
     for (size_t i = from; i < len; i++)
-        if (room[i] != 0xaa) return 0;
+        if (room[i] != 0xaa)
+            return 0;
     return 1;
 }
 
 /* The bytes of the fuzzer, one after the other; zeros once there are none. */
 static const uint8_t *at_fuzz, *end_fuzz;
-static unsigned draw(void) {
-    return at_fuzz < end_fuzz ? *at_fuzz++ : 0;
-}
+static unsigned draw(void) { return at_fuzz < end_fuzz ? *at_fuzz++ : 0; }
 static unsigned draw2(void) {
     unsigned low = draw();
     return low | draw() << 8;
@@ -63,7 +66,8 @@ static size_t draw_room(size_t need) {
 }
 
 static void fill(uint8_t *to, size_t len, unsigned factor) {
-    for (size_t i = 0; i < len; i++) to[i] = (uint8_t)(i * factor ^ i >> 8);
+    for (size_t i = 0; i < len; i++)
+        to[i] = (uint8_t)(i * factor ^ i >> 8);
 }
 static int begin_fuzz(void) {
     bytes_room = guarded_room(), out_room = guarded_room(), more_room = guarded_room();

@@ -1,12 +1,15 @@
-/* What a program that was compiled with agefile.h of 2.0.0 has inside: sizes, places and types of fields, numbers and the types of the calls.
- * While the soname is libagefile.so.2 none of these lines changes; a later version adds lines. It is compiled, and not run. */
+/* What a program that was compiled with agefile.h of 2.0.0 has inside: sizes, places and types of
+ * fields, numbers and the types of the calls. While the soname is libagefile.so.2 none of these
+ * lines changes; a later version adds lines. It is compiled, and not run. */
 #include "agefile.h"
 
 #include <stddef.h>
 
 #define SIZE(type, size) _Static_assert(sizeof(type) == (size), #type)
-#define PLACE(type, field, pointer, place) \
-    _Static_assert(offsetof(type, field) == (place) && _Generic(&((type *)0)->field, pointer: 1, default: 0), #type "." #field)
+#define PLACE(type, field, pointer, place)                                                         \
+    _Static_assert(offsetof(type, field) == (place) &&                                             \
+                       _Generic(&((type *)0)->field, pointer : 1, default : 0),                    \
+                   #type "." #field)
 #define NUMBER(name, value) _Static_assert((name) == (value), #name)
 #define CALL(name, answer, ...) static answer (*const was_##name)(__VA_ARGS__) = name
 
@@ -90,26 +93,52 @@ CALL(agefile_decoder_free, void, agefile_decoder *);
 CALL(agefile_payload_at, uint64_t, const agefile_decoder *);
 CALL(agefile_fault_chunk, uint64_t, const agefile_decoder *);
 CALL(agefile_decode_seek, int, agefile_decoder *, uint64_t, uint64_t, uint64_t *);
-CALL(agefile_open_at, int, const agefile_decoder *, uint64_t, const void *, size_t, void *, size_t, size_t *, int *);
+CALL(agefile_open_at, int, const agefile_decoder *, uint64_t, const void *, size_t, void *, size_t,
+     size_t *, int *);
 CALL(agefile_size, int, const agefile_decoder *, uint64_t, uint64_t *);
 CALL(agefile_header, int, const void *, size_t, size_t *, size_t *, uint32_t *);
-CALL(agefile_stanzas, int, const void *, size_t, agefile_stanza *, size_t, size_t *, void *, size_t, size_t *);
+CALL(agefile_stanzas, int, const void *, size_t, agefile_stanza *, size_t, size_t *, void *, size_t,
+     size_t *);
 CALL(agefile_fault_name, const char *, int);
 CALL(agefile_fault_text, const char *, int);
 CALL(agefile_fault_kind, int, int);
 
 /* (names them, so that no compiler finds one unused) */
 const void *const agefile_calls[] = {
-    (const void *)&was_agefile_version, (const void *)&was_agefile_passphrase, (const void *)&was_agefile_file_key,
-    (const void *)&was_agefile_wrapped, (const void *)&was_agefile_shared, (const void *)&was_agefile_encrypt,
-    (const void *)&was_agefile_decrypt, (const void *)&was_agefile_sealed_len, (const void *)&was_agefile_encoder_new,
-    (const void *)&was_agefile_encoder_size, (const void *)&was_agefile_encoder_init, (const void *)&was_agefile_encoder_begin,
-    (const void *)&was_agefile_encode, (const void *)&was_agefile_encode_end, (const void *)&was_agefile_encode_room,
-    (const void *)&was_agefile_encode_end_room, (const void *)&was_agefile_encoder_free, (const void *)&was_agefile_decoder_new,
-    (const void *)&was_agefile_decoder_size, (const void *)&was_agefile_decoder_init, (const void *)&was_agefile_decoder_begin,
-    (const void *)&was_agefile_decode, (const void *)&was_agefile_decode_end, (const void *)&was_agefile_decode_room,
-    (const void *)&was_agefile_decode_end_room, (const void *)&was_agefile_decoder_free, (const void *)&was_agefile_payload_at,
-    (const void *)&was_agefile_fault_chunk, (const void *)&was_agefile_decode_seek, (const void *)&was_agefile_open_at,
-    (const void *)&was_agefile_size, (const void *)&was_agefile_header, (const void *)&was_agefile_stanzas,
-    (const void *)&was_agefile_fault_name, (const void *)&was_agefile_fault_text, (const void *)&was_agefile_fault_kind,
+    (const void *)&was_agefile_version,
+    (const void *)&was_agefile_passphrase,
+    (const void *)&was_agefile_file_key,
+    (const void *)&was_agefile_wrapped,
+    (const void *)&was_agefile_shared,
+    (const void *)&was_agefile_encrypt,
+    (const void *)&was_agefile_decrypt,
+    (const void *)&was_agefile_sealed_len,
+    (const void *)&was_agefile_encoder_new,
+    (const void *)&was_agefile_encoder_size,
+    (const void *)&was_agefile_encoder_init,
+    (const void *)&was_agefile_encoder_begin,
+    (const void *)&was_agefile_encode,
+    (const void *)&was_agefile_encode_end,
+    (const void *)&was_agefile_encode_room,
+    (const void *)&was_agefile_encode_end_room,
+    (const void *)&was_agefile_encoder_free,
+    (const void *)&was_agefile_decoder_new,
+    (const void *)&was_agefile_decoder_size,
+    (const void *)&was_agefile_decoder_init,
+    (const void *)&was_agefile_decoder_begin,
+    (const void *)&was_agefile_decode,
+    (const void *)&was_agefile_decode_end,
+    (const void *)&was_agefile_decode_room,
+    (const void *)&was_agefile_decode_end_room,
+    (const void *)&was_agefile_decoder_free,
+    (const void *)&was_agefile_payload_at,
+    (const void *)&was_agefile_fault_chunk,
+    (const void *)&was_agefile_decode_seek,
+    (const void *)&was_agefile_open_at,
+    (const void *)&was_agefile_size,
+    (const void *)&was_agefile_header,
+    (const void *)&was_agefile_stanzas,
+    (const void *)&was_agefile_fault_name,
+    (const void *)&was_agefile_fault_text,
+    (const void *)&was_agefile_fault_kind,
 };

@@ -1,14 +1,16 @@
-/* Damages files at random and reads them: cuts, changed bytes, blocks that are swapped, repeated, removed, or another file's, bytes put
- * into the header or after the end. Some are also read as they are. What a file has to give is known without the library, by comparing
- * it with what its writer wrote: the text of the blocks that it begins with as they were, no byte more or less, and 0 at the end only
- * if no byte of it differs. A fault has to stay whatever is called after it. What the calls are given lies between pages that nobody
- * may touch.
+/* Damages files at random and reads them: cuts, changed bytes, blocks that are swapped, repeated,
+ * removed, or another file's, bytes put into the header or after the end. Some are also read as
+ * they are. What a file has to give is known without the library, by comparing it with what its
+ * writer wrote: the text of the blocks that it begins with as they were, no byte more or less, and
+ * 0 at the end only if no byte of it differs. A fault has to stay whatever is called after it. What
+ * the calls are given lies between pages that nobody may touch.
  *
  * usage: damage [FILES [SEED [FLAW]]]
  *
- * It damages 50,000 files, and prints the seed, which comes from the clock. Each file has a seed of its own, which a report names: with
- * FILES 1 and that seed, that file comes again. With a FLAW, which is a word of the list below, the reader is wrong on purpose, and the
- * status has to be 1: so this test can fail.
+ * It damages 50,000 files, and prints the seed, which comes from the clock. Each file has a seed of
+ * its own, which a report names: with FILES 1 and that seed, that file comes again. With a FLAW,
+ * which is a word of the list below, the reader is wrong on purpose, and the status has to be 1: so
+ * this test can fail.
  */
 #define _GNU_SOURCE
 #include "agefile.h"
@@ -41,12 +43,11 @@ static uint64_t next(void) {
     return z ^ z >> 31;
 }
 
-static size_t below(size_t limit) {
-    return (size_t)(next() % limit);
-}
+static size_t below(size_t limit) { return (size_t)(next() % limit); }
 
 static void randomize(uint8_t *at, size_t len) {
-    for (size_t i = 0; i < len; i++) at[i] = (uint8_t)next();
+    for (size_t i = 0; i < len; i++)
+        at[i] = (uint8_t)next();
 }
 
 /* ---- what is found ---- */
@@ -81,9 +82,11 @@ static void on_fault(int signal_number) {
     size_t at = sizeof digits;
     uint64_t left = this_file;
     (void)signal_number;
-    do digits[--at] = (char)('0' + left % 10);
+    do
+        digits[--at] = (char)('0' + left % 10);
     while ((left /= 10) > 0);
-    if (write(1, line, sizeof line - 1) < 0 || write(1, digits + at, sizeof digits - at) < 0 || write(1, "\n0 passed, 1 failed\n", 20) < 0)
+    if (write(1, line, sizeof line - 1) < 0 || write(1, digits + at, sizeof digits - at) < 0 ||
+        write(1, "\n0 passed, 1 failed\n", 20) < 0)
         _exit(2);
     _exit(1);
 }
@@ -99,8 +102,11 @@ static struct room given_room, out_room;
 
 static struct room room_of(size_t most) {
     size_t size = (most + PAGE - 1) / PAGE * PAGE;
-    uint8_t *at = mmap(NULL, size + 2 * PAGE, PROT_READ | PROT_WRITE, MAP_PRIVATE | MAP_ANONYMOUS, -1, 0);
-    if (at == MAP_FAILED || mprotect(at, PAGE, PROT_NONE) || mprotect(at + PAGE + size, PAGE, PROT_NONE)) exit(2);
+    uint8_t *at =
+        mmap(NULL, size + 2 * PAGE, PROT_READ | PROT_WRITE, MAP_PRIVATE | MAP_ANONYMOUS, -1, 0);
+    if (at == MAP_FAILED || mprotect(at, PAGE, PROT_NONE) ||
+        mprotect(at + PAGE + size, PAGE, PROT_NONE))
+        exit(2);
     return (struct room){at + PAGE, size};
 }
 
@@ -126,8 +132,10 @@ struct file {
     size_t text_len, len, front; /* front: of header and nonce */
 };
 static const size_t lengths[] = {
-    0,     1,     15,    16,     17,     1000,   65519,  65520,  65535,  65536, /* one chunk */
-    65537, 65552, 65553, 131071, 131072, 131073, 131088, 196608, 196609, 200000, /* two, three and four */
+    0,      1,      15,     16,     17,
+    1000,   65519,  65520,  65535,  65536, /* one chunk */
+    65537,  65552,  65553,  131071, 131072,
+    131073, 131088, 196608, 196609, 200000, /* two, three and four */
 };
 #define FILES_HERE (sizeof lengths / sizeof *lengths)
 static struct file files[FILES_HERE];
@@ -153,10 +161,13 @@ static struct file sealed(size_t text_len) {
     size_t room = agefile_sealed_len(by_pass(), text_len), stanzas;
     struct file made = {malloc(text_len + 1), malloc(room), {0}, text_len, 0, 0};
     uint32_t work;
-    if (made.text == NULL || made.bytes == NULL) exit(2);
+    if (made.text == NULL || made.bytes == NULL)
+        exit(2);
     randomize(made.text, text_len);
-    if (agefile_encrypt(by_pass(), made.text, text_len, made.bytes, room, &made.len) != 0) exit(2);
-    if (agefile_header(made.bytes, made.len, &made.front, &stanzas, &work) != 0) exit(2);
+    if (agefile_encrypt(by_pass(), made.text, text_len, made.bytes, room, &made.len) != 0)
+        exit(2);
+    if (agefile_header(made.bytes, made.len, &made.front, &stanzas, &work) != 0)
+        exit(2);
     made.front += NONCE;
     memcpy(made.key, noise, sizeof made.key);
     return made;
@@ -167,13 +178,12 @@ static struct file sealed(size_t text_len) {
 static uint8_t bytes[MOST + AGEFILE_BLOCK], spare[AGEFILE_BLOCK];
 static size_t len;
 
-static size_t least(size_t a, size_t b) {
-    return a < b ? a : b;
-}
+static size_t least(size_t a, size_t b) { return a < b ? a : b; }
 
 /* Puts bytes in the place of others. */
 static void splice(size_t at, size_t gone, const uint8_t *more, size_t count) {
-    if (at > len || len + count > MOST) return;
+    if (at > len || len + count > MOST)
+        return;
     gone = least(gone, len - at);
     memcpy(spare, more, count);
     memmove(bytes + at + count, bytes + at + gone, len - at - gone);
@@ -185,10 +195,14 @@ static void splice(size_t at, size_t gone, const uint8_t *more, size_t count) {
 static size_t place(const struct file *of) {
     size_t edge = of->front + below(4) * AGEFILE_BLOCK + below(41);
     switch (next() % 4) {
-    case 0: return below(len + 1);
-    case 1: return least(len, below(of->front + 1));
-    case 2: return least(len, edge < 20 ? 0 : edge - 20);
-    default: return len - least(len, below(40));
+    case 0:
+        return below(len + 1);
+    case 1:
+        return least(len, below(of->front + 1));
+    case 2:
+        return least(len, edge < 20 ? 0 : edge - 20);
+    default:
+        return len - least(len, below(40));
     }
 }
 
@@ -202,13 +216,16 @@ static size_t some_block(const struct file *of, size_t *size) {
 
 static void change(const struct file *of) {
     for (size_t left = 1 + below(8); left > 0 && len > 0; left--)
-        bytes[least(len - 1, place(of))] ^= (uint8_t)(next() % 4 ? (size_t)1 << below(8) : 1 + below(255));
+        bytes[least(len - 1, place(of))] ^=
+            (uint8_t)(next() % 4 ? (size_t)1 << below(8) : 1 + below(255));
 }
 
 static void swap(const struct file *of) {
     static uint8_t first[AGEFILE_BLOCK], second[AGEFILE_BLOCK];
-    size_t first_size, second_size, a = some_block(of, &first_size), b = some_block(of, &second_size);
-    if (a >= b) return;
+    size_t first_size, second_size, a = some_block(of, &first_size),
+                                    b = some_block(of, &second_size);
+    if (a >= b)
+        return;
     memcpy(first, bytes + a, first_size);
     memcpy(second, bytes + b, second_size);
     splice(b, second_size, first, first_size);
@@ -228,7 +245,8 @@ static void take_out(const struct file *of) {
 /* a block of another file, in the place of one or before it */
 static void graft(const struct file *of) {
     const struct file *from = &files[below(FILES_HERE)];
-    size_t size, at = some_block(of, &size), blocks = (from->len - from->front + AGEFILE_BLOCK - 1) / AGEFILE_BLOCK;
+    size_t size, at = some_block(of, &size),
+                 blocks = (from->len - from->front + AGEFILE_BLOCK - 1) / AGEFILE_BLOCK;
     size_t other = from->front + below(blocks) * AGEFILE_BLOCK;
     splice(at, next() % 4 ? size : 0, from->bytes + other, least(AGEFILE_BLOCK, from->len - other));
 }
@@ -238,10 +256,17 @@ static void put_in(size_t at) {
     uint8_t more[80];
     size_t count = 1 + below(sizeof more);
     switch (next() % 4) {
-    case 0: memcpy(more, files[below(FILES_HERE)].bytes + below(80), sizeof more); break;
-    case 1: randomize(more, sizeof more); break;
-    case 2: memset(more, 0, sizeof more); break;
-    default: memset(more, '\n', sizeof more), count = 1 + count % 3;
+    case 0:
+        memcpy(more, files[below(FILES_HERE)].bytes + below(80), sizeof more);
+        break;
+    case 1:
+        randomize(more, sizeof more);
+        break;
+    case 2:
+        memset(more, 0, sizeof more);
+        break;
+    default:
+        memset(more, '\n', sizeof more), count = 1 + count % 3;
     }
     splice(at, 0, more, count);
 }
@@ -249,16 +274,35 @@ static void put_in(size_t at) {
 static void damage_once(const struct file *of) {
     uint8_t zeros[40] = {0};
     switch (next() % 10) {
-    case 0: len = place(of); break;
-    case 1: len = least(len, of->front + below(4) * AGEFILE_BLOCK); break;
-    case 2: change(of); break;
-    case 3: swap(of); break;
-    case 4: repeat(of); break;
-    case 5: take_out(of); break;
-    case 6: graft(of); break;
-    case 7: put_in(below(of->front)); break;
-    case 8: put_in(next() % 2 ? len : place(of)); break;
-    default: splice(place(of), below(sizeof zeros), zeros, below(sizeof zeros));
+    case 0:
+        len = place(of);
+        break;
+    case 1:
+        len = least(len, of->front + below(4) * AGEFILE_BLOCK);
+        break;
+    case 2:
+        change(of);
+        break;
+    case 3:
+        swap(of);
+        break;
+    case 4:
+        repeat(of);
+        break;
+    case 5:
+        take_out(of);
+        break;
+    case 6:
+        graft(of);
+        break;
+    case 7:
+        put_in(below(of->front));
+        break;
+    case 8:
+        put_in(next() % 2 ? len : place(of));
+        break;
+    default:
+        splice(place(of), below(sizeof zeros), zeros, below(sizeof zeros));
     }
 }
 
@@ -275,7 +319,8 @@ static int is_undamaged(const struct file *of) {
 static void damage(const struct file *of) {
     undamaged(of);
     do
-        for (size_t left = 1 + (next() % 4 == 0) + (next() % 16 == 0); left > 0; left--) damage_once(of);
+        for (size_t left = 1 + (next() % 4 == 0) + (next() % 16 == 0); left > 0; left--)
+            damage_once(of);
     while (is_undamaged(of));
 }
 
@@ -289,10 +334,13 @@ struct wanted {
 static struct wanted wanted(const struct file *of) {
     struct wanted it = {0, is_undamaged(of), 0};
     it.opens = len >= of->front && memcmp(bytes, of->bytes, of->front - NONCE) == 0;
-    if (!it.opens || memcmp(bytes + of->front - NONCE, of->bytes + of->front - NONCE, NONCE) != 0) return it;
+    if (!it.opens || memcmp(bytes + of->front - NONCE, of->bytes + of->front - NONCE, NONCE) != 0)
+        return it;
     for (size_t at = of->front; at < len && at < of->len; at += AGEFILE_BLOCK) {
         size_t size = least(AGEFILE_BLOCK, len - at);
-        if (size != least(AGEFILE_BLOCK, of->len - at) || memcmp(bytes + at, of->bytes + at, size) != 0) break;
+        if (size != least(AGEFILE_BLOCK, of->len - at) ||
+            memcmp(bytes + at, of->bytes + at, size) != 0)
+            break;
         it.text_len += size - TAG;
     }
     return it;
@@ -308,62 +356,77 @@ static int header_is_unchecked;
 /* Gives a decoder a block or, as the file ends, what is left of one. */
 typedef int reading(const uint8_t *, size_t, int, uint8_t *, size_t, size_t *);
 
-static int reads(const uint8_t *at, size_t size, int is_end, uint8_t *out, size_t room, size_t *written) {
+static int reads(const uint8_t *at, size_t size, int is_end, uint8_t *out, size_t room,
+                 size_t *written) {
     size_t n;
     int answer = agefile_decode(decoder, at, size, out, room, written);
-    if (answer || !is_end) return answer;
+    if (answer || !is_end)
+        return answer;
     n = *written;
     answer = agefile_decode_end(decoder, out + n, room - n, written);
     *written += n;
     return answer;
 }
 
-static int ignores_end(const uint8_t *at, size_t size, int is_end, uint8_t *out, size_t room, size_t *written) {
+static int ignores_end(const uint8_t *at, size_t size, int is_end, uint8_t *out, size_t room,
+                       size_t *written) {
     int answer = reads(at, size, is_end, out, room, written);
     return is_end ? 0 : answer;
 }
 
-static int takes_cut(const uint8_t *at, size_t size, int is_end, uint8_t *out, size_t room, size_t *written) {
+static int takes_cut(const uint8_t *at, size_t size, int is_end, uint8_t *out, size_t room,
+                     size_t *written) {
     int answer = reads(at, size, is_end, out, room, written);
     return is_end && answer == AGEFILE_TRUNCATED ? 0 : answer;
 }
 
-static int refuses_end(const uint8_t *at, size_t size, int is_end, uint8_t *out, size_t room, size_t *written) {
+static int refuses_end(const uint8_t *at, size_t size, int is_end, uint8_t *out, size_t room,
+                       size_t *written) {
     int answer = reads(at, size, is_end, out, room, written);
     return is_end && answer == 0 && chunk > 0 ? AGEFILE_CHUNK_DAMAGED : answer;
 }
 
-static int skips_block(const uint8_t *at, size_t size, int is_end, uint8_t *out, size_t room, size_t *written) {
+static int skips_block(const uint8_t *at, size_t size, int is_end, uint8_t *out, size_t room,
+                       size_t *written) {
     int last, answer = reads(at, size, is_end, out, room, written);
-    if (answer != AGEFILE_CHUNK_DAMAGED || is_end) return answer;
-    if (agefile_open_at(decoder, chunk, at, size, out, room, written, &last) != 0) *written = 0;
+    if (answer != AGEFILE_CHUNK_DAMAGED || is_end)
+        return answer;
+    if (agefile_open_at(decoder, chunk, at, size, out, room, written, &last) != 0)
+        *written = 0;
     return 0;
 }
 
-static int any_order(const uint8_t *at, size_t size, int is_end, uint8_t *out, size_t room, size_t *written) {
+static int any_order(const uint8_t *at, size_t size, int is_end, uint8_t *out, size_t room,
+                     size_t *written) {
     int last, answer = reads(at, size, is_end, out, room, written);
     for (uint64_t other = 0; answer == AGEFILE_CHUNK_DAMAGED && !is_end && other < 5; other++)
-        if (agefile_open_at(decoder, other, at, size, out, room, written, &last) == 0) answer = 0;
+        if (agefile_open_at(decoder, other, at, size, out, room, written, &last) == 0)
+            answer = 0;
     return answer;
 }
 
-static int writes_after(const uint8_t *at, size_t size, int is_end, uint8_t *out, size_t room, size_t *written) {
+static int writes_after(const uint8_t *at, size_t size, int is_end, uint8_t *out, size_t room,
+                        size_t *written) {
     int answer = reads(at, size, is_end, out, room, written);
-    if (answer == AGEFILE_CHUNK_DAMAGED) out[room - 1]++;
+    if (answer == AGEFILE_CHUNK_DAMAGED)
+        out[room - 1]++;
     return answer;
 }
 
-static int forgets(const uint8_t *at, size_t size, int is_end, uint8_t *out, size_t room, size_t *written) {
+static int forgets(const uint8_t *at, size_t size, int is_end, uint8_t *out, size_t room,
+                   size_t *written) {
     static int turns;
     int answer = reads(at, size, is_end, out, room, written);
     size_t none;
-    if (answer == AGEFILE_CHUNK_DAMAGED && ++turns % 3 == 0 && agefile_decoder_begin(decoder, agefile_file_key(now->key)) == 0
-        && agefile_decode(decoder, now->bytes, now->front, NULL, 0, &none) != 0)
+    if (answer == AGEFILE_CHUNK_DAMAGED && ++turns % 3 == 0 &&
+        agefile_decoder_begin(decoder, agefile_file_key(now->key)) == 0 &&
+        agefile_decode(decoder, now->bytes, now->front, NULL, 0, &none) != 0)
         exit(2);
     return answer;
 }
 
-static int reads_past(const uint8_t *at, size_t size, int is_end, uint8_t *out, size_t room, size_t *written) {
+static int reads_past(const uint8_t *at, size_t size, int is_end, uint8_t *out, size_t room,
+                      size_t *written) {
     int answer = reads(at, size, is_end, out, room, written);
     return is_end && ((const volatile uint8_t *)at)[size] == 0 && answer == 0 ? 0 : answer;
 }
@@ -373,9 +436,11 @@ static const struct flaw {
     reading *read;
     int header_is_unchecked;
 } flaws[] = {
-    {"ignores-end", ignores_end, 0}, {"takes-cut", takes_cut, 0},       {"refuses-end", refuses_end, 0},
-    {"skips-block", skips_block, 0}, {"any-order", any_order, 0},       {"writes-after", writes_after, 0},
-    {"forgets-fault", forgets, 0},   {"reads-past", reads_past, 0},     {"unchecked-header", reads, 1},
+    {"ignores-end", ignores_end, 0}, {"takes-cut", takes_cut, 0},
+    {"refuses-end", refuses_end, 0}, {"skips-block", skips_block, 0},
+    {"any-order", any_order, 0},     {"writes-after", writes_after, 0},
+    {"forgets-fault", forgets, 0},   {"reads-past", reads_past, 0},
+    {"unchecked-header", reads, 1},
 };
 static reading *reader = reads;
 
@@ -385,8 +450,11 @@ static reading *reader = reads;
 static int given(size_t from, size_t to) {
     const uint8_t *front = header_is_unchecked ? now->bytes : bytes;
     size_t n = 0;
-    int answer = from < to ? agefile_decode(decoder, copied(front + from, to - from), to - from, NULL, 0, &n) : 0;
-    if (n != 0) report(AFTER, "the header gives %zu bytes of text", n);
+    int answer =
+        from < to ? agefile_decode(decoder, copied(front + from, to - from), to - from, NULL, 0, &n)
+                  : 0;
+    if (n != 0)
+        report(AFTER, "the header gives %zu bytes of text", n);
     return answer;
 }
 
@@ -397,21 +465,30 @@ static void stays_shut(int answer) {
         size = least(60000, len - at);
         answer = agefile_decode(decoder, copied(bytes + at, size), size, NULL, 0, &n);
     }
-    if (answer == 0) answer = agefile_decode_end(decoder, NULL, 0, &n);
-    if (answer == 0 || n != 0 || agefile_payload_at(decoder) != 0) report(OPENED, "the header of another file: answer %d", answer);
+    if (answer == 0)
+        answer = agefile_decode_end(decoder, NULL, 0, &n);
+    if (answer == 0 || n != 0 || agefile_payload_at(decoder) != 0)
+        report(OPENED, "the header of another file: answer %d", answer);
 }
 
 /* Opens the file's header, perhaps in two parts. */
 static int opens(struct wanted want) {
-    size_t have = header_is_unchecked ? now->front : least(len, now->front), part = next() % 4 == 0 ? below(have + 1) : 0;
-    int answer = agefile_decoder_begin(decoder, next() % 4 ? agefile_file_key(now->key) : by_pass());
-    if (answer == 0) answer = given(0, part);
-    if (answer == 0) answer = given(part, have);
+    size_t have = header_is_unchecked ? now->front : least(len, now->front),
+           part = next() % 4 == 0 ? below(have + 1) : 0;
+    int answer =
+        agefile_decoder_begin(decoder, next() % 4 ? agefile_file_key(now->key) : by_pass());
+    if (answer == 0)
+        answer = given(0, part);
+    if (answer == 0)
+        answer = given(part, have);
     int is_open = answer == 0 && agefile_payload_at(decoder) != 0;
-    if (is_open != want.opens) report(OPENED, "%zu bytes of a file's front of %zu: answer %d", have, now->front, answer);
+    if (is_open != want.opens)
+        report(OPENED, "%zu bytes of a file's front of %zu: answer %d", have, now->front, answer);
     if (is_open && agefile_payload_at(decoder) != now->front)
-        report(OPENED, "payload at %llu, not %zu", (unsigned long long)agefile_payload_at(decoder), now->front);
-    if (!is_open) stays_shut(answer);
+        report(OPENED, "payload at %llu, not %zu", (unsigned long long)agefile_payload_at(decoder),
+               now->front);
+    if (!is_open)
+        stays_shut(answer);
     return is_open && want.opens;
 }
 
@@ -422,23 +499,29 @@ static int called(const uint8_t *from, size_t size, int is_end, size_t *got) {
     memset(out, UNTOUCHED, room);
     int answer = reader(copied(from, size), size, is_end, out, room, &written);
     if (answer != 0) {
-        if (written != 0 || !is_untouched(out, room)) report(AFTER, "answer %d, and %zu bytes or more were written", answer, written);
+        if (written != 0 || !is_untouched(out, room))
+            report(AFTER, "answer %d, and %zu bytes or more were written", answer, written);
         return answer;
     }
-    if (written > room || written > now->text_len - *got || memcmp(out, now->text + *got, written) != 0)
+    if (written > room || written > now->text_len - *got ||
+        memcmp(out, now->text + *got, written) != 0)
         report(TEXT, "%zu bytes after %zu aren't the text", written, *got);
-    else if (!is_untouched(out + written, room - written)) report(TEXT, "bytes after the text were written");
+    else if (!is_untouched(out + written, room - written))
+        report(TEXT, "bytes after the text were written");
     *got = written > now->text_len - *got ? now->text_len : *got + written;
     return 0;
 }
 
-/* A call without room for its text, which changes nothing, so that what comes after it is as if it weren't. */
+/* A call without room for its text, which changes nothing, so that what comes after it is as if it
+ * weren't. */
 static void misuse(void) {
     size_t room = AGEFILE_CHUNK - 1 - below(100), written = 77;
     uint8_t *out = fitted(out_room, room);
     memset(out, UNTOUCHED, room);
-    int answer = agefile_decode(decoder, copied(now->bytes, AGEFILE_BLOCK), AGEFILE_BLOCK, out, room, &written);
-    if (answer != AGEFILE_NO_ROOM || written != 0 || !is_untouched(out, room)) report(AFTER, "a call without room: answer %d", answer);
+    int answer = agefile_decode(decoder, copied(now->bytes, AGEFILE_BLOCK), AGEFILE_BLOCK, out,
+                                room, &written);
+    if (answer != AGEFILE_NO_ROOM || written != 0 || !is_untouched(out, room))
+        report(AFTER, "a call without room: answer %d", answer);
 }
 
 /* Calls after a fault, with blocks that would be right: each has to return that fault again. */
@@ -448,21 +531,27 @@ static void stays(int fault, size_t got) {
     for (size_t left = 4; left > 0; left--) {
         size_t right = chunk < blocks ? (size_t)chunk : 0, at = now->front + right * AGEFILE_BLOCK;
         int is_end = blocks == 0 || next() % 3 == 0;
-        if (is_end) at = now->front + blocks * AGEFILE_BLOCK;
+        if (is_end)
+            at = now->front + blocks * AGEFILE_BLOCK;
         int answer = called(now->bytes + at, is_end ? now->len - at : AGEFILE_BLOCK, is_end, &got);
         if (answer != fault || agefile_fault_chunk(decoder) != of || got != was)
-            report(STAYS, "after fault %d of chunk %lld came %d, of %lld", fault, (long long)of, answer, (long long)agefile_fault_chunk(decoder));
+            report(STAYS, "after fault %d of chunk %lld came %d, of %lld", fault, (long long)of,
+                   answer, (long long)agefile_fault_chunk(decoder));
     }
 }
 
 /* Calls after the end: only another end without bytes may return 0. */
 static void ends(size_t got) {
     size_t was = got;
-    if (next() % 2 && called(bytes, 0, 1, &got) != 0) report(STAYS, "a second end isn't 0");
+    if (next() % 2 && called(bytes, 0, 1, &got) != 0)
+        report(STAYS, "a second end isn't 0");
     size_t size = next() % 2 ? AGEFILE_BLOCK : 1 + below(AGEFILE_BLOCK - 1);
-    int answer = called(now->bytes, least(size, now->len), size != AGEFILE_BLOCK || size > now->len, &got);
-    if (answer != AGEFILE_TRAILING || got != was) report(STAYS, "after the end came %d", answer);
-    else stays(AGEFILE_TRAILING, got);
+    int answer =
+        called(now->bytes, least(size, now->len), size != AGEFILE_BLOCK || size > now->len, &got);
+    if (answer != AGEFILE_TRAILING || got != was)
+        report(STAYS, "after the end came %d", answer);
+    else
+        stays(AGEFILE_TRAILING, got);
 }
 
 static long headers_open, with_text, with_fault[23];
@@ -473,11 +562,13 @@ static void read_file(void) {
     size_t got = 0, at, size;
     int answer;
     chunk = 0;
-    if (!opens(want)) return;
+    if (!opens(want))
+        return;
     headers_open++;
     at = now->front;
     do {
-        if (next() % 16 == 0 && now->len >= AGEFILE_BLOCK) misuse();
+        if (next() % 16 == 0 && now->len >= AGEFILE_BLOCK)
+            misuse();
         size = least(AGEFILE_BLOCK, len - at);
         answer = called(bytes + at, size, size < AGEFILE_BLOCK, &got);
         at += size;
@@ -485,33 +576,45 @@ static void read_file(void) {
     } while (answer == 0 && size == AGEFILE_BLOCK);
     with_text += got > 0;
     with_fault[answer < 23 ? answer : 0]++;
-    if (got != want.text_len) report(TEXT, "%zu bytes of text came, not %zu", got, want.text_len);
-    if ((answer == 0) != want.whole) report(WHOLE, "the end returned %d", answer);
-    if (answer != 0 && agefile_fault_chunk(decoder) != (answer == AGEFILE_TRAILING ? UINT64_MAX : chunk)) report(WHOLE, "the fault names another chunk");
-    if (answer != 0) stays(answer, got);
-    else ends(got);
+    if (got != want.text_len)
+        report(TEXT, "%zu bytes of text came, not %zu", got, want.text_len);
+    if ((answer == 0) != want.whole)
+        report(WHOLE, "the end returned %d", answer);
+    if (answer != 0 &&
+        agefile_fault_chunk(decoder) != (answer == AGEFILE_TRAILING ? UINT64_MAX : chunk))
+        report(WHOLE, "the fault names another chunk");
+    if (answer != 0)
+        stays(answer, got);
+    else
+        ends(got);
 }
 
 static const struct flaw *flaw_of(const char *name) {
     for (size_t i = 0; i < sizeof flaws / sizeof *flaws; i++)
-        if (strcmp(flaws[i].name, name) == 0) return &flaws[i];
+        if (strcmp(flaws[i].name, name) == 0)
+            return &flaws[i];
     fprintf(stderr, "usage: damage [FILES [SEED [FLAW]]], a FLAW being one of");
-    for (size_t i = 0; i < sizeof flaws / sizeof *flaws; i++) fprintf(stderr, " %s", flaws[i].name);
+    for (size_t i = 0; i < sizeof flaws / sizeof *flaws; i++)
+        fprintf(stderr, " %s", flaws[i].name);
     fputc('\n', stderr);
     exit(2);
 }
 
-/* Prepares the files and the memory. The files are the same for all seeds, so that the seed of one file is enough to make it again. */
+/* Prepares the files and the memory. The files are the same for all seeds, so that the seed of one
+ * file is enough to make it again. */
 static void prepare(void) {
     struct sigaction action;
     memset(&action, 0, sizeof action);
     action.sa_handler = on_fault;
-    if (sigaction(SIGSEGV, &action, NULL) != 0) exit(2);
+    if (sigaction(SIGSEGV, &action, NULL) != 0)
+        exit(2);
     file_seed = 1;
-    for (size_t i = 0; i < FILES_HERE; i++) files[i] = sealed(lengths[i]);
+    for (size_t i = 0; i < FILES_HERE; i++)
+        files[i] = sealed(lengths[i]);
     given_room = room_of(MOST + AGEFILE_BLOCK);
     out_room = room_of(AGEFILE_CHUNK + 100);
-    if (agefile_decoder_new(&decoder, by_pass()) != 0) exit(2);
+    if (agefile_decoder_new(&decoder, by_pass()) != 0)
+        exit(2);
 }
 
 /* Damages and reads this many files, and now and then reads one as it is. */
@@ -528,9 +631,11 @@ static void read_files(long count) {
         damage(now);
         read_file();
     }
-    printf("files: %ld damaged, %ld as they were; headers opened: %ld, with a text: %ld; faults", count, whole, headers_open, with_text);
+    printf("files: %ld damaged, %ld as they were; headers opened: %ld, with a text: %ld; faults",
+           count, whole, headers_open, with_text);
     for (int fault = 17; fault < 23; fault++)
-        if (with_fault[fault]) printf(" %d: %ld", fault, with_fault[fault]);
+        if (with_fault[fault])
+            printf(" %d: %ld", fault, with_fault[fault]);
     putchar('\n');
 }
 

@@ -1,5 +1,6 @@
-/* A header made by hand, whose stanza asks for scrypt at work factor 22, which takes 4 GiB. A limit of 22 leads to a try, whose memory
- * is refused here: 28. A lower limit has to lead to 11, before any memory is asked for that a header of this size doesn't need.
+/* A header made by hand, whose stanza asks for scrypt at work factor 22, which takes 4 GiB. A limit
+ * of 22 leads to a try, whose memory is refused here: 28. A lower limit has to lead to 11, before
+ * any memory is asked for that a header of this size doesn't need.
  *
  * usage: work
  */
@@ -19,12 +20,11 @@ struct tried {
 static char nowhere;
 static size_t most;
 
-static void *none_or(void *at) {
-    return at != NULL ? at : &nowhere;
-}
+static void *none_or(void *at) { return at != NULL ? at : &nowhere; }
 
 static int is_refused(size_t size) {
-    if (size > most) most = size;
+    if (size > most)
+        most = size;
     return size > FEW;
 }
 
@@ -39,13 +39,12 @@ struct tried rattle_realloc(void *at, size_t kept, size_t size, size_t align) {
     return (struct tried){at != NULL, none_or(at)};
 }
 
-void rattle_dealloc(void *at) {
-    free(at);
-}
+void rattle_dealloc(void *at) { free(at); }
 
 #define ZEROS "AAAAAAAAAAAAAAAAAAAAAAAAAAAAAAAAAAAAAAAAAAA\n"
 
-static const char front[] = "age-encryption.org/v1\n-> scrypt AAAAAAAAAAAAAAAAAAAAAA 22\n" ZEROS "--- " ZEROS "sixteen bytes...";
+static const char front[] = "age-encryption.org/v1\n-> scrypt AAAAAAAAAAAAAAAAAAAAAA 22\n" ZEROS
+                            "--- " ZEROS "sixteen bytes...";
 
 static int is_answered(uint32_t limit, int expected) {
     agefile_key key = agefile_passphrase("pw", 2);
@@ -54,7 +53,8 @@ static int is_answered(uint32_t limit, int expected) {
     key.work = limit;
     most = 0;
     int answer = agefile_decoder_new(&it, key);
-    if (answer == 0) answer = agefile_decode(it, front, sizeof front - 1, NULL, 0, &n);
+    if (answer == 0)
+        answer = agefile_decode(it, front, sizeof front - 1, NULL, 0, &n);
     int right = answer == expected && n == 0 && (most > FEW) == (expected == AGEFILE_MEMORY);
     printf("limit %u: answer %d, at most %zu bytes at once\n", limit, answer, most);
     agefile_decoder_free(it);
@@ -62,7 +62,8 @@ static int is_answered(uint32_t limit, int expected) {
 }
 
 int main(void) {
-    int passed = is_answered(0, 28) + is_answered(22, 28) + is_answered(21, 11) + is_answered(1, 11);
+    int passed =
+        is_answered(0, 28) + is_answered(22, 28) + is_answered(21, 11) + is_answered(1, 11);
     printf("%d passed, %d failed\n", passed, 4 - passed);
     return passed != 4;
 }

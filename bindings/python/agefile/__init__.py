@@ -57,8 +57,27 @@ from ._reader import AgeReader, Chunks
 from ._salvage import Salvage, salvage
 from ._writer import AgeWriter, TextWriter
 
-__all__ = ["open", "encrypt", "decrypt", "inspect", "Inspection", "Stanza", "salvage", "Salvage", "identities_in", "AgeError", "WrongKey",
-           "NotWhole", "Truncated", "WorkTooHigh", "OutOfMemory", "AgeReader", "AgeWriter", "Decryptor", "Encryptor"]
+__all__ = [
+    "open",
+    "encrypt",
+    "decrypt",
+    "inspect",
+    "Inspection",
+    "Stanza",
+    "salvage",
+    "Salvage",
+    "identities_in",
+    "AgeError",
+    "WrongKey",
+    "NotWhole",
+    "Truncated",
+    "WorkTooHigh",
+    "OutOfMemory",
+    "AgeReader",
+    "AgeWriter",
+    "Decryptor",
+    "Encryptor",
+]
 __version__ = "2.0.0"
 # release/build replaces it by the commit that it was made from, as in age_tool.
 __build__ = "(not a release)"
@@ -99,42 +118,97 @@ def _opened(file: Any, mode: str) -> tuple[Any, bool]:
 
 
 @overload
-def open(file: Path | Source, mode: Literal["r", "rb"] = "rb", *, passphrase: str | Buffer | None = None, file_key: Buffer | None = None,
-         shared: tuple[Buffer, Buffer] | None = None, identity: str | Iterable[str] | None = None, max_work: int = 22) -> AgeReader:
+def open(
+    file: Path | Source,
+    mode: Literal["r", "rb"] = "rb",
+    *,
+    passphrase: str | Buffer | None = None,
+    file_key: Buffer | None = None,
+    shared: tuple[Buffer, Buffer] | None = None,
+    identity: str | Iterable[str] | None = None,
+    max_work: int = 22,
+) -> AgeReader:
     ...
 
 
 @overload
-def open(file: Path | Sink, mode: Literal["w", "x", "wb", "xb"], *, passphrase: str | Buffer | None = None,
-         recipient: str | Iterable[str] | None = None, work: int = 18) -> AgeWriter:
+def open(
+    file: Path | Sink,
+    mode: Literal["w", "x", "wb", "xb"],
+    *,
+    passphrase: str | Buffer | None = None,
+    recipient: str | Iterable[str] | None = None,
+    work: int = 18,
+) -> AgeWriter:
     ...
 
 
 @overload
-def open(file: Path | Source, mode: Literal["rt"], *, passphrase: str | Buffer | None = None, file_key: Buffer | None = None,
-         shared: tuple[Buffer, Buffer] | None = None, identity: str | Iterable[str] | None = None, max_work: int = 22,
-         encoding: str | None = None, errors: str | None = None, newline: str | None = None) -> io.TextIOWrapper:
+def open(
+    file: Path | Source,
+    mode: Literal["rt"],
+    *,
+    passphrase: str | Buffer | None = None,
+    file_key: Buffer | None = None,
+    shared: tuple[Buffer, Buffer] | None = None,
+    identity: str | Iterable[str] | None = None,
+    max_work: int = 22,
+    encoding: str | None = None,
+    errors: str | None = None,
+    newline: str | None = None,
+) -> io.TextIOWrapper:
     ...
 
 
 @overload
-def open(file: Path | Sink, mode: Literal["wt", "xt"], *, passphrase: str | Buffer | None = None, recipient: str | Iterable[str] | None = None,
-         work: int = 18, encoding: str | None = None, errors: str | None = None, newline: str | None = None) -> io.TextIOWrapper:
+def open(
+    file: Path | Sink,
+    mode: Literal["wt", "xt"],
+    *,
+    passphrase: str | Buffer | None = None,
+    recipient: str | Iterable[str] | None = None,
+    work: int = 18,
+    encoding: str | None = None,
+    errors: str | None = None,
+    newline: str | None = None,
+) -> io.TextIOWrapper:
     ...
 
 
 @overload
-def open(file: Path | Source | Sink, mode: str, *, passphrase: str | Buffer | None = None, file_key: Buffer | None = None,
-         shared: tuple[Buffer, Buffer] | None = None, identity: str | Iterable[str] | None = None,
-         recipient: str | Iterable[str] | None = None, work: int = 18, max_work: int = 22, encoding: str | None = None,
-         errors: str | None = None, newline: str | None = None) -> AgeReader | AgeWriter | io.TextIOWrapper:
+def open(
+    file: Path | Source | Sink,
+    mode: str,
+    *,
+    passphrase: str | Buffer | None = None,
+    file_key: Buffer | None = None,
+    shared: tuple[Buffer, Buffer] | None = None,
+    identity: str | Iterable[str] | None = None,
+    recipient: str | Iterable[str] | None = None,
+    work: int = 18,
+    max_work: int = 22,
+    encoding: str | None = None,
+    errors: str | None = None,
+    newline: str | None = None,
+) -> AgeReader | AgeWriter | io.TextIOWrapper:
     ...
 
 
-def open(file: Path | Source | Sink, mode: str = "rb", *, passphrase: str | Buffer | None = None, file_key: Buffer | None = None,
-         shared: tuple[Buffer, Buffer] | None = None, identity: str | Iterable[str] | None = None,
-         recipient: str | Iterable[str] | None = None, work: int = 18, max_work: int = 22, encoding: str | None = None,
-         errors: str | None = None, newline: str | None = None) -> AgeReader | AgeWriter | io.TextIOWrapper:
+def open(
+    file: Path | Source | Sink,
+    mode: str = "rb",
+    *,
+    passphrase: str | Buffer | None = None,
+    file_key: Buffer | None = None,
+    shared: tuple[Buffer, Buffer] | None = None,
+    identity: str | Iterable[str] | None = None,
+    recipient: str | Iterable[str] | None = None,
+    work: int = 18,
+    max_work: int = 22,
+    encoding: str | None = None,
+    errors: str | None = None,
+    newline: str | None = None,
+) -> AgeReader | AgeWriter | io.TextIOWrapper:
     """Opens an age file, which is a path or a binary file object: "rb" to read it, "wb" (or "xb", which refuses an existing file) to
     write it; "rt", "wt" and "xt" the same as text. A file object is left open.
 
@@ -162,13 +236,23 @@ def open(file: Path | Source | Sink, mode: str = "rb", *, passphrase: str | Buff
         raise ValueError(f"mode is rb, wb, xb, rt, wt or xt, not {mode!r}")
     is_text, mark = mode.endswith("t"), b""
     if is_text:
-        tried = io.TextIOWrapper(io.BytesIO(), encoding, errors, newline)  # which says what of these can't be
-        mark = _MARKS.get(codecs.lookup(tried.encoding).name, b"")  # (that of "locale" has another name, which codecs knows)
+        tried = io.TextIOWrapper(
+            io.BytesIO(), encoding, errors, newline
+        )  # which says what of these can't be
+        mark = _MARKS.get(
+            codecs.lookup(tried.encoding).name, b""
+        )  # (that of "locale" has another name, which codecs knows)
     elif (encoding, errors, newline) != (None, None, None):
         raise ValueError("encoding, errors and newline are for text alone")
     if mode[0] == "r" and recipient is not None:
         raise ValueError("recipient is for writing alone")
-    see_one(passphrase=passphrase, file_key=file_key, shared=shared, identity=identity, recipient=recipient)
+    see_one(
+        passphrase=passphrase,
+        file_key=file_key,
+        shared=shared,
+        identity=identity,
+        recipient=recipient,
+    )
     work_factor("work", work)
     work_factor("max_work", max_work)
     # a file that can't be begun is left unchanged

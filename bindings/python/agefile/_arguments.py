@@ -6,6 +6,7 @@ from typing import TYPE_CHECKING, Any, Union
 
 if TYPE_CHECKING:
     from _typeshed import ReadableBuffer
+
     Buffer = ReadableBuffer
 else:
     Buffer = Union[bytes, bytearray, memoryview]
@@ -46,7 +47,11 @@ def raw(name: str, given: Any, kind: str = "bytes") -> bytes:
 def secret(passphrase: Any) -> bytes:
     """The bytes of a passphrase: those of a str are its UTF-8."""
     try:
-        held = passphrase.encode() if isinstance(passphrase, str) else raw("passphrase", passphrase, "a str or bytes")
+        held = (
+            passphrase.encode()
+            if isinstance(passphrase, str)
+            else raw("passphrase", passphrase, "a str or bytes")
+        )
     except UnicodeEncodeError:  # which would hold the passphrase
         raise ValueError("passphrase has half of a surrogate pair, which no UTF-8 has") from None
     if not 1 <= len(held) <= PASSPHRASE_MAX:

@@ -8,7 +8,18 @@ from typing import Any, Callable, Iterable, NamedTuple, NoReturn
 
 from ._arguments import KEY, Buffer, key, pair, secret, see_one, work_factor
 from ._keys import Pair, identities_of, pair_of
-from ._library import CHUNK, MAC_MISMATCH, NOWHERE, WRONG_KEY, C, Key, WrongKey, fault_of, made, written
+from ._library import (
+    CHUNK,
+    MAC_MISMATCH,
+    NOWHERE,
+    WRONG_KEY,
+    C,
+    Key,
+    WrongKey,
+    fault_of,
+    made,
+    written,
+)
 
 
 class Alone:
@@ -27,6 +38,7 @@ class Alone:
 
 class HeldKey(NamedTuple):
     """A key of the library, the bytes that it points to, and the identities that stand for it until a header's stanzas are known."""
+
     key: Key
     held: tuple[bytes, ...]
     identities: tuple[str, ...] = ()
@@ -51,8 +63,13 @@ def random_pair() -> Pair:
     return os.urandom(32), os.urandom(32)
 
 
-def key_to_read(passphrase: str | Buffer | None, file_key: Buffer | None, shared: tuple[Buffer, Buffer] | None,
-                identity: str | Iterable[str] | None, max_work: int) -> HeldKey:
+def key_to_read(
+    passphrase: str | Buffer | None,
+    file_key: Buffer | None,
+    shared: tuple[Buffer, Buffer] | None,
+    identity: str | Iterable[str] | None,
+    max_work: int,
+) -> HeldKey:
     """The one key that is given."""
     see_one(passphrase=passphrase, file_key=file_key, shared=shared, identity=identity)
     most = work_factor("max_work", max_work)
@@ -93,7 +110,9 @@ class Encoder:
         weakref.finalize(self, C.agefile_encoder_free, self._it).atexit = False
 
     def encode(self, text: bytes) -> bytes:
-        return made(C.agefile_encode_room(self._it, len(text)), C.agefile_encode, self._it, text, len(text))
+        return made(
+            C.agefile_encode_room(self._it, len(text)), C.agefile_encode, self._it, text, len(text)
+        )
 
     def end(self) -> bytes:
         return made(C.agefile_encode_end_room(self._it), C.agefile_encode_end, self._it)
@@ -101,7 +120,8 @@ class Encoder:
 
 class Decoder:
     """agefile_decoder. By identities it is begun with a random pair, with which the library says what is wrong with the header, or that it has
-    stanzas that an identity may open: then it is begun again with the pair of the one that does, if there is one."""
+    stanzas that an identity may open: then it is begun again with the pair of the one that does, if there is one.
+    """
 
     def __init__(self, key: HeldKey) -> None:
         self._it, self._key, self._front = ctypes.c_void_p(), key, bytearray()
@@ -139,7 +159,9 @@ class Decoder:
         return answer, text
 
     def _decode(self, file: bytes) -> tuple[int, bytes]:
-        return written(C.agefile_decode_room(self._it, len(file)), C.agefile_decode, self._it, file, len(file))
+        return written(
+            C.agefile_decode_room(self._it, len(file)), C.agefile_decode, self._it, file, len(file)
+        )
 
     def _end(self) -> tuple[int, bytes]:
         return written(C.agefile_decode_end_room(self._it), C.agefile_decode_end, self._it)

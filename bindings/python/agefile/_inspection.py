@@ -12,12 +12,14 @@ from ._source import can_seek, some
 
 class Stanza(NamedTuple):
     """What a stanza's first line says: a file for a passphrase has one "scrypt", one for keys of age-keygen an "X25519" for each."""
+
     type: str
     arguments: list[str]
 
 
 class Inspection(NamedTuple):
     """What a file says about itself. Only a key can show whether that is true."""
+
     stanzas: list[Stanza]
     work: int | None  # the work factor, if it is for a passphrase
     header_size: int  # in bytes

@@ -25,10 +25,19 @@ def bech32_decoded(text: str) -> tuple[str, bytes]:
         raise ValueError("a Bech32 text in upper and lower case")
     text = text.lower()
     prefix, _, data = text.rpartition("1")
-    if not prefix or len(data) < 6 or len(text) > 90 or any(not 33 <= ord(it) <= 126 for it in text) or set(data) - set(LETTERS):
+    if (
+        not prefix
+        or len(data) < 6
+        or len(text) > 90
+        or any(not 33 <= ord(it) <= 126 for it in text)
+        or set(data) - set(LETTERS)
+    ):
         raise ValueError("not a Bech32 text")
     values = [LETTERS.index(it) for it in data]
-    if _checksum([*(ord(it) >> 5 for it in prefix), 0, *(ord(it) & 31 for it in prefix), *values]) != 1:
+    if (
+        _checksum([*(ord(it) >> 5 for it in prefix), 0, *(ord(it) & 31 for it in prefix), *values])
+        != 1
+    ):
         raise ValueError("the checksum of a Bech32 text is wrong")
     return prefix, _joined(values[:-6])
 
@@ -46,8 +55,8 @@ def bech32_encoded(prefix: str, held: bytes) -> str:
 def _checksum(values: Iterable[int]) -> int:
     sum_ = 1
     for it in values:
-        top, sum_ = sum_ >> 25, (sum_ & 0x1ffffff) << 5 ^ it
-        for bit, term in enumerate((0x3b6a57b2, 0x26508e6d, 0x1ea119fa, 0x3d4233dd, 0x2a1462b3)):
+        top, sum_ = sum_ >> 25, (sum_ & 0x1FFFFFF) << 5 ^ it
+        for bit, term in enumerate((0x3B6A57B2, 0x26508E6D, 0x1EA119FA, 0x3D4233DD, 0x2A1462B3)):
             sum_ ^= term if top >> bit & 1 else 0
     return sum_
 
@@ -92,7 +101,9 @@ def lines_of(name: str, given: str | Iterable[str]) -> list[str]:
     """The keys or recipients that are given: one, the text of a file of them, the lines of such a file that is open, or several of
     these."""
     if isinstance(given, (bytes, bytearray, memoryview)) or not isinstance(given, Iterable):
-        raise TypeError(f"{name} is a str, several, or a file of them that is open as text, not {type(given).__name__}")
+        raise TypeError(
+            f"{name} is a str, several, or a file of them that is open as text, not {type(given).__name__}"
+        )
     found: list[str] = []
     for it in [given] if isinstance(given, str) else given:
         if not isinstance(it, str):
@@ -114,7 +125,10 @@ def identities_of(given: str | Iterable[str]) -> list[str]:
 def x25519_of(secret: bytes) -> Callable[[bytes], bytes]:
     """X25519 of this secret and a point. Zeros if it is undefined for the point."""
     try:
-        from cryptography.hazmat.primitives.asymmetric.x25519 import X25519PrivateKey, X25519PublicKey
+        from cryptography.hazmat.primitives.asymmetric.x25519 import (
+            X25519PrivateKey,
+            X25519PublicKey,
+        )
     except ImportError as fault:
         raise ImportError("keys of age-keygen need the package cryptography") from fault
     key = X25519PrivateKey.from_private_bytes(secret)  # (which takes longer than what follows)
@@ -130,13 +144,21 @@ def x25519_of(secret: bytes) -> Callable[[bytes], bytes]:
 
 def wrapping_key(secret: bytes, share: bytes, recipient: bytes) -> bytes:
     """The key under which an X25519 stanza holds the file key: 32 bytes of HKDF-SHA256 (RFC 5869)."""
-    return hmac.digest(hmac.digest(share + recipient, secret, "sha256"), b"age-encryption.org/v1/X25519\1", "sha256")
+    return hmac.digest(
+        hmac.digest(share + recipient, secret, "sha256"),
+        b"age-encryption.org/v1/X25519\1",
+        "sha256",
+    )
 
 
 def pair_of(identities: Iterable[str], front: bytes) -> Pair | None:
     """The shared secret and the recipient of the first X25519 stanza that one of these keys opens, of the header that the bytes begin with. (Also
     of one whose secret is zero, which the library refuses.)"""
-    found = [(base64.b64decode(args[len(KIND):] + b"="), body) for args, body in told_of(front)[2] if args.startswith(KIND)]
+    found = [
+        (base64.b64decode(args[len(KIND) :] + b"="), body)
+        for args, body in told_of(front)[2]
+        if args.startswith(KIND)
+    ]
     for identity in identities:
         exchanged = x25519_of(secret_of(identity))
         recipient = exchanged(NINE)

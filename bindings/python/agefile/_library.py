@@ -11,7 +11,15 @@ VERSION = 2_00_00  # major, minor and patch, as AGEFILE_VERSION
 CHUNK = 65_536
 BLOCK = 65_552
 # What it answers, by the names of agefile.h.
-NO_MATCH, WRONG_KEY, MAC_MISMATCH, TRUNCATED, TRAILING, NO_PROCESSOR, CUT_IN_HEADER = 12, 13, 14, 20, 21, 252, 254
+NO_MATCH, WRONG_KEY, MAC_MISMATCH, TRUNCATED, TRAILING, NO_PROCESSOR, CUT_IN_HEADER = (
+    12,
+    13,
+    14,
+    20,
+    21,
+    252,
+    254,
+)
 CUT = (8, 16, 18, TRUNCATED, CUT_IN_HEADER)  # of a file that can only have been cut
 NOWHERE = (1 << 64) - 1  # the chunk of a fault that has none
 
@@ -80,12 +88,18 @@ def again(fault: Exception) -> Exception:
 
 class Key(ctypes.Structure):
     """agefile_key of agefile.h. The bytes that it points to have to stay."""
-    _fields_ = [("kind", ctypes.c_uint32), ("work", ctypes.c_uint32), *((it, ctypes.c_void_p) for it in ("at", "with", "to")),
-                *((it, ctypes.c_size_t) for it in ("len", "with_len"))]
+
+    _fields_ = [
+        ("kind", ctypes.c_uint32),
+        ("work", ctypes.c_uint32),
+        *((it, ctypes.c_void_p) for it in ("at", "with", "to")),
+        *((it, ctypes.c_size_t) for it in ("len", "with_len")),
+    ]
 
 
 class StanzaPlace(ctypes.Structure):
     """agefile_stanza of agefile.h."""
+
     _fields_ = [(it, ctypes.c_size_t) for it in ("args_at", "args_len", "body_at", "body_len")]
 
 
@@ -93,7 +107,11 @@ def _found() -> str:
     """The library's file: the one that AGEFILE_LIBRARY names, else the one beside this package or in it, else that of the release or of
     `bindings/build` in whose folders it is, else one that the loader finds."""
     package = pathlib.Path(__file__).resolve().parent
-    places = [it / name for it in (package, package.parent) for name in ("libagefile.so", "libagefile.so.2")]
+    places = [
+        it / name
+        for it in (package, package.parent)
+        for name in ("libagefile.so", "libagefile.so.2")
+    ]
     if package.parts[-3:-1] == ("share", "age_tool"):
         places.append(package.parents[2] / "lib" / "libagefile.so.2")
     if package.parts[-3:-1] == ("bindings", "python"):
@@ -112,30 +130,59 @@ def _library() -> ctypes.CDLL:
     try:
         library = ctypes.CDLL(name)
     except OSError as fault:
-        raise ImportError(f"no libagefile.so: make it by bindings/build, or let AGEFILE_LIBRARY name it ({fault})") from None
+        raise ImportError(
+            f"no libagefile.so: make it by bindings/build, or let AGEFILE_LIBRARY name it ({fault})"
+        ) from None
     # (before the other calls: an older library may lack some)
     if not fits(library.agefile_version()):
-        raise ImportError(f"{name}: version {library.agefile_version()}, not {VERSION} or a later one that runs what it did")
-    number, long, size, it, text = ctypes.c_int, ctypes.c_uint64, ctypes.c_size_t, ctypes.c_void_p, ctypes.c_char_p
+        raise ImportError(
+            f"{name}: version {library.agefile_version()}, not {VERSION} or a later one that runs what it did"
+        )
+    number, long, size, it, text = (
+        ctypes.c_int,
+        ctypes.c_uint64,
+        ctypes.c_size_t,
+        ctypes.c_void_p,
+        ctypes.c_char_p,
+    )
     given, count, made = [it, size], ctypes.POINTER(size), ctypes.POINTER(it)
     functions: dict[str, list[Any]] = {
-        "passphrase": [Key, it, size], "file_key": [Key, it], "wrapped": [Key, it, *given], "shared": [Key, it, it, it],
-        "encrypt": [number, Key, *given, *given, count], "sealed_len": [size, Key, size],
-        "encoder_new": [number, made, Key], "encode": [number, it, *given, *given, count], "encode_end": [number, it, *given, count],
-        "encode_room": [size, it, size], "encode_end_room": [size, it], "encoder_free": [None, it],
-        "decoder_new": [number, made, Key], "decoder_begin": [number, it, Key], "decode": [number, it, *given, *given, count],
-        "decode_end": [number, it, *given, count], "decode_room": [size, it, size], "decode_end_room": [size, it], "decoder_free": [None, it],
-        "payload_at": [long, it], "fault_chunk": [long, it], "size": [number, it, long, ctypes.POINTER(long)],
+        "passphrase": [Key, it, size],
+        "file_key": [Key, it],
+        "wrapped": [Key, it, *given],
+        "shared": [Key, it, it, it],
+        "encrypt": [number, Key, *given, *given, count],
+        "sealed_len": [size, Key, size],
+        "encoder_new": [number, made, Key],
+        "encode": [number, it, *given, *given, count],
+        "encode_end": [number, it, *given, count],
+        "encode_room": [size, it, size],
+        "encode_end_room": [size, it],
+        "encoder_free": [None, it],
+        "decoder_new": [number, made, Key],
+        "decoder_begin": [number, it, Key],
+        "decode": [number, it, *given, *given, count],
+        "decode_end": [number, it, *given, count],
+        "decode_room": [size, it, size],
+        "decode_end_room": [size, it],
+        "decoder_free": [None, it],
+        "payload_at": [long, it],
+        "fault_chunk": [long, it],
+        "size": [number, it, long, ctypes.POINTER(long)],
         "open_at": [number, it, long, *given, *given, count, ctypes.POINTER(number)],
         "header": [number, *given, count, count, ctypes.POINTER(ctypes.c_uint32)],
         "stanzas": [number, *given, ctypes.POINTER(StanzaPlace), size, count, *given, count],
-        "fault_name": [text, number], "fault_text": [text, number], "fault_kind": [number, number],
+        "fault_name": [text, number],
+        "fault_text": [text, number],
+        "fault_kind": [number, number],
     }
     for function, (result, *arguments) in functions.items():
         call = getattr(library, f"agefile_{function}")
         call.restype, call.argtypes = result, arguments
     if library.agefile_header(None, 0, size(), size(), ctypes.c_uint32()) == NO_PROCESSOR:
-        raise ImportError(f"{name} needs a processor with x86-64-v2 (SSE4.2 and POPCNT), and this one hasn't that")
+        raise ImportError(
+            f"{name} needs a processor with x86-64-v2 (SSE4.2 and POPCNT), and this one hasn't that"
+        )
     return library
 
 
@@ -149,13 +196,20 @@ def address(held: memoryview) -> int:
 
 def told_of(front: bytes) -> tuple[int, int, list[tuple[bytes, bytes]]]:
     """What the header says that these bytes begin with, which nobody has confirmed: its length, the work factor that it demands of a passphrase (0 if
-    none opens it), and of each stanza the arguments, with a space between two of them, and the bytes of the body."""
+    none opens it), and of each stanza the arguments, with a space between two of them, and the bytes of the body.
+    """
     size, count, work = ctypes.c_size_t(), ctypes.c_size_t(), ctypes.c_uint32()
     if (answer := C.agefile_header(front, len(front), size, count, work)) != 0:
         raise fault_of(answer)
     places = (StanzaPlace * count.value)()
     bodies = made(size.value, C.agefile_stanzas, front, len(front), places, len(places), count)
-    stanzas = [(front[it.args_at:it.args_at + it.args_len], bodies[it.body_at:it.body_at + it.body_len]) for it in places]
+    stanzas = [
+        (
+            front[it.args_at : it.args_at + it.args_len],
+            bodies[it.body_at : it.body_at + it.body_len],
+        )
+        for it in places
+    ]
     return size.value, work.value, stanzas
 
 

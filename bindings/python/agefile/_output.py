@@ -42,12 +42,16 @@ def is_one(out: os.stat_result, other: os.stat_result) -> bool:
     device, or to a socket, is never read from it."""
     if stat.S_ISBLK(out.st_mode) and stat.S_ISBLK(other.st_mode):
         return out.st_rdev == other.st_rdev
-    return os.path.samestat(out, other) and (stat.S_ISREG(out.st_mode) or stat.S_ISFIFO(out.st_mode))
+    return os.path.samestat(out, other) and (
+        stat.S_ISREG(out.st_mode) or stat.S_ISFIFO(out.st_mode)
+    )
 
 
 def descriptor_of(path: Any) -> int | None:
     """The descriptor of this process that a path names, as /dev/stdout and /dev/fd/3 do."""
-    path, own = os.fsdecode(path), re.compile(re.escape(os.path.realpath("/proc/self")) + r"(/task/\d+)?/fd")
+    path, own = os.fsdecode(path), re.compile(
+        re.escape(os.path.realpath("/proc/self")) + r"(/task/\d+)?/fd"
+    )
     for _ in range(_LINKS_MAX):
         if not os.path.islink(path):
             return None
@@ -67,7 +71,9 @@ def opened_alone(path: Any, is_new: bool) -> Any:
             raise OSError(errno.EBADF, "it is open for reading alone", path)
         return builtins.open(os.dup(number), "wb")
     how = os.O_WRONLY | os.O_CREAT | (os.O_EXCL if is_new else 0)
-    file = builtins.open(path, "wb", opener=lambda name, _: os.open(name, how | os.O_CLOEXEC, 0o666))
+    file = builtins.open(
+        path, "wb", opener=lambda name, _: os.open(name, how | os.O_CLOEXEC, 0o666)
+    )
     try:
         if stat.S_ISREG(os.fstat(file.fileno()).st_mode):
             lock(file.fileno(), path)
@@ -112,11 +118,15 @@ def replacing(out: str, is_new: bool) -> Iterator[Any]:
         # (one without a name gets this one for a moment: only a file with a name can replace another)
         part = f"{out}.agefile-part" if nameless is None else f"{out}.{os.getpid()}.agefile-part"
         # (what replaces a file that others may not read isn't theirs to read before it does)
-        descriptor = _left_by_a_run(part, 0o666 if mode is None else 0o600) if nameless is None else nameless
+        descriptor = (
+            _left_by_a_run(part, 0o666 if mode is None else 0o600) if nameless is None else nameless
+        )
         file = held.enter_context(builtins.open(descriptor, "wb", buffering=0))
         try:
             yield file
-            if mode is not None and mode != stat.S_IMODE(os.fstat(file.fileno()).st_mode):  # (on FAT only the mount's owner may set even the same one)
+            if mode is not None and mode != stat.S_IMODE(
+                os.fstat(file.fileno()).st_mode
+            ):  # (on FAT only the mount's owner may set even the same one)
                 os.fchmod(file.fileno(), mode)
             reach_disk(file)
             if nameless is not None:
@@ -186,15 +196,22 @@ def _left_by_a_run(part: str, mode: int = 0o666) -> int:
     try:
         descriptor = os.open(part, how | os.O_CREAT | os.O_EXCL, mode)
     except FileExistsError:
-        descriptor, is_new = os.open(part, how | os.O_CREAT, mode), False  # (it may have gone meanwhile)
+        descriptor, is_new = (
+            os.open(part, how | os.O_CREAT, mode),
+            False,
+        )  # (it may have gone meanwhile)
     try:
         found = os.fstat(descriptor)
         # (a new one may have another owner: NFS gives root's to nobody, and FAT has one for all)
-        if not is_new and (not stat.S_ISREG(found.st_mode) or found.st_uid != os.geteuid() or found.st_nlink != 1):
+        if not is_new and (
+            not stat.S_ISREG(found.st_mode) or found.st_uid != os.geteuid() or found.st_nlink != 1
+        ):
             raise FileExistsError(errno.EEXIST, "it isn't a file that an earlier run left", part)
         lock(descriptor, part)
         os.ftruncate(descriptor, 0)
-        if stat.S_IMODE(found.st_mode) & ~mode:  # (the killed run's file may have been for everybody)
+        if (
+            stat.S_IMODE(found.st_mode) & ~mode
+        ):  # (the killed run's file may have been for everybody)
             with contextlib.suppress(PermissionError):  # (on FAT)
                 os.fchmod(descriptor, stat.S_IMODE(found.st_mode) & mode)
         return descriptor

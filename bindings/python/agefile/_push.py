@@ -19,7 +19,9 @@ class _Push(Alone):
     def __init__(self, coder: Any) -> None:
         super().__init__()
         self._coder, self._lock = coder, threading.RLock()
-        self._fault: Exception = OSError("a call failed, was interrupted, or is going on, so that bytes are lost")  # of each call without a coder
+        self._fault: Exception = OSError(
+            "a call failed, was interrupted, or is going on, so that bytes are lost"
+        )  # of each call without a coder
 
     def _call(self, call: Callable[[Any], bytes], is_end: bool = False) -> bytes:
         try:
@@ -46,11 +48,18 @@ class _Push(Alone):
     def __enter__(self: Self) -> Self:
         return self
 
-    def __exit__(self, kind: type[BaseException] | None, value: BaseException | None, trace: TracebackType | None) -> None:
+    def __exit__(
+        self,
+        kind: type[BaseException] | None,
+        value: BaseException | None,
+        trace: TracebackType | None,
+    ) -> None:
         is_unfinished = self._coder is not None and kind is None
         self.close()
         if is_unfinished:
-            raise ValueError("the `with` block ended without finish(): what it gave may not be whole")
+            raise ValueError(
+                "the `with` block ended without finish(): what it gave may not be whole"
+            )
 
 
 class Decryptor(_Push):
@@ -70,8 +79,15 @@ class Decryptor(_Push):
     ...     print(text.update(data[:100]), text.update(data[100:]), text.finish())
     b'' b'' b'a text'"""
 
-    def __init__(self, *, passphrase: str | Buffer | None = None, file_key: Buffer | None = None, shared: tuple[Buffer, Buffer] | None = None,
-                 identity: str | Iterable[str] | None = None, max_work: int = 22) -> None:
+    def __init__(
+        self,
+        *,
+        passphrase: str | Buffer | None = None,
+        file_key: Buffer | None = None,
+        shared: tuple[Buffer, Buffer] | None = None,
+        identity: str | Iterable[str] | None = None,
+        max_work: int = 22,
+    ) -> None:
         super().__init__(Decoder(key_to_read(passphrase, file_key, shared, identity, max_work)))
         self.opened = False
 
@@ -110,7 +126,13 @@ class Encryptor(_Push):
     >>> agefile.decrypt(data, passphrase="pw")
     b'a text'"""
 
-    def __init__(self, *, passphrase: str | Buffer | None = None, recipient: str | Iterable[str] | None = None, work: int = 18) -> None:
+    def __init__(
+        self,
+        *,
+        passphrase: str | Buffer | None = None,
+        recipient: str | Iterable[str] | None = None,
+        work: int = 18,
+    ) -> None:
         super().__init__(Encoder(key_to_write(passphrase, recipient, work)))
 
     def update(self, data: Any, /) -> bytes:

@@ -6,7 +6,18 @@ import threading
 from typing import Any
 
 from ._coders import Decoder, read_header
-from ._library import BLOCK, CHUNK, MAC_MISMATCH, TRAILING, TRUNCATED, AgeError, WrongKey, address, again, fault_of
+from ._library import (
+    BLOCK,
+    CHUNK,
+    MAC_MISMATCH,
+    TRAILING,
+    TRUNCATED,
+    AgeError,
+    WrongKey,
+    address,
+    again,
+    fault_of,
+)
 from ._source import can_seek, filled, read_by, some
 
 MOST = 64  # blocks that are read at once, if a call asks for so many: 4 MiB
@@ -18,7 +29,7 @@ def header_of(file: Any, decoder: Decoder) -> tuple[bytes, bytes]:
     answer, front = read_header(decoder, lambda: some(file, CHUNK))
     if answer != 0:
         raise decoder.fault(answer)
-    return front[:decoder.payload_at], front[decoder.payload_at:]
+    return front[: decoder.payload_at], front[decoder.payload_at :]
 
 
 class Blocks:
@@ -54,12 +65,17 @@ class Chunks(io.RawIOBase):
         super().__init__()
         self._file, self._owned, self.decoder, self._lock = file, owned, decoder, threading.RLock()
         front = memoryview(bytearray(len(header)))
-        if bytes(front[:filled(file, front)]) != header:  # a file that is opened once more has to have this one
+        if (
+            bytes(front[: filled(file, front)]) != header
+        ):  # a file that is opened once more has to have this one
             raise WrongKey(MAC_MISMATCH)
         self.header, rest = (header, b"") if header else header_of(file, decoder)
         self._blocks = Blocks(file, rest)
         self._block, self._text = memoryview(bytearray(BLOCK)), memoryview(bytearray(CHUNK))
-        self._number, self._count = -1, 0  # of the chunk whose plaintext is held, and how long that is
+        self._number, self._count = (
+            -1,
+            0,
+        )  # of the chunk whose plaintext is held, and how long that is
         self._last = -1  # the number of the last chunk, once it was opened
         self._end = -1  # where the plaintext ends, once that is known
         self._place = 0
@@ -70,10 +86,14 @@ class Chunks(io.RawIOBase):
 
     def _open(self, number: int, block: memoryview, out: memoryview) -> int:
         """Opens a chunk by its block, or what the file has of it: how long its plaintext is."""
-        answer, count, is_last = self.decoder.open_at(number, address(block), len(block), address(out))
+        answer, count, is_last = self.decoder.open_at(
+            number, address(block), len(block), address(out)
+        )
         if answer != 0:
             raise fault_of(answer, number)
-        if count < min(CHUNK, self._end - number * CHUNK):  # a writer with the key put a shorter file in its place
+        if count < min(
+            CHUNK, self._end - number * CHUNK
+        ):  # a writer with the key put a shorter file in its place
             raise fault_of(TRUNCATED, number)
         if is_last:
             self._last = number
@@ -91,7 +111,7 @@ class Chunks(io.RawIOBase):
         count = self._open(number, blocks[:BLOCK], room)
         for at in range(BLOCK, len(blocks), BLOCK):
             try:
-                count += self._open(number + at // BLOCK, blocks[at:at + BLOCK], room[count:])
+                count += self._open(number + at // BLOCK, blocks[at : at + BLOCK], room[count:])
             except AgeError:
                 break
         self._place += count
@@ -111,7 +131,9 @@ class Chunks(io.RawIOBase):
         answer, size = self.decoder.size(payload + len(self.header))
         if answer != 0:
             raise fault_of(answer, payload // BLOCK)
-        last = max(0, size - 1) // CHUNK  # (a file may say that it is longer than it is, so that `size` proves nothing)
+        last = (
+            max(0, size - 1) // CHUNK
+        )  # (a file may say that it is longer than it is, so that `size` proves nothing)
         self._hold(last, self._blocks.read(last, self._block))
         if self._last != last:
             raise fault_of(TRUNCATED, last + 1)
@@ -135,7 +157,10 @@ class Chunks(io.RawIOBase):
             raise ValueError("the file is closed")
 
     def readinto(self, room: Any, /) -> int:
-        before, self._fault = self._fault, self._lost  # until it returns: what comes between may be interrupted
+        before, self._fault = (
+            self._fault,
+            self._lost,
+        )  # until it returns: what comes between may be interrupted
         count: int = self._reading(before, self._read_some, room)
         self._fault = None
         return count
@@ -171,13 +196,15 @@ class Chunks(io.RawIOBase):
             number, at = divmod(self._place, CHUNK)
             if number == self._number and at < self._count:
                 count = min(len(room), self._count - at)
-                room[:count] = self._text[at:at + count]
+                room[:count] = self._text[at : at + count]
                 self._place += count
                 return count
             if 0 <= self._last < number:
                 self._see_end()
                 continue
-            most = min(len(room) // CHUNK, MOST if self._blocks.can_seek else 1) if at == 0 else 0  # chunks for which there is room
+            most = (
+                min(len(room) // CHUNK, MOST if self._blocks.can_seek else 1) if at == 0 else 0
+            )  # chunks for which there is room
             blocks = memoryview(bytearray(most * BLOCK)) if most > 1 else self._block
             have = self._blocks.read(number, blocks)
             if have == 0 and number > 0 and self._blocks.can_seek and self._end < 0:
@@ -194,7 +221,13 @@ class Chunks(io.RawIOBase):
                 raise io.UnsupportedOperation("seek")
             if whence not in (io.SEEK_SET, io.SEEK_CUR, io.SEEK_END):
                 raise ValueError(f"bad whence {whence!r}")
-            place = offset + (self.size() if whence == io.SEEK_END else self._place if whence == io.SEEK_CUR else 0)
+            place = offset + (
+                self.size()
+                if whence == io.SEEK_END
+                else self._place
+                if whence == io.SEEK_CUR
+                else 0
+            )
             if place < 0:
                 raise ValueError(f"negative place {place}")
             self._place, self._fault = place, None

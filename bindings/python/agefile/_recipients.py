@@ -14,14 +14,22 @@ from ._library import C
 
 LENGTH = 62  # of a recipient
 STANZA = 98  # bytes of a stanza
-STANZAS_MAX = (1 << 20) - 70  # bytes of all stanzas: a header has at most 1 MiB, and 70 bytes beside them
+STANZAS_MAX = (
+    1 << 20
+) - 70  # bytes of all stanzas: a header has at most 1 MiB, and 70 bytes beside them
 
 
-def key_to_write(passphrase: str | Buffer | None, recipient: str | Iterable[str] | None, work: int) -> HeldKey:
+def key_to_write(
+    passphrase: str | Buffer | None, recipient: str | Iterable[str] | None, work: int
+) -> HeldKey:
     """The one key that is given."""
     see_one(passphrase=passphrase, recipient=recipient)
     log = work_factor("work", work)
-    return under_passphrase(passphrase, log) if recipient is None else wrapped_for(points_of(recipient))
+    return (
+        under_passphrase(passphrase, log)
+        if recipient is None
+        else wrapped_for(points_of(recipient))
+    )
 
 
 def points_of(recipient: str | Iterable[str]) -> list[bytes]:
@@ -36,7 +44,9 @@ def points_of(recipient: str | Iterable[str]) -> list[bytes]:
         except ValueError as fault:
             raise ValueError(f"recipient {number}: {fault}") from None
         if prefix != "age":
-            raise ValueError(f"recipient {number}: not a recipient of age-keygen, which begins with age1 and has {LENGTH} characters")
+            raise ValueError(
+                f"recipient {number}: not a recipient of age-keygen, which begins with age1 and has {LENGTH} characters"
+            )
         points.append(point)
     return points
 
@@ -66,7 +76,9 @@ def wrapped(file_key: bytes, stanzas: bytes) -> HeldKey:
 def wrapped_for(points: list[bytes]) -> HeldKey:
     """A new file key that is wrapped for these recipients. Nothing is returned unless the library opens each stanza."""
     if len(points) * STANZA > STANZAS_MAX:
-        raise ValueError(f"{len(points):,} recipients are too many: a header has room for {STANZAS_MAX // STANZA:,}")
+        raise ValueError(
+            f"{len(points):,} recipients are too many: a header has room for {STANZAS_MAX // STANZA:,}"
+        )
     file_key = os.urandom(16)
     made = [stanza_of(it, file_key) for it in points]
     for stanza, pair in made:

@@ -12,9 +12,15 @@ def wait(file: Any, event: int = select.POLLIN) -> None:
     try:
         descriptor = file.fileno()
     except (AttributeError, OSError):  # io.UnsupportedOperation is an OSError
-        raise BlockingIOError(errno.EAGAIN, "the file isn't ready, and has no descriptor to wait for") from None
-    if os.get_blocking(descriptor):  # so that None says nothing, and there is nothing to wait for: it would be called forever
-        raise OSError(f"the file's {'read' if event == select.POLLIN else 'write'}() returned None, though its descriptor blocks")
+        raise BlockingIOError(
+            errno.EAGAIN, "the file isn't ready, and has no descriptor to wait for"
+        ) from None
+    if os.get_blocking(
+        descriptor
+    ):  # so that None says nothing, and there is nothing to wait for: it would be called forever
+        raise OSError(
+            f"the file's {'read' if event == select.POLLIN else 'write'}() returned None, though its descriptor blocks"
+        )
     poll = select.poll()
     poll.register(descriptor, event)
     poll.poll()
@@ -22,13 +28,16 @@ def wait(file: Any, event: int = select.POLLIN) -> None:
 
 def read_by(call: Any, *words: Any) -> Any:
     """What a call of a source returns. A source that was truncated itself, such as a gzip file, raises EOFError, and one that passes on what an
-    iterator gives may raise StopIteration. Our caller, a `for` among them, would take either for the end of the text."""
+    iterator gives may raise StopIteration. Our caller, a `for` among them, would take either for the end of the text.
+    """
     try:
         return call(*words)
     except EOFError as fault:
         raise OSError(f"what the file is read from was cut off: {fault}") from fault
     except StopIteration as fault:
-        raise OSError("what the file is read from raised StopIteration: it has to return b'' at its end") from fault
+        raise OSError(
+            "what the file is read from raised StopIteration: it has to return b'' at its end"
+        ) from fault
 
 
 def some(file: Any, most: int) -> bytes:
@@ -37,7 +46,9 @@ def some(file: Any, most: int) -> bytes:
     piece = None if read1 is None else _checked(read_by(read1, most), most)
     if piece:
         return piece
-    while (piece := _checked(read_by(file.read, most), most)) is None:  # (if read1 finds none, read() says whether it is the end)
+    while (
+        piece := _checked(read_by(file.read, most), most)
+    ) is None:  # (if read1 finds none, read() says whether it is the end)
         wait(file)
     return piece
 
@@ -49,8 +60,12 @@ def _checked(piece: Any, most: int) -> bytes | None:
     try:
         held = piece if type(piece) is bytes else bytes(memoryview(piece))
     except TypeError:
-        getattr(piece, "close", lambda: None)()  # a coroutine that nobody awaits would warn of itself
-        raise TypeError(f"the file's read() has to return bytes, not {type(piece).__name__}") from None
+        getattr(
+            piece, "close", lambda: None
+        )()  # a coroutine that nobody awaits would warn of itself
+        raise TypeError(
+            f"the file's read() has to return bytes, not {type(piece).__name__}"
+        ) from None
     if len(held) > most:
         raise OSError(f"the file's read() returned {len(held)} bytes, and was asked for {most}")
     return held
@@ -68,7 +83,7 @@ def _some_into(file: Any, room: memoryview) -> int:
     into = getattr(file, "readinto", None)
     if into is None:
         piece = some(file, len(room))
-        room[:len(piece)] = piece
+        room[: len(piece)] = piece
         return len(piece)
     while (count := read_by(into, room)) is None:
         wait(file)
@@ -91,4 +106,8 @@ def put(file: Any, out: bytes) -> None:
 def can_seek(file: Any) -> bool:
     """Whether a file is seekable. Some that are, such as an mmap, have no `seekable`."""
     seekable = getattr(file, "seekable", None)
-    return bool(seekable()) if seekable is not None else hasattr(file, "seek") and hasattr(file, "tell")
+    return (
+        bool(seekable())
+        if seekable is not None
+        else hasattr(file, "seek") and hasattr(file, "tell")
+    )

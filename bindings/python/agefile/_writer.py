@@ -14,11 +14,15 @@ from ._push import Encryptor
 from ._source import put
 
 if TYPE_CHECKING:
+
     class Buffered(Alone, io.BufferedIOBase, BinaryIO):  # type: ignore[misc]
         """So that what asks for a BinaryIO takes it."""
+
 else:
+
     class Buffered(Alone, io.BufferedIOBase):
         pass
+
 
 GATHERED = 16_384  # bytes of short writes that are encrypted together
 PIECE = 1 << 20  # bytes that are encrypted at once
@@ -40,7 +44,10 @@ class AgeWriter(Buffered):
     def __init__(self, file: Any, made: Encryptor, owned: bool = False) -> None:
         super().__init__()
         self._file, self._made, self._owned, self._lock = file, made, owned, threading.RLock()
-        self._short, self._count = bytearray(), 0  # short writes that the encryptor hasn't got yet, and the bytes that were written
+        self._short, self._count = (
+            bytearray(),
+            0,
+        )  # short writes that the encryptor hasn't got yet, and the bytes that were written
         self._is_spoiled = False  # whether part of the text is lost
         self._is_left = False  # whether close() of the base has nothing to pass on
         put(file, made.update(b""))
@@ -71,7 +78,7 @@ class AgeWriter(Buffered):
             else:
                 self._pass_short()
                 for at in range(0, len(held), PIECE):
-                    put(self._file, self._made.update(held[at:at + PIECE]))
+                    put(self._file, self._made.update(held[at : at + PIECE]))
             self._count += len(held)
             self._is_spoiled = False
             return len(held)
@@ -148,7 +155,12 @@ class AgeWriter(Buffered):
     def mode(self) -> str:
         return "wb"
 
-    def __exit__(self, kind: type[BaseException] | None, value: BaseException | None, trace: TracebackType | None) -> None:
+    def __exit__(
+        self,
+        kind: type[BaseException] | None,
+        value: BaseException | None,
+        trace: TracebackType | None,
+    ) -> None:
         if kind is None:
             self.close()
         else:
@@ -158,16 +170,21 @@ class AgeWriter(Buffered):
         # A writer that was never closed, so perhaps after an exception, isn't finished.
         if hasattr(self, "_is_begun") and not self.closed:
             try:
-                warnings.warn("an age file that was never closed isn't whole", ResourceWarning, source=self)
+                warnings.warn(
+                    "an age file that was never closed isn't whole", ResourceWarning, source=self
+                )
             finally:
                 self.abandon()
 
 
 class TextWriter(io.TextIOWrapper):
     """A text that is written. An exception that comes out of a write, or leaves its `with`, leaves a file that every reader refuses:
-    io.TextIOWrapper loses then what it held, even from earlier writes, and its close() would complete the file."""
+    io.TextIOWrapper loses then what it held, even from earlier writes, and its close() would complete the file.
+    """
 
-    def __init__(self, file: AgeWriter, encoding: str | None, errors: str | None, newline: str | None) -> None:
+    def __init__(
+        self, file: AgeWriter, encoding: str | None, errors: str | None, newline: str | None
+    ) -> None:
         super().__init__(file, encoding, errors, newline)
         self._under = file
 
@@ -197,7 +214,12 @@ class TextWriter(io.TextIOWrapper):
             super().close()
         self._under.close()  # which says so each time if the file isn't whole
 
-    def __exit__(self, kind: type[BaseException] | None, value: BaseException | None, trace: TracebackType | None) -> None:
+    def __exit__(
+        self,
+        kind: type[BaseException] | None,
+        value: BaseException | None,
+        trace: TracebackType | None,
+    ) -> None:
         if kind is None:
             self.close()
         else:

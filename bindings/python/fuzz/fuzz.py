@@ -28,7 +28,9 @@ CHUNK, BLOCK = 65_536, 65_552
 SIZES = (0, 1, 70, CHUNK, CHUNK + 1, 2 * CHUNK, 2 * CHUNK + 500)
 TEXTS = [bytes((i * 131 ^ i >> 8) & 255 for i in range(n)) for n in SIZES]
 FILES = [agefile.encrypt(it, passphrase="pw", work=1) for it in TEXTS]
-FRONTS = [len(it) - len(text) - 16 * max(1, -(-len(text) // CHUNK)) for it, text in zip(FILES, TEXTS)]
+FRONTS = [
+    len(it) - len(text) - 16 * max(1, -(-len(text) // CHUNK)) for it, text in zip(FILES, TEXTS)
+]
 # So many cases are one turn, whose seed is the next number.
 CASES = 40
 
@@ -185,12 +187,18 @@ def headers(begins, lines):
             faults.append(0)
         except agefile.AgeError as it:
             faults.append(it.number)
-    assert faults[1] and faults[2] and (faults[0] == 0 or faults[0] == faults[1] == faults[2]), (data, faults)
+    assert faults[1] and faults[2] and (faults[0] == 0 or faults[0] == faults[1] == faults[2]), (
+        data,
+        faults,
+    )
 
 
 # Each test with what it is given, and its corpus.
 TESTS = {
-    headers: ((st.booleans(), st.lists(LINE, max_size=8)), [(True, [b"-> x\n", b"\n", b"--- " + b"A" * 43 + b"\n"])]),
+    headers: (
+        (st.booleans(), st.lists(LINE, max_size=8)),
+        [(True, [b"-> x\n", b"\n", b"--- " + b"A" * 43 + b"\n"])],
+    ),
     reads: (
         (
             st.integers(0, len(SIZES) - 1),
@@ -213,7 +221,9 @@ def turn(test, number):
     test = given(*drawn)(test)
     for it in corpus:
         test = example(*it)(test)
-    how = settings(max_examples=CASES, deadline=None, database=None, suppress_health_check=list(HealthCheck))
+    how = settings(
+        max_examples=CASES, deadline=None, database=None, suppress_health_check=list(HealthCheck)
+    )
     how(seed(number)(test))()
 
 

@@ -9,7 +9,9 @@ from __future__ import annotations
 import os
 import sys
 
-if sys.path[0] != (here := os.path.dirname(os.path.realpath(__file__))):  # (as in a Python that is told not to take this folder)
+if sys.path[0] != (
+    here := os.path.dirname(os.path.realpath(__file__))
+):  # (as in a Python that is told not to take this folder)
     sys.path.insert(0, here)
 
 from command_line import COMMANDS, Request, request_of

@@ -25,13 +25,16 @@ try:  # (all that is taken of the module, and not in its documentation, is named
     from agefile._library import BLOCK, CHUNK, NO_MATCH, WRONG_KEY
     from agefile._output import opened_alone, reach_disk, replacing
 except ImportError as fault:
-    raise Fault(f"this needs the Python module agefile: pip install 'agefile[keys]', or Debian's python3-agefile of the release ({fault})") from None
+    raise Fault(
+        f"this needs the Python module agefile: pip install 'agefile[keys]', or Debian's python3-agefile of the release ({fault})"
+    ) from None
 
 KEYS_MAX = 1 << 24  # bytes of a file of keys or of recipients, as for age
 
 
 def by_library(asked: Request) -> int:
     """Carries out a request, and leaves nothing if a signal ends it: its status."""
+
     def ends(number: int, _: Any) -> None:
         raise KeyboardInterrupt(number)
 
@@ -46,13 +49,17 @@ def by_library(asked: Request) -> int:
         raise unreadable(shown(asked.source, "input"), fault) from None
     except agefile.AgeError as fault:
         chunk = "" if fault.chunk is None else f" chunk {fault.chunk}"
-        raise Fault(f"{fault.number} {fault.name}{chunk}", f"{shown(asked.source, 'input')}: {fault}") from None
+        raise Fault(
+            f"{fault.number} {fault.name}{chunk}", f"{shown(asked.source, 'input')}: {fault}"
+        ) from None
 
 
 def encrypt(asked: Request) -> int:
     """Encrypts IN to OUT for recipients."""
     recipients = recipients_of(asked)
-    with In(asked.source) as file, output(asked) as under, agefile.open(under, "wb", recipient=recipients) as out:
+    with In(asked.source) as file, output(asked) as under, agefile.open(
+        under, "wb", recipient=recipients
+    ) as out:
         while piece := file.piece(1 << 20):
             out.write(piece)
     return 0
@@ -60,13 +67,19 @@ def encrypt(asked: Request) -> int:
 
 def salvage(asked: Request) -> int:
     """Writes what still opens of IN to OUT, and says what is lost."""
-    key: dict[str, Any] = {"identity": keys_of(asked)} if asked.has("--identity") else {"passphrase": passphrase_or_file(asked), "max_work": max_work_of(asked)}
+    key: dict[str, Any] = (
+        {"identity": keys_of(asked)}
+        if asked.has("--identity")
+        else {"passphrase": passphrase_or_file(asked), "max_work": max_work_of(asked)}
+    )
     progress = Progress()
     try:
         with In(asked.source) as file, output(asked) as out:
             found = agefile.salvage(file, out, progress=lambda it: progress.tell(it * BLOCK), **key)
             if found.size == 0 and not found.is_whole:
-                raise Fault(f"no chunk of {file.shown} opens: {shown(asked.out, 'output')} is as it was")
+                raise Fault(
+                    f"no chunk of {file.shown} opens: {shown(asked.out, 'output')} is as it was"
+                )
     finally:
         progress.end()
     tell(*lost(found))
@@ -153,9 +166,15 @@ def shared_secret(asked: Request, source: Source) -> bytes:
     well-formed, or isn't complete, a random pair, with which age_tool says what is wrong."""
     answer, pair = secret_of_header(keys_of(asked), lambda: source.more(CHUNK))
     if answer == NO_MATCH:
-        raise Fault("12 NoMatch", f"{source.shown}: it isn't encrypted to a recipient of age-keygen: without --identity, agefile asks for a passphrase")
+        raise Fault(
+            "12 NoMatch",
+            f"{source.shown}: it isn't encrypted to a recipient of age-keygen: without --identity, agefile asks for a passphrase",
+        )
     if answer == WRONG_KEY:
-        raise Fault("13 WrongKey", f"{source.shown}: no key of {' and '.join(map(shown, asked.all('--identity')))} opens it")
+        raise Fault(
+            "13 WrongKey",
+            f"{source.shown}: no key of {' and '.join(map(shown, asked.all('--identity')))} opens it",
+        )
     return b"".join(pair)
 
 
@@ -190,9 +209,14 @@ def output(asked: Request) -> Iterator[Any]:
             with replacing(os.path.realpath(asked.out), not asked.has("--overwrite")) as out:
                 yield out
             return
-        with open(1, "wb", closefd=False) if asked.out == "-" else opened_alone(asked.out, False) as out:
+        with open(1, "wb", closefd=False) if asked.out == "-" else opened_alone(
+            asked.out, False
+        ) as out:
             if asked.command == "encrypt" and out.isatty():
-                raise Fault("27 Write", f"{shown(asked.out, 'output')} is a terminal, which an age file isn't for: name a file as OUT")
+                raise Fault(
+                    "27 Write",
+                    f"{shown(asked.out, 'output')} is a terminal, which an age file isn't for: name a file as OUT",
+                )
             yield out
             out.flush()
             reach_disk(out)
@@ -201,4 +225,6 @@ def output(asked: Request) -> Iterator[Any]:
     except OSError as fault:
         if fault.errno == errno.EEXIST:
             raise exists(asked.out) from None
-        raise Fault("27 Write", f"can't write {shown(asked.out, 'output')}: {fault.strerror or fault}") from None
+        raise Fault(
+            "27 Write", f"can't write {shown(asked.out, 'output')}: {fault.strerror or fault}"
+        ) from None

@@ -14,18 +14,44 @@ OPTIONS = {
     "--max-log": ("N", "refuse work factors above N, 1 to 22 (default: 22)"),
     "--overwrite": ("", "replace an OUT that exists, which is refused otherwise"),
     "--progress": ("", "show how much of IN has been read, at a terminal"),
-    **dict.fromkeys(("--log", "--random", "--save", "--position", "--old"), ("FILE", "")), **dict.fromkeys(("--no-sync", "--no-clobber"), ("", "")),
+    **dict.fromkeys(("--log", "--random", "--save", "--position", "--old"), ("FILE", "")),
+    **dict.fromkeys(("--no-sync", "--no-clobber"), ("", "")),
 }
-KEYS, WRITING = ("--pass", "--identity", "--file-key", "--shared", "--max-log"), ("--overwrite", "--no-clobber", "--progress", "--no-sync")
+KEYS, WRITING = ("--pass", "--identity", "--file-key", "--shared", "--max-log"), (
+    "--overwrite",
+    "--no-clobber",
+    "--progress",
+    "--no-sync",
+)
 COMMANDS = {
-    "encrypt": ("--pass", "--recipient", "--recipients-file", "--identity", *WRITING, "--log", "--random"),
-    "decrypt": (*KEYS, *WRITING, "--save"), "resume": (*KEYS, *WRITING, "--save", "--position", "--old"), "test": (*KEYS, "--progress"),
-    "restore": (*KEYS, *WRITING[:3]), "salvage": ("--pass", "--identity", "--max-log", *WRITING[:2]),
+    "encrypt": (
+        "--pass",
+        "--recipient",
+        "--recipients-file",
+        "--identity",
+        *WRITING,
+        "--log",
+        "--random",
+    ),
+    "decrypt": (*KEYS, *WRITING, "--save"),
+    "resume": (*KEYS, *WRITING, "--save", "--position", "--old"),
+    "test": (*KEYS, "--progress"),
+    "restore": (*KEYS, *WRITING[:3]),
+    "salvage": ("--pass", "--identity", "--max-log", *WRITING[:2]),
 }
 # What age_tool doesn't know.
-OWN_COMMANDS, OWN_OPTIONS = ("test", "restore", "salvage"), ("--identity", "--recipient", "--recipients-file", "--overwrite")
+OWN_COMMANDS, OWN_OPTIONS = ("test", "restore", "salvage"), (
+    "--identity",
+    "--recipient",
+    "--recipients-file",
+    "--overwrite",
+)
 # What says how IN opens, or for whom OUT is: one kind is given, or else a passphrase is asked for.
-OPENING, FOR_KEYS = ("--pass", "--file-key", "--shared", "--identity"), ("--recipient", "--recipients-file", "--identity")
+OPENING, FOR_KEYS = ("--pass", "--file-key", "--shared", "--identity"), (
+    "--recipient",
+    "--recipients-file",
+    "--identity",
+)
 
 
 class Request:
@@ -93,17 +119,29 @@ def see_words(asked: Request) -> None:
     asked.is_for_keys = asked.command == "encrypt" and asked.has(*FOR_KEYS)
     is_own = asked.command in OWN_COMMANDS or asked.is_for_keys
     keys = [it for it in OPENING if asked.has(it)]
-    wrong = [it for it in asked.words if it.startswith("--") and it != "--no-clobber"] if asked.is_for_keys else []
+    wrong = (
+        [it for it in asked.words if it.startswith("--") and it != "--no-clobber"]
+        if asked.is_for_keys
+        else []
+    )
     if wrong:
-        raise Misuse(f"{wrong[0]} isn't for a file that is written for recipients: agefile encrypt --help")
+        raise Misuse(
+            f"{wrong[0]} isn't for a file that is written for recipients: agefile encrypt --help"
+        )
     if len(keys) > 1 and (is_own or "--identity" in keys):
-        raise Misuse(f"give one of {', '.join(OPENING[:-1])} and {OPENING[-1]}: {' and '.join(keys)} were given")
+        raise Misuse(
+            f"give one of {', '.join(OPENING[:-1])} and {OPENING[-1]}: {' and '.join(keys)} were given"
+        )
     if asked.has("--overwrite") and asked.has("--no-clobber"):
         raise Misuse("give one of --overwrite and --no-clobber")
-    if [*asked.names, *asked.all("--identity", "--recipients-file", "--pass")].count("-") > 1 + (asked.names[1:2] == ["-"]):
+    if [*asked.names, *asked.all("--identity", "--recipients-file", "--pass")].count("-") > 1 + (
+        asked.names[1:2] == ["-"]
+    ):
         raise Misuse("standard input, `-`, is named twice")
     asked.is_refused |= len(asked.names) != len(names)
     if asked.is_refused and is_own:
-        raise Misuse(f"the words of {asked.command} are options and {' and '.join(names)}: agefile {asked.command} --help")
+        raise Misuse(
+            f"the words of {asked.command} are options and {' and '.join(names)}: agefile {asked.command} --help"
+        )
     if not asked.is_refused:
         asked.source, asked.out = [*asked.names, "/dev/null"][:2]

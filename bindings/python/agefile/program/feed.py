@@ -39,7 +39,9 @@ class Source(io.FileIO):
     def piece(self, most: int, at: int | None = None) -> bytes:
         """At most so many bytes, from a place on if one is given; nothing at its end."""
         try:
-            while (piece := self.read(most) if at is None else os.pread(self.fileno(), most, at)) is None:  # it doesn't block
+            while (
+                piece := self.read(most) if at is None else os.pread(self.fileno(), most, at)
+            ) is None:  # it doesn't block
                 select.select([self], [], [])
             return piece
         except OSError as fault:
@@ -48,18 +50,30 @@ class Source(io.FileIO):
 
 class Fed(NamedTuple):
     """How a run of age_tool ended that was fed: its status, the signal that stopped that, and the fault of reading IN."""
+
     status: int
     signal: signal.Signals | None
     fault: OSError | None
 
 
-def feed(words: list[str], source: Source, faults: int | None = None, progress: Progress | None = None) -> Fed:
+def feed(
+    words: list[str], source: Source, faults: int | None = None, progress: Progress | None = None
+) -> Fed:
     """Runs age_tool on IN, up to IN's end, a signal or its own end. If its faults go to a file, no signal reaches it, and it goes on to its own end
     also if IN is cut or this process ends; else it is killed then."""
     signals = {it for it in ENDING if signal.getsignal(it) != signal.SIG_IGN}
     signal.pthread_sigmask(signal.SIG_BLOCK, signals)  # (which age_tool inherits)
-    with subprocess.Popen(["age_tool", *words], 0, age_tool(), subprocess.PIPE, faults, faults, end_with_parent if faults is None else None, close_fds=False,
-                          restore_signals=False) as child:
+    with subprocess.Popen(
+        ["age_tool", *words],
+        0,
+        age_tool(),
+        subprocess.PIPE,
+        faults,
+        faults,
+        end_with_parent if faults is None else None,
+        close_fds=False,
+        restore_signals=False,
+    ) as child:
         assert child.stdin is not None
         fault = copy(source, child.stdin.fileno(), signals, progress)
         came = next(iter(signals & signal.sigpending()), None)
@@ -76,7 +90,9 @@ def end_with_parent() -> None:
     signal.pthread_sigmask(signal.SIG_UNBLOCK, ENDING)
 
 
-def copy(source: Source, sink: int, signals: set[signal.Signals], progress: Progress | None) -> OSError | None:
+def copy(
+    source: Source, sink: int, signals: set[signal.Signals], progress: Progress | None
+) -> OSError | None:
     """Copies IN into a pipe, up to IN's end, a signal, or the end of what reads the pipe: the fault of reading IN, if there is one."""
     left, count = memoryview(b"" if source.is_regular else source.front), 0
     to_read, to_write = select.poll(), select.poll()
@@ -88,7 +104,7 @@ def copy(source: Source, sink: int, signals: set[signal.Signals], progress: Prog
         ready = dict((to_write if left else to_read).poll(WAIT))
         try:
             if left and ready:
-                left = left[os.write(sink, left):]
+                left = left[os.write(sink, left) :]
             elif sink in ready:
                 break
             elif source.fileno() in ready and (piece := source.read(PIECE)) is not None:

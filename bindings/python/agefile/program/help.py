@@ -56,8 +56,15 @@ that don't, and says what is lost. The status is 0 only if nothing is.
 
 def explain(command: str) -> int:
     """Explains a command: what agefile adds to it, and what age_tool says of it."""
-    options = [f"  {f'{it} {OPTIONS[it][0]}':<23} {OPTIONS[it][1]}\n" for it in COMMANDS[command] if OPTIONS[it][1]]
-    write(1, f"Usage: agefile {command} {WORDS.get(command, '[OPTIONS] IN OUT')}\n\n{MORE.get(command, '')}{''.join(options)}")
+    options = [
+        f"  {f'{it} {OPTIONS[it][0]}':<23} {OPTIONS[it][1]}\n"
+        for it in COMMANDS[command]
+        if OPTIONS[it][1]
+    ]
+    write(
+        1,
+        f"Usage: agefile {command} {WORDS.get(command, '[OPTIONS] IN OUT')}\n\n{MORE.get(command, '')}{''.join(options)}",
+    )
     if command in ("restore", "salvage"):
         return 0
     command = "decrypt" if command == "test" else command

@@ -50,7 +50,9 @@ def passphrase_of(asked: Request) -> bytes:
     if may_make and given == "":
         given = made_passphrase()
     elif is_new and any(ord(it) < 32 or it == "\x7f" for it in given):
-        raise Fault("the passphrase has a control character, which not every program can ask for: name its file by --pass")
+        raise Fault(
+            "the passphrase has a control character, which not every program can ask for: name its file by --pass"
+        )
     elif is_new and given and typed("the same again: ") != given:
         raise Fault("the passphrases differ")
     held = given.encode()
@@ -71,9 +73,13 @@ def typed(question: str) -> str:
         given.encode()
         return given
     except UnicodeError:  # which would show a byte of it
-        raise Fault("what was typed isn't in the terminal's encoding: name the passphrase's file by --pass") from None
+        raise Fault(
+            "what was typed isn't in the terminal's encoding: name the passphrase's file by --pass"
+        ) from None
     except (EOFError, OSError, getpass.GetPassWarning):
-        raise Fault("no passphrase was typed: name its file by --pass, or run at a terminal") from None
+        raise Fault(
+            "no passphrase was typed: name its file by --pass, or run at a terminal"
+        ) from None
 
 
 def made_passphrase() -> str:
@@ -81,7 +87,7 @@ def made_passphrase() -> str:
     import base64
 
     letters = base64.b32encode(os.urandom(20)).decode().lower()
-    made = "-".join(letters[it:it + 4] for it in range(0, 32, 4))
+    made = "-".join(letters[it : it + 4] for it in range(0, 32, 4))
     try:
         with open("/dev/tty", "wb", buffering=0) as terminal:
             terminal.write(f"agefile: the new passphrase is {made}\n".encode())

@@ -27,18 +27,30 @@ def restore(asked: Request) -> int:
     try:
         room = Room(os.path.realpath(asked.out))
     except OSError as fault:
-        raise Fault("27 Write", f"can't write {shown(asked.out)}.restore: {fault.strerror}") from None
+        raise Fault(
+            "27 Write", f"can't write {shown(asked.out)}.restore: {fault.strerror}"
+        ) from None
     if room.has_finished():
         return room.clear()
     try:
         see_free(asked)
-        going_on = ["resume", "--position", room.position, "--old", room.text] if room.keep() else ["decrypt"]
-        options = [*key_of(asked, source), *(it for it in asked.words if it not in ("--progress", "--no-clobber"))]
+        going_on = (
+            ["resume", "--position", room.position, "--old", room.text]
+            if room.keep()
+            else ["decrypt"]
+        )
+        options = [
+            *key_of(asked, source),
+            *(it for it in asked.words if it not in ("--progress", "--no-clobber")),
+        ]
     except BaseException:
         room.settle()
         raise
     words = [*going_on, *options, "--save", room.new_position, "--", "/dev/stdin", room.new_text]
-    faults, progress = os.memfd_create("faults"), Progress(source.size) if asked.has("--progress") else None
+    faults, progress = (
+        os.memfd_create("faults"),
+        Progress(source.size) if asked.has("--progress") else None,
+    )
     fed = feed(words, source, faults, progress)
     if progress is not None:
         progress.end()
@@ -62,7 +74,11 @@ def stopped(room: Room, fed: Fed, told: bytes, source: str) -> int:
         tell(f"age_tool was killed by signal {-fed.status}")
     if number in UNFIT:
         return end_as(fed, f"{shown(room.folder)} is of another IN or key: remove it to begin anew")
-    more = [f"what was decrypted is kept in {shown(room.folder)}: the same command goes on from there"] if is_kept else []
+    more = (
+        [f"what was decrypted is kept in {shown(room.folder)}: the same command goes on from there"]
+        if is_kept
+        else []
+    )
     return end_as(fed, *more)
 
 
@@ -72,7 +88,7 @@ def fault_in(told: bytes, is_short: bool) -> tuple[int, bytes]:
     lines = told.splitlines(keepends=True)
     for at, line in enumerate(lines):
         if found := re.match(rb"age_tool: (\d+) \w", line):
-            return int(found[1]), b"".join(lines[:at + 2] if is_short else lines)
+            return int(found[1]), b"".join(lines[: at + 2] if is_short else lines)
     return 0, told
 
 
@@ -82,7 +98,9 @@ class Room:
 
     def __init__(self, out: str) -> None:
         self.out, self.folder, until = out, f"{out}.restore", time.monotonic() + LOCK_SECONDS
-        self.text, self.position, self.new_text, self.new_position = (f"{self.folder}/{it}" for it in ("text", "position", "new-text", "new-position"))
+        self.text, self.position, self.new_text, self.new_position = (
+            f"{self.folder}/{it}" for it in ("text", "position", "new-text", "new-position")
+        )
         while not self.is_locked():  # (that of a run that was killed ends soon)
             if time.monotonic() > until:
                 raise Fault(f"another restore of {shown(self.out)} is running")
@@ -105,7 +123,9 @@ class Room:
             pass
         except OSError:  # of a file system without locks
             found = found_at(self.folder)
-        if found is None or not os.path.samestat(found, os.fstat(number)):  # another run has it, or removed it
+        if found is None or not os.path.samestat(
+            found, os.fstat(number)
+        ):  # another run has it, or removed it
             os.close(number)
             return False
         os.set_inheritable(number, True)
@@ -124,7 +144,9 @@ class Room:
     def keep(self) -> bool:
         """Keeps what a run saved, or else the one before it, and nothing else: whether there is any."""
         if self.has_new():
-            if found_at(self.new_text) is not None:  # (else a run was killed here, which had renamed it)
+            if (
+                found_at(self.new_text) is not None
+            ):  # (else a run was killed here, which had renamed it)
                 os.replace(self.new_text, self.text)
                 sync(self.folder)
             os.replace(self.new_position, self.position)

@@ -21,7 +21,9 @@ def age_tool() -> str:
         folder = folder.removesuffix("/bindings/python/agefile/program")
     found = os.path.realpath(f"{folder}/age_tool")
     if not os.access(found, os.X_OK):
-        raise Fault(f"there is no program {shown(found)}, which comes with agefile: install the release again")
+        raise Fault(
+            f"there is no program {shown(found)}, which comes with agefile: install the release again"
+        )
     if BUILD.startswith("(of "):  # (a checkout's is built from its own sources)
         see_version(found)
     return found
@@ -31,7 +33,12 @@ def see_version(program: str) -> None:
     """Refuses an age_tool of another version."""
     source, sink = os.pipe()
     try:
-        child = os.posix_spawn(program, [program, "--version"], os.environ, file_actions=[(os.POSIX_SPAWN_DUP2, sink, 1)])
+        child = os.posix_spawn(
+            program,
+            [program, "--version"],
+            os.environ,
+            file_actions=[(os.POSIX_SPAWN_DUP2, sink, 1)],
+        )
     except OSError as fault:
         raise Fault(f"can't run {shown(program)}: {fault.strerror}") from None
     finally:
@@ -41,7 +48,9 @@ def see_version(program: str) -> None:
     os.waitpid(child, 0)
     if said[:2] != ["age_tool", VERSION]:
         other = shown(" ".join(said[1:]) or "unknown")
-        raise Fault(f"{shown(program)} is version {other}, and this is agefile {VERSION}: install both of one release")
+        raise Fault(
+            f"{shown(program)} is version {other}, and this is agefile {VERSION}: install both of one release"
+        )
 
 
 def become(words: list[str]) -> int:
@@ -51,7 +60,11 @@ def become(words: list[str]) -> int:
 
 def words_of(asked: Request, key: list[str]) -> list[str]:
     """The words by which age_tool carries out a request with this key."""
-    command, names, more = asked.command, [for_tool(asked.source, "in"), for_tool(asked.out, "out")], []
+    command, names, more = (
+        asked.command,
+        [for_tool(asked.source, "in"), for_tool(asked.out, "out")],
+        [],
+    )
     if command == "test":
         command = "decrypt"
     elif not asked.has("--overwrite", "--no-clobber") and is_replaced(asked.out):

@@ -7,11 +7,13 @@ import time
 
 class Fault(Exception):
     """What is wrong, in the words of one or two lines."""
+
     status = 1
 
 
 class Misuse(Fault):
     """What is wrong with the command line."""
+
     status = 2
 
 
@@ -32,7 +34,7 @@ def write(number: int, text: str) -> None:
     held = text.encode(errors="backslashreplace")
     try:
         while held:
-            held = held[os.write(number, held):]
+            held = held[os.write(number, held) :]
     except OSError as fault:
         raise Fault(f"standard {('output', 'error')[number - 1]}: {fault.strerror}") from None
 

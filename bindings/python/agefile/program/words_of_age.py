@@ -7,7 +7,17 @@ from run_age_tool import VERSION
 from telling import Misuse, shown, write
 
 # The options by their letters; each also has its whole name.
-LETTERS = {"e": "encrypt", "d": "decrypt", "p": "passphrase", "a": "armor", "h": "help", "o": "output", "r": "recipient", "R": "recipients-file", "i": "identity"}
+LETTERS = {
+    "e": "encrypt",
+    "d": "decrypt",
+    "p": "passphrase",
+    "a": "armor",
+    "h": "help",
+    "o": "output",
+    "r": "recipient",
+    "R": "recipients-file",
+    "i": "identity",
+}
 KNOWN = {**LETTERS, **{it: it for it in (*LETTERS.values(), "version")}, "j": "plugin"}
 VALUED = ("output", "recipient", "recipients-file", "identity", "plugin")
 
@@ -20,7 +30,12 @@ def request_of_age(words: list[str]) -> Request:
         raise SystemExit(0)
     see_age(found, names)
     command = "decrypt" if "decrypt" in found else "encrypt"
-    keys = [word for it in ("recipient", "recipients-file", "identity") for value in found.get(it, []) for word in (f"--{it}", value)]
+    keys = [
+        word
+        for it in ("recipient", "recipients-file", "identity")
+        for value in found.get(it, [])
+        for word in (f"--{it}", value)
+    ]
     in_and_out = [names[0] if names else "-", found.get("output", ["-"])[-1]]
     return request_of([command, "--overwrite", *keys, "--", *in_and_out], may_make=True)
 
@@ -48,14 +63,32 @@ def options_in(words: list[str]) -> tuple[dict[str, list[str]], list[str]]:
 def see_age(found: dict[str, list[str]], names: list[str]) -> None:
     """Refuses what age refuses, and what is age's alone."""
     keys = [it for it in ("recipient", "recipients-file", "identity") if it in found]
-    not_to_decrypt = [it for it in ("encrypt", "passphrase", "recipient", "recipients-file") if it in found]
+    not_to_decrypt = [
+        it for it in ("encrypt", "passphrase", "recipient", "recipients-file") if it in found
+    ]
     for is_wrong, why in (
-        ("armor" in found, "armor isn't supported: without -a the file is binary"), ("plugin" in found, "plugins aren't supported"),
-        (len(names) > 1, f"too many INPUT arguments: {' '.join(map(shown, names))}: options come first"),
-        ("decrypt" in found and not_to_decrypt, f"--{''.join(not_to_decrypt[:1])} can't be used with --decrypt"),
-        ("identity" in found and not {"encrypt", "decrypt"} & {*found}, "--identity needs --encrypt or --decrypt"),
-        (not keys and not {"decrypt", "passphrase"} & {*found}, "missing recipients: give --recipient, --recipients-file or --passphrase"),
-        (keys and "passphrase" in found, f"--passphrase can't be combined with --{''.join(keys[:1])}"),
+        ("armor" in found, "armor isn't supported: without -a the file is binary"),
+        ("plugin" in found, "plugins aren't supported"),
+        (
+            len(names) > 1,
+            f"too many INPUT arguments: {' '.join(map(shown, names))}: options come first",
+        ),
+        (
+            "decrypt" in found and not_to_decrypt,
+            f"--{''.join(not_to_decrypt[:1])} can't be used with --decrypt",
+        ),
+        (
+            "identity" in found and not {"encrypt", "decrypt"} & {*found},
+            "--identity needs --encrypt or --decrypt",
+        ),
+        (
+            not keys and not {"decrypt", "passphrase"} & {*found},
+            "missing recipients: give --recipient, --recipients-file or --passphrase",
+        ),
+        (
+            keys and "passphrase" in found,
+            f"--passphrase can't be combined with --{''.join(keys[:1])}",
+        ),
     ):
         if is_wrong:
             raise Misuse(why)
