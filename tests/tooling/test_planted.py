@@ -16,7 +16,7 @@ PLANTED = {
     "documents": (
         (
             "README.md",
-            "`age_host_paths` and `age_host` first",
+            "`age_host_paths` first",
             "`age_nothing` first. [Here](docs/NOTHING.md)",
             "README.md: no docs/NOTHING.md",
         ),
