@@ -82,6 +82,7 @@ class OrderTest(ProgramCase):
         """What opens IN comes first, and OUT last, which exists here. No file is opened before it is its turn, or twice."""
         for name, held in (
             ("random", bytes(48)),
+            ("secret", bytes(64)),
             ("script", b"end\n"),
             ("cut.age", self.age[:150_000]),
             ("out", b""),
@@ -94,6 +95,14 @@ class OrderTest(ProgramCase):
             (
                 "resume --position position --old old --pass pass --save saved plain.age out",
                 "pass position old plain.age saved.new out",
+            ),
+            (
+                "decrypt --shared secret --save saved plain.age out",
+                "secret plain.age saved.new out",
+            ),
+            (
+                "resume --position position --old old --shared secret plain.age out",
+                "secret position old plain.age out",
             ),
             ("drill --pass pass script plain.age", "pass script plain.age"),
             ("inspect plain.age", "plain.age"),

@@ -250,6 +250,11 @@ MACHINE = (
         "resume --position position --old part --pass pass /proc/self/mem back",
         f"can't read /proc/self/mem: Input/output error; {SALVAGE}",
     ),
+    (
+        26,
+        "resume --position position --old /proc/self/mem --pass pass plain.age back",
+        "can't read /proc/self/mem: Input/output error",
+    ),
     (27, "encrypt --pass pass --log 1 plain none/new", f"can't create none/new: {MISSING}"),
     (27, "decrypt --pass pass plain.age folder", f"can't write folder: {FOLDER}"),
     (

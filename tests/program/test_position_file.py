@@ -2,10 +2,12 @@
 import errno
 import fcntl
 import os
+import re
 import signal
 import stat
 
-from tests.case import needs
+from tests import process
+from tests.case import SECONDS, needs
 from tests.program.case import (
     BLANKS,
     IN_THE_WAY,
@@ -52,6 +54,25 @@ class PositionFileTest(FilesCase):
             "another took its place: it stays",
             self.read("saved.new") == b"somebody's file" and not self.is_there("saved"),
         )
+
+    @needs("strace")
+    def test_order_at_a_stop(self):
+        """The fault's line comes before the position, whose disk may be slow, and blanks have kept room for that since OUT was opened."""
+        words = "decrypt --pass pass --save saved cut out"
+        process.run(
+            ["strace", "-o", "log", "-e", "trace=openat,write,pwrite64,link", self.program]
+            + words.split(),
+            cwd=self.room,
+            capture_output=True,
+            timeout=SECONDS,
+        )
+        calls = (
+            r"(?m)^(?:openat\(AT_FDCWD, |write\(2, |pwrite64\(\d+, |link\()"
+            r'"(out|age_tool: 17| {32}|age-position|saved.new)'
+        )
+        found = re.findall(calls, self.read("log").decode(errors="replace"))
+        wanted = ["saved.new", 32 * " ", "out", "age_tool: 17", "age-position", "saved.new"]
+        self.see("the calls at a stop", found == wanted, found)
 
     def names(self):
         return set(os.listdir(self.room))

@@ -83,6 +83,13 @@ class ProgressTest(ProgramCase):
             "progress of decrypting them",
             self.on_terminal("stderr", *"decrypt --pass pass --progress large.age back".split()),
         )
+        self.write("cut.age", self.age[:150_000])
+        ended = self.on_terminal("stderr", *"decrypt --pass pass --progress cut.age back".split())
+        self.see(
+            "the line is ended before a fault's",
+            ended.returncode == 1 and b"\r\nage_tool: 17 ChunkDamaged chunk 2\n" in ended.stderr,
+            ended.stderr,
+        )
         *lines, last = self.decrypt("--progress", "large.age", "back").stderr.splitlines()
         self.see(
             "progress in a log",
