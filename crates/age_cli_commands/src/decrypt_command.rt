@@ -53,7 +53,7 @@ pub(crate) struct EarlierOutput<'w, S: Source> {
     pub(crate) source: S,
 }
 
-/// The outputs of a decryption: the new one, and the earlier one, if it continues after one.
+/// The output of a decryption, and the earlier output that is read before it, if there is one.
 #[derive(Drop)]
 pub(crate) struct DecryptFiles<'w, S: Source, O: Sink> {
     pub(crate) earlier: Option<EarlierOutput<'w, S>>,
@@ -159,14 +159,17 @@ pub(crate) fn decrypt_ready<'w, F: FileSet<'w>, P: Meter>(
         (F.view files.old) after) (F.view files.new) result }
 {
     let start = initial_position(&ready.outputs.earlier);
-    let ((end, marks), source, outputs) = decrypt_text(alloc, files, writing, ready, progress);
+    let ((end, checkpoints), source, outputs) = decrypt_text(
+        alloc, files, writing, ready, progress,
+    );
     let DecryptFiles { earlier, mut out } = outputs;
-    let old = close_old(files, earlier);
-    let input = files.close_input(source);
-    let settled = durable_len_at_end(files, &mut out, writing, end.is_err());
-    let place = resume_point(&end, &marks, start, settled);
-    let engine = attach_context(to_outcome(&end), files.reason(&out), old, input);
-    conclude_output(files, out, writing, place, engine)
+    let old_context = close_old(files, earlier);
+    let input_context = files.close_input(source);
+    let durable = durable_len_at_end(files, &mut out, writing, end.is_err());
+    let stop_point = resume_point(&end, &checkpoints, start, durable);
+    let reason = files.reason(&out);
+    let outcome = attach_context(to_outcome(&end), reason, old_context, input_context);
+    conclude_output(files, out, writing, stop_point, outcome)
 }
 
 /// Runs the command `decrypt`. If it isn't done, pass the result to [`conclude`](crate::conclude),
@@ -180,8 +183,8 @@ pub fn decrypt_file<'w, F: FileSet<'w>, P: Meter>(
     ensures { HoldsAfter (Acts (Decrypt asked.now) (F.view files.old)) (F.view files.new) result }
 {
     let writing = WritePlan {
-        first: asked.identity.pass,
-        second: asked.identity.shared,
+        passphrase_file: asked.identity.pass,
+        other_secret_file: asked.identity.shared,
         position: None,
         old: None,
         save: asked.save,

@@ -205,8 +205,8 @@ pub fn encrypt_file<'w, F: FileSet<'w>, P: Meter>(
 {
     let random_name = random_name(asked);
     let writing = WritePlan {
-        first: Some(asked.pass),
-        second: Some(random_name),
+        passphrase_file: Some(asked.pass),
+        other_secret_file: Some(random_name),
         position: None,
         old: None,
         save: None,

@@ -30,10 +30,10 @@ pub(crate) enum Content {
 #[derive(Clone, Copy)]
 pub(crate) struct WritePlan<'a> {
     /// The first file that is read before the input: that of the passphrase.
-    pub(crate) first: Option<&'a str>,
+    pub(crate) passphrase_file: Option<&'a str>,
     /// The second file that is read before the input: that of the shared secret, or of the random
     /// bytes.
-    pub(crate) second: Option<&'a str>,
+    pub(crate) other_secret_file: Option<&'a str>,
     /// The file of the position at which the command begins, which may be the file of `save`.
     pub(crate) position: Option<&'a str>,
     /// The earlier output.

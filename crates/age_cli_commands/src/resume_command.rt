@@ -95,8 +95,8 @@ pub fn resume_file<'w, F: FileSet<'w>, P: Meter>(
 {
     let wanted = &asked.decrypting;
     let writing = WritePlan {
-        first: wanted.identity.pass,
-        second: wanted.identity.shared,
+        passphrase_file: wanted.identity.pass,
+        other_secret_file: wanted.identity.shared,
         position: Some(asked.position),
         old: Some(asked.old),
         save: wanted.save,

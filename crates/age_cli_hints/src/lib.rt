@@ -25,4 +25,4 @@ mod work_factor;
 
 pub use ending::{RunContext, explain};
 pub use help::find_fault_help;
-pub use refusal::{explain_refusal, explain_word_starting_with_h, find_word_starting_with_h};
+pub use refusal::{explain_fused_help_flag, explain_refusal, find_fused_help_flag};

@@ -232,7 +232,7 @@ fn missing_choice(command: &str, found: &[Word<'_>]) -> Option<&'static str> {
 /// Returns a word that begins with `-h` without being an option, such as the name `-holiday.jpg`,
 /// if there is one. The parser would show the help, with status 0, and a script would take the file
 /// for done.
-pub fn find_word_starting_with_h<'w>(words: &[&'w str]) -> Option<&'w str> {
+pub fn find_fused_help_flag<'w>(words: &[&'w str]) -> Option<&'w str> {
     for word in words {
         if *word == "--" {
             return None;
@@ -246,7 +246,7 @@ pub fn find_word_starting_with_h<'w>(words: &[&'w str]) -> Option<&'w str> {
 
 /// Prints on standard error that a word is refused which only looks like `-h`, and what to write in
 /// place of it.
-pub fn explain_word_starting_with_h(rt: &HostRuntime, word: &str) {
+pub fn explain_fused_help_flag(rt: &HostRuntime, word: &str) {
     let shown = Escaped(word.as_bytes());
     let name = Quoted(word);
     if fs::exists(rt, word).unwrap_or(false) {

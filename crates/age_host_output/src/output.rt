@@ -195,7 +195,7 @@ pub struct HostOut {
     // The identity of the file, if that is known.
     id: Option<FileId>,
     failures: FailureCount,
-    // The error of the last put that failed.
+    // The error of the last put or flush that failed.
     error: io::Error,
     pace: SyncSchedule,
     took: ByteTrace,
@@ -230,8 +230,8 @@ impl Model for HostOut {
         × IsAtOutName s.name (out_file_of s.target) (unmade_of s.target))))) };
 }
 
-/// The least number of bytes that are written between two syncs. It grows with what was written, up
-/// to [`SYNC_EVERY_MOST`], so that a stop seldom loses more than half of that.
+/// The first number of bytes that are written between two syncs. Later ones are as many as were
+/// synced so far, up to [`SYNC_EVERY_MOST`], so that a stop seldom loses more than half of the file.
 const SYNC_EVERY_LEAST: u64 = 1 << 24;
 
 /// The largest number of bytes that are written between two syncs.
@@ -288,7 +288,7 @@ impl HostOut {
         }
     }
 
-    /// Returns the error of the last put that failed.
+    /// Returns the error of the last put or flush that failed.
     pub fn error(&self) -> io::Error {
         self.error
     }
@@ -560,13 +560,13 @@ impl HostOut {
             OutputTarget::File(out) if all_puts_failed => close_unwritten(out, tally, durability),
             OutputTarget::File(out) => close_file(out, tally, durability),
             other => {
-                let unseen = unlogged(rt, &other, tally.took, true);
+                let record = unlogged(rt, &other, tally.took, true);
                 let ended = if all_puts_failed {
                     Ok(())
                 } else {
                     finish_stream(rt, other, pace, durability)
                 };
-                (unseen, ended)
+                (record, ended)
             }
         }
     }

@@ -18,8 +18,8 @@ use std::marker::Model;
 #[derive(Drop)]
 struct OpenerState<'k, B: ChunkBox, const SEALED: usize> {
     key: &'k B,
-    // the bytes of the block that is open; or, if lent, the plaintext and the tag of one that was
-    // opened, until the next call
+    // the bytes of the unfinished block; if lent, bytes that belong to no unfinished block, such as
+    // the plaintext that the last call lent
     buffer: ArrayVec<u8, SEALED>,
     lent: bool,
     index: u64,
@@ -170,7 +170,7 @@ impl<'k, B: ChunkBox, const SEALED: usize> OpenerState<'k, B, SEALED> {
         }
     }
 
-    /// Fails for good, and drops the bytes in the buffer.
+    /// Fails for good: the bytes in the buffer belong to no unfinished block any more.
     fn fail(&mut self, kind: StreamKind) -> StreamFault
         ensures status { self.new.status ≡ failed kind self.old.index }
         ensures fault { Status.Failed result ≡ failed kind self.old.index }
@@ -198,8 +198,7 @@ impl<'k, B: ChunkBox, const SEALED: usize> OpenerState<'k, B, SEALED> {
 /// plaintext that is lent.
 ///
 /// Contracts see the key, the bytes of the block that is open, the chunk's number and the status.
-/// They are what the outcome of a segment says about all bytes since the opener was made, and about
-/// the end of input.
+/// All four follow from the bytes that were fed since the opener was made, and from the end of input.
 #[derive(Drop)]
 pub struct Opener<'k, B: ChunkBox, const SEALED: usize> {
     state: OpenerState<'k, B, SEALED>,

@@ -8,8 +8,8 @@
 use age_cli::{RunError, read_words, run_words, status};
 use age_cli_args::Request;
 use age_cli_hints::{
-    RunContext, explain, explain_refusal, explain_word_starting_with_h, find_fault_help,
-    find_word_starting_with_h,
+    RunContext, explain, explain_fused_help_flag, explain_refusal, find_fault_help,
+    find_fused_help_flag,
 };
 use age_cli_messages::{LineStyle, ProgressLine, announce_reading, report_non_utf8};
 use age_host::{HostFiles, HostOut, RecordingStream};
@@ -70,7 +70,7 @@ fn print_fault_help(rt: &HostRuntime, row: &str) -> ExitCode {
 }
 
 /// Returns the request of the arguments. If they make none, returns one that names no file.
-fn request_or_inspect<'w>(read: &Result<Option<Request<'w>>, Error>) -> Request<'w> {
+fn request_or_placeholder<'w>(read: &Result<Option<Request<'w>>, Error>) -> Request<'w> {
     match read {
         Ok(Some(asked)) => *asked,
         _ => Request::Inspect(None),
@@ -91,28 +91,28 @@ fn run_arguments<'w>(rt: &HostRuntime, words: &'w [&'w str]) -> ExitCode {
     if words.is_empty() {
         announce_reading(rt);
     }
-    let read = read_words(rt.alloc(), words);
-    let asked = request_or_inspect(&read);
+    let parsed = read_words(rt.alloc(), words);
+    let asked = request_or_placeholder(&parsed);
     let mut files = HostFiles::new(rt);
     let mut input = Reading::new(RecordingStream::new(rt.reader()));
     let mut output = Writing::new(RecordingStream::new(io::writer(rt)));
     let mut faults = HostOut::faults(rt);
     let mut progress = ProgressLine::new(Writing::new(rt.stderr()), progress_style(rt), rt);
-    let ended = run_words(
+    let result = run_words(
         rt.alloc(),
         words,
-        read,
+        parsed,
         &mut files,
         &mut input,
         &mut output,
         &mut faults,
         &mut progress,
     );
-    let ending = match &ended {
+    let error = match &result {
         Ok(()) => None,
-        Err(RunError::Words(error)) => return report_refusal(rt, words, error),
+        Err(RunError::Words(refusal)) => return report_refusal(rt, words, refusal),
         Err(RunError::Unread) => return ExitCode::from(2),
-        Err(RunError::Ended(ending)) => Some(ending),
+        Err(RunError::Ended(error)) => Some(error),
     };
     let run = RunContext {
         asked,
@@ -120,8 +120,8 @@ fn run_arguments<'w>(rt: &HostRuntime, words: &'w [&'w str]) -> ExitCode {
         input: input.inner().context(),
         output: output.inner().context(),
     };
-    explain(rt, ending, &run);
-    ExitCode::from(status(&ended))
+    explain(rt, error, &run);
+    ExitCode::from(status(&result))
 }
 
 /// Runs the program, and returns its exit status.
@@ -133,11 +133,11 @@ fn main(rt: HostRuntime) -> ExitCode {
     match arguments_after_name(rt.alloc(), args.as_slice()) {
         Ok(words) => match (
             find_fault_help(words.as_slice()),
-            find_word_starting_with_h(words.as_slice()),
+            find_fused_help_flag(words.as_slice()),
         ) {
             (Some(row), _) => print_fault_help(&rt, row),
             (None, Some(word)) => {
-                explain_word_starting_with_h(&rt, word);
+                explain_fused_help_flag(&rt, word);
                 ExitCode::from(2)
             }
             (None, None) => run_arguments(&rt, words.as_slice()),
