@@ -84,21 +84,21 @@ AGEFILE_MUST_CHECK int agefile_encrypt(agefile_key key, const void *text, size_t
                                        size_t room, size_t *written);
 AGEFILE_MUST_CHECK int agefile_decrypt(agefile_key key, const void *file, size_t len, void *out,
                                        size_t room, size_t *written);
-size_t agefile_sealed_len(agefile_key key,
-                          size_t text_len); /* room for the file; a text is shorter than its file */
+/* room for the file; a text is shorter than its file */
+size_t agefile_sealed_len(agefile_key key, size_t text_len);
 
 /* ---- writing ---- */
 
 typedef struct agefile_encoder agefile_encoder;
-AGEFILE_MUST_CHECK int
-agefile_encoder_new(agefile_encoder **it, agefile_key key); /* *it is NULL unless the answer is 0 */
+/* *it is NULL unless the answer is 0 */
+AGEFILE_MUST_CHECK int agefile_encoder_new(agefile_encoder **it, agefile_key key);
 /* The same in memory of at least that size, aligned to 8 bytes; then agefile_encoder_free doesn't
  * free that. */
 size_t agefile_encoder_size(void);
 AGEFILE_MUST_CHECK int agefile_encoder_init(agefile_encoder **it, agefile_key key, void *memory,
                                             size_t len);
-AGEFILE_MUST_CHECK int agefile_encoder_begin(agefile_encoder *it,
-                                             agefile_key key); /* another file */
+/* Begins another file. */
+AGEFILE_MUST_CHECK int agefile_encoder_begin(agefile_encoder *it, agefile_key key);
 AGEFILE_MUST_CHECK int agefile_encode(agefile_encoder *it, const void *text, size_t len, void *out,
                                       size_t room, size_t *written);
 AGEFILE_MUST_CHECK int agefile_encode_end(agefile_encoder *it, void *out, size_t room,

@@ -26,7 +26,7 @@ from tests.bindings import (
 from tests.case import needs
 from tools.workspace import LIBRARY, TOP
 
-READS = ["docs/FAULTS.md"]
+READS = ["docs/FAULTS.md", "docs/LIBRARY.md"]
 INCLUDE = f"-I{TOP / 'include'}"
 FLAGS = ["-std=c11", "-g", "-O1", "-Wall", "-Wextra", INCLUDE]
 SANITIZED = [*FLAGS, "-fsanitize=address,undefined", "-fno-sanitize-recover=all"]
@@ -760,7 +760,7 @@ class CTest(ProgramsCase):
         promised = re.findall(r"(?m)^(\w+) [0-9.]+$", (SOURCES / "agefile.symbols").read_text())
         header = (TOP / "include" / "agefile.h").read_text()
         declared = re.findall(
-            r"(?m)^(?:AGEFILE_MUST_CHECK )?[a-z_0-9 ]+[ *](agefile_\w+)\(", header
+            r"(?m)^(?:AGEFILE_MUST_CHECK )?[a-z_0-9 ]+[ *\n](agefile_\w+)\(", header
         )
         self.see(
             "the calls of the library, of its list and of agefile.h are the same",
@@ -811,7 +811,7 @@ class CTest(ProgramsCase):
         versions = [
             tuple(map(int, it.split("."))) for it in re.findall(r"\(GLIBC_([\d.]+)\)", symbols)
         ]
-        said = re.search(r"libc=(\d+)\.(\d+)", (TOP / "release" / "packages").read_text())
+        said = re.search(r"glibc (\d+)\.(\d+)", (TOP / "docs" / "LIBRARY.md").read_text())
         self.see(
             f"the shared library needs of glibc {versions}",
             versions and max(versions) == tuple(map(int, said.groups())),

@@ -7,6 +7,7 @@ import re
 import shlex
 import shutil
 import subprocess
+import tempfile
 import unittest
 import urllib.parse
 
@@ -90,13 +91,16 @@ class GoTest(ModulesCase):
         """With -tags agefile_system the library is the one that pkg-config finds."""
         # (Go takes no folder whose name has a space from pkg-config, either)
         found = (LIBRARY / "pkgconfig" / "agefile.pc").read_text()
+        plain = tempfile.TemporaryDirectory(prefix="age-go-", dir="/tmp")
+        self.addCleanup(plain.cleanup)
         for name, folder in (
             ("library", LIBRARY),
             ("include", TOP / "include"),
             ("private", TOP / "bindings" / "c"),
         ):
-            self.path(name).symlink_to(folder)
-            found = found.replace(str(folder).replace(" ", "\\ "), str(self.path(name)))
+            link = pathlib.Path(plain.name, name)
+            link.symlink_to(folder)
+            found = found.replace(str(folder).replace(" ", "\\ "), str(link))
         self.write("agefile.pc", found.encode())
         module = self.path("module")
         shutil.copytree(MODULE, module, ignore=shutil.ignore_patterns("*.a", "agefile.h"))

@@ -206,7 +206,9 @@ class LanguagesTest(ModulesCase):
         theirs = {
             name: count(words)
             for name, words in re.findall(
-                r"^(?:AGEFILE_MUST_CHECK )?[\w ]+?[ *](agefile_\w+)\((.*?)\);", header, re.S | re.M
+                r"^(?:AGEFILE_MUST_CHECK )?[\w ]+?[ *\n](agefile_\w+)\((.*?)\);",
+                header,
+                re.S | re.M,
             )
         }
         self.see(

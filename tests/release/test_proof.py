@@ -147,7 +147,7 @@ class ReadTest(Case):
             "a changed program",
             ended.returncode == 1
             and re.fullmatch(
-                r"agefile: \S*/bin/age_tool isn't a program of this proof: its sum is [0-9a-f]{64}\n",
+                r"agefile: .*/bin/age_tool isn't a program of this proof: its sum is [0-9a-f]{64}\n",
                 ended.stderr,
             ),
             ended,
@@ -211,37 +211,30 @@ logic=proved functions=1 axioms=2
 class AxiomsTest(Case):
     """tools.axioms, by a checker that only says what one would."""
 
-    def functions(self, said, kept, is_proved=True):
+    def functions(self, said):
         """The functions that a crate assumes, and how often the checker was asked."""
-        crate = types.SimpleNamespace(name="a_crate", folder=self.room, below=lambda: ["one below"])
-        libraries = types.SimpleNamespace(crates=[crate], kept=None, is_proved=lambda it: is_proved)
-        made = types.SimpleNamespace(
-            name="a_crate-sum-",
-            found=lambda: kept.get(made.name),
-            keep=lambda it: kept.update({made.name: shutil.copy(it, self.path("kept"))}),
+        held = self.path("kept")
+        patched = unittest.mock.patch.multiple(
+            axioms,
+            sum_of_sources=lambda crate: "sum",
+            kept=lambda kind, name: [held] if held.exists() else [],
+            keep=lambda kind, name, write: write(held),
         )
-        with unittest.mock.patch.multiple(
-            axioms, Libraries=lambda room: libraries, Made=lambda *words: made, kit=lambda: None
-        ), unittest.mock.patch.object(
-            axioms, "asked", unittest.mock.Mock(return_value=said)
+        answer = {"side_effect": said} if isinstance(said, Exception) else {"return_value": said}
+        with patched, unittest.mock.patch.object(
+            axioms, "asked", unittest.mock.Mock(**answer)
         ) as asked:
-            return axioms.functions_of("a_crate", self.room), asked.call_count
+            return axioms.functions_of("a_crate"), asked.call_count
 
     def test_functions(self):
         """Those that are reached, once asked and then kept; nothing is said of a crate that isn't proved."""
-        kept, wanted = {}, ["libc::close", "libc::heap::rattle_alloc"]
-        self.see("asked", self.functions(SAID, kept) == (wanted, 1))
-        self.see(
-            "kept, by a name of its own",
-            [*kept] == ["axioms-a_crate-sum-"] and self.functions(SAID, kept) == (wanted, 0),
-            kept,
-        )
-        for name, said, is_proved in (
-            ("the crate isn't proved", None, True),
-            ("one below isn't", SAID, False),
-        ):
-            with self.subTest(name), self.assertRaises(SystemExit):
-                self.functions(said, {}, is_proved)
+        wanted = ["libc::close", "libc::heap::rattle_alloc"]
+        self.see("asked", self.functions(SAID) == (wanted, 1))
+        self.see("kept", self.functions(SAID) == (wanted, 0))
+        self.path("kept").unlink()
+        with self.assertRaises(axioms.Unproved):
+            self.functions(axioms.Unproved("a_crate isn't proved"))
+        self.see("nothing is kept of that", not self.path("kept").exists())
         self.see("the program and the library", len(axioms.roots()) == 2, axioms.roots())
 
 
