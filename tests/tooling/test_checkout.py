@@ -13,7 +13,7 @@ from tools.workspace import CRATES, TOP
 READS = ["*"]
 KEPT = TOP / "bindings" / "out" / "kept"
 # What stands on the other crates isn't proved again for what `rt ci` refuses of a checkout.
-CRATE = "age_host_model"
+CRATE = "age_kdf"
 
 
 class CheckoutTest(Case):

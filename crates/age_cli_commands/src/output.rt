@@ -85,19 +85,27 @@ fn named_twice<'w, F: FileSet<'w>>(
     ensures { F.view files.new ≡ F.view files.old }
 {
     let WritePlan {
-        first,
-        second,
+        passphrase_file,
+        other_secret_file,
         position,
         old,
         ..
     } = *asked;
     let from = Some(asked.paths.from);
     let to = Some(asked.paths.to);
-    let found = is_one_of(files, to, &[position, from, first, second, old]);
+    let found = is_one_of(
+        files,
+        to,
+        &[position, from, passphrase_file, other_secret_file, old],
+    );
     if found.is_some() {
         return found;
     }
-    let found = is_one_of(files, asked.save, &[to, from, first, second, old]);
+    let found = is_one_of(
+        files,
+        asked.save,
+        &[to, from, passphrase_file, other_secret_file, old],
+    );
     if found.is_some() {
         return found;
     }
@@ -150,15 +158,21 @@ pub(crate) fn check_names<'w, F: FileSet<'w>>(
         return Err(CommandError::Usage(UsageError::new(Usage::SameFile, both)));
     }
     let WritePlan {
-        first,
-        second,
+        passphrase_file,
+        other_secret_file,
         position,
         old,
         ..
     } = *asked;
     Ok(files.check_streams(
         alloc,
-        &[position, old, first, second, Some(asked.paths.from)],
+        &[
+            position,
+            old,
+            passphrase_file,
+            other_secret_file,
+            Some(asked.paths.from),
+        ],
     )?)
 }
 
