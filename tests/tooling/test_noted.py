@@ -48,7 +48,7 @@ class NotedTest(unittest.TestCase):
         spoiling += ("use crate::output::HostOut as Own;", "use age_host_syscalls::Machine as Own;")
         opening = (
             "let mut own = Machine::new(self.rt);",
-            "let _ = HostOut::to_make(alloc, rt, name, durability);",
+            "let _ = HostOut::create_later(alloc, rt, name, durability);",
             "let mut log = HostOut::faults(rt);",
         )
         spoiling += (
