@@ -39,6 +39,8 @@ func TestOldProcessor(t *testing.T) {
 
 @unittest.skipUnless(platform.machine() == "x86_64", "needs x86-64")
 @needs(QEMU)
+
+READS = ["bindings/go/README.md"]
 class ProcessorTest(BindingsCase):
     def setUp(self):
         super().setUp()
