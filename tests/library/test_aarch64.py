@@ -55,6 +55,8 @@ HEADERS = (
     "poll",
 )
 
+READS = ["bindings/go/README.md"]
+
 
 def asserted_constants(text):
     """Assertions in C that constants of Rattle have the values of the C names, where C has the name."""

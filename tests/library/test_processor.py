@@ -12,6 +12,7 @@ from tests.bindings import PYTHON, BindingsCase, plain_of, setUpModule
 from tests.case import needs
 from tools.workspace import LIBRARY, TOP
 
+READS = ["bindings/go/README.md"]
 QEMU = next(filter(shutil.which, ("qemu-x86_64", "qemu-x86_64-static")), "qemu-x86_64")
 # Those that lack all of it, or a part; and one that has it and no AVX.
 OLD, NEW = ("kvm64", "core2duo", "Penryn"), "Nehalem"
@@ -39,8 +40,6 @@ func TestOldProcessor(t *testing.T) {
 
 @unittest.skipUnless(platform.machine() == "x86_64", "needs x86-64")
 @needs(QEMU)
-
-READS = ["bindings/go/README.md"]
 class ProcessorTest(BindingsCase):
     def setUp(self):
         super().setUp()
